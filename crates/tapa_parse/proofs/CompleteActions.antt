@@ -1,5 +1,5 @@
--- What is spelled as an action or as a declaration, within the limits, is read, where it does not go on.
-use Rattle.std.proofs.Common.{◌≡◌, ℕ, zero, suc, ◌+◌, ◌-◌, ◌<◌, ◌≤◌, ◌⊎◌, inl, inr, Bool, true, false, List, [], ◌∷◌, length, Option, Some, None, Ok, refl, ap, ◌∙◌, arith}
+-- What is spelled as an action or as a declaration is read, where it does not go on, or refused at the first lexeme that passes a limit.
+use Rattle.std.proofs.Common.{◌≡◌, ℕ, zero, suc, ◌-◌, ◌<◌, ◌⊎◌, inl, inr, Bool, true, false, List, [], ◌∷◌, length, Option, Some, None, Ok, refl, ap, ◌∙◌, arith}
 use Rattle.tapa_base.specs.declared.kind.Kind.{Kind}
 use Rattle.tapa_base.specs.declared.kind.Kind.TheVariants as kind
 use Rattle.tapa_base.specs.declared.text.Place.{Place}
@@ -8,19 +8,21 @@ use Rattle.tapa_syntax.specs.declared.terminal.Terminal.TheVariants as terminal
 use Rattle.tapa_syntax.specs.declared.tree.Name.{Name}
 use Rattle.tapa_syntax.specs.declared.tree.StepOperator.{StepOperator}
 use Rattle.tapa_syntax.specs.declared.tree.AssignmentOperator.{AssignmentOperator}
-use Rattle.tapa_base.specs.Spans.{◌⨾◌, Nothing, When, EachOfSome, Separated, SeparatedOrNone}
-use Rattle.tapa_syntax.specs.Trees.{ExpressionTree, PlaceTree, variable_place, element_place, ActionTree, call_action, write, read, assign, postfix, prefix_step, CountForm, literal_count, name_count, parenthesized_count, DeclaratorTree, plain, initialized, array, DeclarationTree, StatementTree}
-use Rattle.tapa_syntax.specs.Grammar.{Part, Takes, MeansAt, IsName, IsType, IsExpression, is_name, step_operator_of, assignment_operator_of, sum_level, expression_level, argument_level, IsPlace, IsAction, IsCountForm, IsDeclarator, IsDeclaration, IsStatement, IsClosed}
-use Rattle.tapa_syntax.specs.Limits.{most, nesting, operators, place_nesting, place_operators, action_nesting, action_operators, declarator_nesting, declarator_operators, declaration_nesting, declaration_operators, statement_nesting, statement_operators}
-use Rattle.tapa_parse_expression.specs.Readers.{and_then, ◌>>◌, skip, next, same, sees, past}
-use Rattle.tapa_parse_expression.specs.Reading.{Readers, argument, level, unary_with, expression_with, whole, place_from, place_with, call_arguments, assigned, acted_by, acted, stepped, action_with, declarator_by, declarator, declaration_with}
+use Rattle.tapa_base.specs.Spans.{◌⨾◌, When, EachOfSome, Separated, SeparatedOrNone}
+use Rattle.tapa_syntax.specs.Trees.{ExpressionTree, PlaceTree, variable_place, element_place, ActionTree, call_action, write, read, assign, postfix, prefix_step, CountForm, literal_count, name_count, parenthesized_count, CountTree, DeclaratorTree, plain, initialized, array, DeclarationTree, StatementTree}
+use Rattle.tapa_syntax.specs.Grammar.{Part, Takes, MeansAt, IsName, IsType, IsExpression, is_name, step_operator_of, assignment_operator_of, sum_level, expression_level, argument_level, IsPlace, IsAction, IsCountForm, IsCount, IsDeclarator, IsDeclaration, IsStatement, IsClosed}
+use Rattle.tapa_syntax.specs.Limits.{operators}
+use Rattle.tapa_parse_expression.specs.Readers.{and_then, pure, ◌>>◌, skip, next, same, sees, past, name}
+use Rattle.tapa_parse_expression.specs.Reading.{Readers, argument, level, unary_with, expression_with, whole, place_from, place_with, call_arguments, assigned, acted_by, acted, stepped, action_with, form_by, counted, declarator_by, declarator, declaration_with}
 use Rattle.tapa_parse_expression.specs.Reading as spec
-use Rattle.tapa_parse_expression.proofs.Parts.{Symbols, done, then_is, if_true, if_false, differ_by, next_is, seen_is, dropped, expect_is, past_is, past_none, name_is, plain_is}
-use Rattle.tapa_parse_expression.proofs.Lists.{IsPart, ReadsAll, ReadsEach, repeat_some_complete, separated_complete, separated_until_complete}
+use Rattle.tapa_parse_expression.specs.Passing.{one_more, or_later, over_listed, over_behind}
+use Rattle.tapa_parse.specs.Passing.{over_whole, over_place, over_action, over_form, over_count, over_declarator, over_declaration, over_inside}
+use Rattle.tapa_parse_expression.proofs.Parts.{Symbols, done, then_is, if_true, if_false, differ_by, next_is, seen_is, dropped, expect_is, past_is, past_none, name_is, plain_is, literal_is, Told, told_ok, told_by, told_true, told_behind, told_then, told_after, told_only}
+use Rattle.tapa_parse_expression.proofs.CompleteLists.{TellsAll, TellsEach, repeat_some_told, separated_told, separated_until_told}
 use Rattle.tapa_parse_expression.proofs.CompleteTypes.{extends_type, type_complete, takes_longer, sees_other}
-use Rattle.tapa_parse_expression.proofs.CompleteLevels.{stops, stop_ends, ends_at, Ends, shift_ends_sum, ends_tighter, CompletesAt, AreComplete, MayDo, MayBeComplete, entered, opened, expression_longer, level_complete}
+use Rattle.tapa_parse_expression.proofs.CompleteLevels.{stops, stop_ends, ends_at, Ends, shift_ends_sum, ends_tighter, MayDo, expression_longer, Tells, AllTell, MayTell, told_entered, told_opened, level_told}
 use Rattle.tapa_parse_expression.proofs.Begins.{begins_type, one_begins, name_begins}
-use Rattle.tapa_parse_expression.proofs.CompleteExpressions.{argument_complete, argument_begins, in_parentheses_complete, in_brackets_complete, unary_complete, expression_complete, counted_complete, whole_complete}
+use Rattle.tapa_parse_expression.proofs.CompleteExpressions.{argument_begins, stands, argument_told, in_parentheses_told, in_brackets_told, unary_told, expression_told, whole_told}
 
 -- ---- what may stand behind
 
@@ -50,18 +52,19 @@ name_behind x i j h = name_extends (next i) (name_begins x i j h)
 
 -- ---- what readers are to do
 
-pub record Complete (limit levels : ℕ) (R : Readers) : Type 0 where
-  pub expressions : AreComplete levels R
-  pub place : (p : PlaceTree) (i r : Symbols) → IsPart IsPlace place_nesting place_operators levels limit p i r → sees terminal.LeftBracket r ≡ false → R.place i ≡ Ok (p, r)
-  pub action : (a : ActionTree) (i r : Symbols) → IsPart IsAction action_nesting action_operators levels limit a i r → Stops r → R.action i ≡ Ok (a, r)
-  pub declaration : (d : DeclarationTree) (i r : Symbols) → IsPart IsDeclaration declaration_nesting declaration_operators levels limit d i r → next r ≡ terminal.Semicolon → R.declaration i ≡ Ok (d, r)
-  pub inside : (s : StatementTree) (i r : Symbols) → IsPart IsStatement statement_nesting statement_operators (suc levels) limit s i r → NoElse s r → R.inside i ≡ Ok (s, r)
+pub record LevelTells (limit levels : ℕ) (R : Readers) : Type 0 where
+  pub expressions : AllTell levels R
+  pub place : (p : PlaceTree) (i r : Symbols) (k : IsPlace p i r) → sees terminal.LeftBracket r ≡ false → Told (over_place limit levels p i r k) (p, r) (R.place i)
+  pub action : (a : ActionTree) (i r : Symbols) (k : IsAction a i r) → Stops r → Told (over_action limit levels a i r k) (a, r) (R.action i)
+  pub declaration : (d : DeclarationTree) (i r : Symbols) (k : IsDeclaration d i r) → next r ≡ terminal.Semicolon → Told (over_declaration limit levels d i r k) (d, r) (R.declaration i)
+  pub inside : (s : StatementTree) (i r : Symbols) (k : IsStatement s i r) → NoElse s r → Told (over_inside limit levels s i r k) (s, r) (R.inside i)
 
-abbrev pub MayComplete : ℕ → ℕ → Option Readers → Type 0
-MayComplete limit = MayDo (Complete limit)
+abbrev pub LevelMayTell : ℕ → ℕ → Option Readers → Type 0
+LevelMayTell limit = MayDo (LevelTells limit)
 
-pub may_be : (limit levels : ℕ) (inner : Option Readers) → MayComplete limit levels inner → MayBeComplete levels inner
-may_be limit zero inner h = tt
+pub may_be : (limit levels : ℕ) (inner : Option Readers) → LevelMayTell limit levels inner → MayTell levels inner
+may_be limit zero None h = tt
+may_be limit zero (Some R) h = absurd h
 may_be limit (suc levels) None h = absurd h
 may_be limit (suc levels) (Some R) h = h.expressions
 
@@ -117,19 +120,6 @@ place_longer (variable_place x) i r h = name_longer x i r h
 place_longer (element_place x e) i r (j, h, (k, begin, (l, inside, close))) =
     omega (arith, name_longer x i j h, takes_longer terminal.LeftBracket j k begin, expression_longer expression_level e k l inside, takes_longer terminal.RightBracket l r close)
 
-abbrev place_name : PlaceTree → Name
-place_name (variable_place x) = x
-place_name (element_place x e) = x
-
--- a place behind its name
-abbrev IsIndex : PlaceTree → Part
-IsIndex (variable_place x) = Nothing
-IsIndex (element_place x e) = Takes terminal.LeftBracket ⨾ IsExpression expression_level e ⨾ Takes terminal.RightBracket
-
-named_place : (p : PlaceTree) (i r : Symbols) → IsPlace p i r → (IsName (place_name p) ⨾ IsIndex p) i r
-named_place (variable_place x) i r h = (r, h, refl)
-named_place (element_place x e) i r h = h
-
 -- ---- declarations
 
 pub type_begins : (k : Kind) (i r : Symbols) → IsType k i r → begins_type (next i) ≡ true
@@ -171,31 +161,37 @@ declarator_longer (initialized x e) i r (j, h, (k, sign, value)) = omega (arith,
 declarator_longer (array x count) i r (j, h, (k, begin, (l, inside, close))) =
     omega (arith, name_longer x i j h, takes_longer terminal.LeftBracket j k begin, form_longer count.form k l inside.1, takes_longer terminal.RightBracket l r close)
 
-module _ (limit levels : ℕ) (inner : Option Readers) (h : MayComplete limit levels inner) where
-  pub whole_expression_complete : (e : ExpressionTree) (i r : Symbols) → IsPart (IsExpression expression_level) nesting operators levels limit e i r → Stops r → spec.whole_expression limit inner i ≡ Ok (e, r)
-  whole_expression_complete e i r k stop =
-      whole_complete expression_level levels limit (expression_with inner) (expression_complete levels inner (may_be limit levels inner h)) i e r (record { spelled = k.spelled; nests = k.nests; within = k.within }) (stop_ends expression_level (next r) stop)
+abbrev count_tree : Place → CountForm → CountTree
+count_tree at f = record { place = at; form = f }
 
-  pub condition_complete : (e : ExpressionTree) (i j k r : Symbols) → Takes terminal.LeftParen i j → IsExpression expression_level e j k → Takes terminal.RightParen k r → suc (nesting e) ≤ levels → operators e ≤ limit → spec.condition limit inner i ≡ Ok (e, r)
-  condition_complete e i j k r begin is close deep few =
-      let counts : operators e + (limit - operators e) ≡ limit = omega arith in
-      then_is _ (e, limit - operators e) r (in_parentheses_complete levels inner (may_be limit levels inner h) limit i e (limit - operators e) r (record { spelled = (j, begin, (k, is, close)); nests = deep; counted = counts })) refl
+module _ (limit levels : ℕ) (inner : Option Readers) (h : LevelMayTell limit levels inner) where
+  pub whole_expression_told : (e : ExpressionTree) (i r : Symbols) (k : IsExpression expression_level e i r) → Stops r
+      → Told (over_whole limit levels expression_level e i r k) (e, r) (spec.whole_expression limit inner i)
+  whole_expression_told e i r k stop =
+      whole_told expression_level levels limit (expression_with inner) (expression_told levels inner (may_be limit levels inner h)) i e r k (stop_ends expression_level (next r) stop)
 
-  index_complete : (e : ExpressionTree) (i r : Symbols) → (Takes terminal.LeftBracket ⨾ IsExpression expression_level e ⨾ Takes terminal.RightBracket) i r → suc (nesting e) ≤ levels → operators e ≤ limit → spec.index limit inner i ≡ Ok (e, r)
-  index_complete e i r is deep few =
-      let counts : operators e + (limit - operators e) ≡ limit = omega arith in
-      then_is _ (e, limit - operators e) r (in_brackets_complete levels inner (may_be limit levels inner h) limit i e (limit - operators e) r (record { spelled = is; nests = deep; counted = counts })) refl
+  pub condition_told : (e : ExpressionTree) (i j k r : Symbols) → Takes terminal.LeftParen i j → (inside : IsExpression expression_level e j k) → Takes terminal.RightParen k r
+      → Told (one_more levels i (λ less. over_whole limit less expression_level e j k inside)) (e, r) (spec.condition limit inner i)
+  condition_told e i j k r begin inside close = told_after _ (e, limit - operators e) r (in_parentheses_told levels inner (may_be limit levels inner h) limit e i j k r begin inside close) refl
 
-  place_from_complete : (p : PlaceTree) (i r : Symbols) → IsIndex p i r → place_nesting p ≤ levels → place_operators p ≤ limit → sees terminal.LeftBracket r ≡ false → place_from limit inner (place_name p) i ≡ Ok (p, r)
+  index_told : (e : ExpressionTree) (i j k r : Symbols) → Takes terminal.LeftBracket i j → (inside : IsExpression expression_level e j k) → Takes terminal.RightBracket k r
+      → Told (one_more levels i (λ less. over_whole limit less expression_level e j k inside)) (e, r) (spec.index limit inner i)
+  index_told e i j k r begin inside close = told_after _ (e, limit - operators e) r (in_brackets_told levels inner (may_be limit levels inner h) limit e i j k r begin inside close) refl
+
+  -- a place behind its name
+  no_index : (x : Name) (i : Symbols) → sees terminal.LeftBracket i ≡ false → place_from limit inner x i ≡ Ok (variable_place x, i)
   unfolding place_from
-  place_from_complete (variable_place x) i r is deep few free = if_false _ (ap (sees terminal.LeftBracket) is ∙ free) (ap (λ (j : Symbols). done (variable_place x, j)) is)
-  place_from_complete (element_place x e) i r is deep few free = if_true _ (seen_is terminal.LeftBracket i is.0 is.1) (then_is _ e r (index_complete e i r is deep few) refl)
+  no_index x i free = if_false _ free refl
 
-  pub place_complete : (p : PlaceTree) (i r : Symbols) → IsPart IsPlace place_nesting place_operators levels limit p i r → sees terminal.LeftBracket r ≡ false → place_with limit inner i ≡ Ok (p, r)
+  indexed : (x : Name) (e : ExpressionTree) (i j k r : Symbols) → Takes terminal.LeftBracket i j → (inside : IsExpression expression_level e j k) → Takes terminal.RightBracket k r
+      → Told (one_more levels i (λ less. over_whole limit less expression_level e j k inside)) (element_place x e, r) (place_from limit inner x i)
+  unfolding place_from
+  indexed x e i j k r begin inside close = told_true _ (seen_is terminal.LeftBracket i j begin) (told_after _ e r (index_told e i j k r begin inside close) refl)
+
+  pub place_told : (p : PlaceTree) (i r : Symbols) (k : IsPlace p i r) → sees terminal.LeftBracket r ≡ false → Told (over_place limit levels p i r k) (p, r) (place_with limit inner i)
   unfolding place_with
-  place_complete p i r k free =
-      let parts = named_place p i r k.spelled in
-      then_is _ (place_name p) parts.0 (name_is (place_name p) i parts.0 parts.1) (place_from_complete p parts.0 r parts.2 k.nests k.within free)
+  place_told (variable_place x) i r k free = told_ok (then_is _ x r (name_is x i r k) (no_index x r free))
+  place_told (element_place x e) i r (a, named, (b, begin, (c, inside, close))) free = told_behind _ x a (name_is x i a named) (indexed x e a b c r begin inside close)
 
   -- ---- actions
 
@@ -210,147 +206,140 @@ module _ (limit levels : ℕ) (inner : Option Readers) (h : MayComplete limit le
   by_target terminal.ShiftRight x i e = absurd cc
   by_target _ x i e = refl
 
-  to_assigned : (p : PlaceTree) (i j : Symbols) → IsPlace p i j → place_nesting p ≤ levels → place_operators p ≤ limit → ends_target (next j) ≡ true → action_with limit inner i ≡ assigned limit inner p j
+  to_assigned : {w : Option Symbols} {y : ActionTree × Symbols} (p : PlaceTree) (i j : Symbols) (k : IsPlace p i j) → ends_target (next j) ≡ true → Told w y (assigned limit inner p j)
+      → Told (or_later (over_place limit levels p i j k) w) y (action_with limit inner i)
   unfolding acted
-  to_assigned (variable_place x) i j is deep few ends =
-      to_acted x i j is ∙ (by_target (next j) x j ends ∙ then_is _ (variable_place x) j (place_from_complete (variable_place x) j j refl deep few (target_no_index j ends)) refl)
-  to_assigned (element_place x e) i j (k, is, rest) deep few ends =
-      to_acted x i k is ∙ rw (next_is terminal.LeftBracket k rest.0 rest.1) (then_is _ (element_place x e) j (place_from_complete (element_place x e) k j rest deep few (target_no_index j ends)) refl)
+  to_assigned (variable_place x) i j is ends t = told_by (to_acted x i j is ∙ by_target (next j) x j ends) (told_behind _ (variable_place x) j (no_index x j (target_no_index j ends)) t)
+  to_assigned (element_place x e) i j (a, named, (b, begin, (c, inside, close))) ends t =
+      told_by (to_acted x i a named) (rw (next_is terminal.LeftBracket a b begin) (told_then _ (element_place x e) j (indexed x e a b c j begin inside close) t))
 
-  values_read : (R : Readers) (less : ℕ) → AreComplete less R → ReadsEach (IsExpression argument_level) nesting operators less limit (whole (argument R) limit) (λ r. Ends argument_level (next r))
-  values_read R less complete = record {
-    reads = λ e i r k ends. whole_complete argument_level less limit (argument R) at i e r (record { spelled = k.spelled; nests = k.nests; within = k.within }) ends;
-    longer = expression_longer argument_level;
-  }
+  values_read : (R : Readers) (less : ℕ) → AllTell less R
+      → TellsEach (IsExpression argument_level) (over_whole limit less argument_level) (whole (argument R) limit) (λ r. Ends argument_level (next r))
+  values_read R less tells = record { reads = λ e i r k ends. whole_told argument_level less limit (argument R) at i e r k ends; longer = expression_longer argument_level }
     where
-      at : CompletesAt argument_level less (argument R)
-      at = record { on = λ n i e left r k ends. argument_complete less R complete n i e left r k (ends_tighter expression_level (next r) ends) }
+      at : Tells argument_level less (argument R)
+      at = record { on = λ n i e r k ends. argument_told less R tells n i e r k (ends_tighter expression_level (next r) ends) }
 
-  call_arguments_complete : (es : List ExpressionTree) (i r : Symbols) → (Takes terminal.LeftParen ⨾ SeparatedOrNone (Takes terminal.Comma) (IsExpression argument_level) es ⨾ Takes terminal.RightParen) i r
-      → suc (most nesting es) ≤ levels → most operators es ≤ limit → call_arguments limit inner i ≡ Ok (es, r)
+  call_arguments_told : (es : List ExpressionTree) (i j k r : Symbols) → Takes terminal.LeftParen i j → (all : SeparatedOrNone (Takes terminal.Comma) (IsExpression argument_level) es j k)
+      → Takes terminal.RightParen k r
+      → Told (one_more levels i (λ less. over_listed (Takes terminal.Comma) (IsExpression argument_level) (over_whole limit less argument_level) es j k all)) (es, r) (call_arguments limit inner i)
   unfolding call_arguments same
-  call_arguments_complete es i r (j, begin, (k, all, close)) deep few =
-      let o = opened (Complete limit) levels (most nesting es) inner terminal.LeftParen i j h deep begin in
-      then_is _ o.readers j o.is
-      (then_is _ es k
-      (separated_until_complete terminal.Comma (IsExpression argument_level) nesting operators o.less limit (whole (argument o.readers) limit) (λ r. Ends argument_level (next r)) (values_read o.readers o.less o.complete.expressions)
-      (λ i j comma. ends_at argument_level terminal.Comma i j comma refl) terminal.RightParen argument_begins es j k (record { spelled = all; nests = o.deep; within = few })
+  call_arguments_told es i j k r begin all close =
+      told_opened (LevelTells limit) _ levels inner terminal.LeftParen i j _ h begin
+      (λ R less tells. told_after _ es k
+      (separated_until_told terminal.Comma (IsExpression argument_level) (over_whole limit less argument_level) (whole (argument R) limit) (λ r. Ends argument_level (next r))
+      (values_read R less tells.expressions)
+      (λ i j comma. ends_at argument_level terminal.Comma i j comma refl) terminal.RightParen argument_begins es j k all
       (seen_is terminal.RightParen k r close) (sees_other terminal.RightParen terminal.Comma k r close refl) (ends_at argument_level terminal.RightParen k r close refl))
       (then_is _ tt r (expect_is terminal.RightParen k r close) refl))
 
-  sums_read : ReadsAll (λ e. Takes terminal.ShiftLeft ⨾ IsExpression sum_level e) nesting operators levels limit (sees terminal.ShiftLeft) (skip >> spec.sum limit inner) (λ r. Ends sum_level (next r))
+  sums_read : TellsAll (λ e. Takes terminal.ShiftLeft ⨾ IsExpression sum_level e) (over_behind (Takes terminal.ShiftLeft) (IsExpression sum_level) (over_whole limit levels sum_level))
+      (sees terminal.ShiftLeft) (skip >> spec.sum limit inner) (λ r. Ends sum_level (next r))
   sums_read = record {
     reads = λ e i r k ends.
-        ap (spec.sum limit inner) (dropped terminal.ShiftLeft i k.spelled.0 k.spelled.1)
-        ∙ whole_complete sum_level levels limit (level (unary_with inner) sum_level) (level_complete (unary_with inner) levels (unary_complete levels inner (may_be limit levels inner h)) sum_level (omega arith)) k.spelled.0 e r (record { spelled = k.spelled.2; nests = k.nests; within = k.within }) ends;
+        told_by (ap (spec.sum limit inner) (dropped terminal.ShiftLeft i k.0 k.1))
+        (whole_told sum_level levels limit (level (unary_with inner) sum_level)
+        (level_told (unary_with inner) levels (unary_told levels inner (may_be limit levels inner h)) sum_level (omega arith)) k.0 e r k.2 ends);
     begins = λ e i r k. (seen_is terminal.ShiftLeft i k.0 k.1, rw (next_is terminal.ShiftLeft i k.0 k.1) shift_ends_sum);
     longer = λ e i r k. omega (arith, takes_longer terminal.ShiftLeft i k.0 k.1, expression_longer sum_level e k.0 r k.2);
   }
 
-  targets_read : ReadsAll (λ p. Takes terminal.ShiftRight ⨾ IsPlace p) place_nesting place_operators levels limit (sees terminal.ShiftRight) (skip >> place_with limit inner) (λ r. sees terminal.LeftBracket r ≡ false)
+  targets_read : TellsAll (λ p. Takes terminal.ShiftRight ⨾ IsPlace p) (over_behind (Takes terminal.ShiftRight) IsPlace (over_place limit levels)) (sees terminal.ShiftRight)
+      (skip >> place_with limit inner) (λ r. sees terminal.LeftBracket r ≡ false)
   unfolding same
   targets_read = record {
-    reads = λ p i r k free. ap (place_with limit inner) (dropped terminal.ShiftRight i k.spelled.0 k.spelled.1) ∙ place_complete p k.spelled.0 r (record { spelled = k.spelled.2; nests = k.nests; within = k.within }) free;
+    reads = λ p i r k free. told_by (ap (place_with limit inner) (dropped terminal.ShiftRight i k.0 k.1)) (place_told p k.0 r k.2 free);
     begins = λ p i r k. (seen_is terminal.ShiftRight i k.0 k.1, sees_other terminal.ShiftRight terminal.LeftBracket i k.0 k.1 refl);
     longer = λ p i r k. omega (arith, takes_longer terminal.ShiftRight i k.0 k.1, place_longer p k.0 r k.2);
   }
 
-  assigned_complete : (p : PlaceTree) (o : AssignmentOperator) (at : Place) (e : ExpressionTree) (i j r : Symbols) → MeansAt assignment_operator_of o at i j → IsPart (IsExpression expression_level) nesting operators levels limit e j r → Stops r
-      → assigned limit inner p i ≡ Ok (assign p o at e, r)
+  assigned_told : (p : PlaceTree) (o : AssignmentOperator) (at : Place) (e : ExpressionTree) (i j r : Symbols) → MeansAt assignment_operator_of o at i j → (k : IsExpression expression_level e j r)
+      → Stops r
+      → Told (over_whole limit levels expression_level e j r k) (assign p o at e, r) (assigned limit inner p i)
   unfolding assigned
-  assigned_complete p o at e i j r sign k stop =
-      rw (sign.2, assignment_no_step sign.0.terminal o sign.1.0, sign.1.0) (then_is _ e r (whole_expression_complete e j r k stop) (ap (λ q. done (assign p o q e, r)) sign.1.1))
+  assigned_told p o at e i j r sign k stop =
+      rw (sign.2, assignment_no_step sign.0.terminal o sign.1.0, sign.1.0) (told_after _ e r (whole_expression_told e j r k stop) (ap (λ q. done (assign p o q e, r)) sign.1.1))
 
-  stepped_complete : (p : PlaceTree) (s : StepOperator) (at : Place) (i j : Symbols) → MeansAt step_operator_of s at i j → assigned limit inner p i ≡ Ok (postfix p s at, j)
+  stepped_is : (p : PlaceTree) (s : StepOperator) (at : Place) (i j : Symbols) → MeansAt step_operator_of s at i j → assigned limit inner p i ≡ Ok (postfix p s at, j)
   unfolding assigned
-  stepped_complete p s at i j sign = rw (sign.2, sign.1.0) (ap (λ q. done (postfix p s q, j)) sign.1.1)
+  stepped_is p s at i j sign = rw (sign.2, sign.1.0) (ap (λ q. done (postfix p s q, j)) sign.1.1)
 
-  prefix_complete : (s : StepOperator) (at : Place) (p : PlaceTree) (i j r : Symbols) → MeansAt step_operator_of s at i j → IsPlace p j r → suc (place_nesting p) ≤ levels → place_operators p ≤ limit → sees terminal.LeftBracket r ≡ false
-      → action_with limit inner i ≡ Ok (prefix_step s at p, r)
+  prefix_told : (s : StepOperator) (at : Place) (p : PlaceTree) (i j r : Symbols) → MeansAt step_operator_of s at i j → (k : IsPlace p j r) → sees terminal.LeftBracket r ≡ false
+      → Told (one_more levels i (λ less. over_place limit less p j r k)) (prefix_step s at p, r) (action_with limit inner i)
   unfolding action_with stepped
-  prefix_complete s at p i j r sign is deep few free =
-      let x = sign.0 in
-      let e = entered (Complete limit) levels (place_nesting p) inner (x ∷ j) h deep in
-      rw (sign.2, step_no_name x.terminal s sign.1.0, sign.1.0)
-      (then_is _ e.readers (x ∷ j) e.is
-      (then_is _ p r (e.complete.place p j r (record { spelled = is; nests = e.deep; within = few }) free)
-      (ap (λ q. done (prefix_step s q p, r)) sign.1.1)))
+  prefix_told s at p i j r (x, (means, place), is) k free =
+      rw (is, step_no_name x.terminal s means, means)
+      (told_entered (LevelTells limit) _ levels inner (x ∷ j) _ h (λ R less tells. told_after _ p r (tells.place p j r k free) (ap (λ q. done (prefix_step s q p, r)) place)))
 
-  pub action_complete : (a : ActionTree) (i r : Symbols) → IsPart IsAction action_nesting action_operators levels limit a i r → Stops r → action_with limit inner i ≡ Ok (a, r)
-  unfolding acted
-  action_complete (call_action stream method es) i r k stop =
-      let j = k.spelled.0 in
-      let l = k.spelled.2.0 in
-      let dot = k.spelled.2.1 in
-      let o = k.spelled.2.2.0 in
-      to_acted stream i j k.spelled.1
-      ∙ rw (next_is terminal.Dot j l dot, dropped terminal.Dot j l dot)
-      (then_is _ method o (plain_is method l o k.spelled.2.2.1) (then_is _ es r (call_arguments_complete es o r k.spelled.2.2.2 k.nests k.within) refl))
-  action_complete (write stream es) i r k stop =
-      let j = k.spelled.0 in
-      to_acted stream i j k.spelled.1
-      ∙ rw (some_next terminal.ShiftLeft (IsExpression sum_level) es j r k.spelled.2)
-      (then_is _ es r
-      (repeat_some_complete (λ e. Takes terminal.ShiftLeft ⨾ IsExpression sum_level e) nesting operators levels limit (sees terminal.ShiftLeft) (skip >> spec.sum limit inner) (λ r. Ends sum_level (next r)) sums_read es j r (record { spelled = k.spelled.2; nests = k.nests; within = k.within })
-      (stop_other terminal.ShiftLeft r stop refl) (stop_ends sum_level (next r) stop)) refl)
-  action_complete (read stream places) i r k stop =
-      let j = k.spelled.0 in
-      to_acted stream i j k.spelled.1
-      ∙ rw (some_next terminal.ShiftRight IsPlace places j r k.spelled.2)
-      (then_is _ places r
-      (repeat_some_complete (λ p. Takes terminal.ShiftRight ⨾ IsPlace p) place_nesting place_operators levels limit (sees terminal.ShiftRight) (skip >> place_with limit inner) (λ r. sees terminal.LeftBracket r ≡ false) targets_read places j r (record { spelled = k.spelled.2; nests = k.nests; within = k.within })
-      (stop_other terminal.ShiftRight r stop refl) (stop_other terminal.LeftBracket r stop refl)) refl)
-  action_complete (assign target o at e) i r k stop =
-      let j = k.spelled.0 in
-      let sign = k.spelled.2.1 in
+  pub action_told : (a : ActionTree) (i r : Symbols) (k : IsAction a i r) → Stops r → Told (over_action limit levels a i r k) (a, r) (action_with limit inner i)
+  unfolding acted over_action
+  action_told (call_action stream method es) i r (j, named, (l, dot, (o, word, (q, begin, (t, all, close))))) stop =
+      told_by (to_acted stream i j named)
+      (rw (next_is terminal.Dot j l dot, dropped terminal.Dot j l dot)
+      (told_behind _ method o (plain_is method l o word) (told_after _ es r (call_arguments_told es o q t r begin all close) refl)))
+  action_told (write stream es) i r (j, named, all) stop =
+      told_by (to_acted stream i j named)
+      (rw (some_next terminal.ShiftLeft (IsExpression sum_level) es j r all)
+      (told_after _ es r
+      (repeat_some_told (λ e. Takes terminal.ShiftLeft ⨾ IsExpression sum_level e) (over_behind (Takes terminal.ShiftLeft) (IsExpression sum_level) (over_whole limit levels sum_level))
+      (sees terminal.ShiftLeft) (skip >> spec.sum limit inner) (λ r. Ends sum_level (next r)) sums_read es j r all
+      (stop_other terminal.ShiftLeft r stop refl) (stop_ends sum_level (next r) stop)) refl))
+  action_told (read stream places) i r (j, named, all) stop =
+      told_by (to_acted stream i j named)
+      (rw (some_next terminal.ShiftRight IsPlace places j r all)
+      (told_after _ places r
+      (repeat_some_told (λ p. Takes terminal.ShiftRight ⨾ IsPlace p) (over_behind (Takes terminal.ShiftRight) IsPlace (over_place limit levels)) (sees terminal.ShiftRight)
+      (skip >> place_with limit inner) (λ r. sees terminal.LeftBracket r ≡ false) targets_read places j r all
+      (stop_other terminal.ShiftRight r stop refl) (stop_other terminal.LeftBracket r stop refl)) refl))
+  action_told (assign target o at e) i r (j, place, (l, sign, value)) stop =
       let ends : ends_target (next j) ≡ true = rw sign.2 (assignment_ends sign.0.terminal o sign.1.0) in
-      to_assigned target i j k.spelled.1 (omega (arith, k.nests)) (omega (arith, k.within)) ends
-      ∙ assigned_complete target o at e j k.spelled.2.0 r sign (record { spelled = k.spelled.2.2; nests = omega (arith, k.nests); within = omega (arith, k.within) }) stop
-  action_complete (postfix target step at) i r k stop =
-      let j = k.spelled.0 in
-      let sign = k.spelled.2 in
+      to_assigned target i j place ends (assigned_told target o at e j l r sign value stop)
+  action_told (postfix target step at) i r (j, place, sign) stop =
       let ends : ends_target (next j) ≡ true = rw sign.2 (step_ends sign.0.terminal step sign.1.0) in
-      to_assigned target i j k.spelled.1 k.nests k.within ends ∙ stepped_complete target step at j r sign
-  action_complete (prefix_step step at target) i r k stop = prefix_complete step at target i k.spelled.0 r k.spelled.1 k.spelled.2 k.nests k.within (stop_other terminal.LeftBracket r stop refl)
+      told_only _ (to_assigned target i j place ends (told_ok (stepped_is target step at j r sign)))
+  action_told (prefix_step step at target) i r (j, sign, place) stop = prefix_told step at target i j r sign place (stop_other terminal.LeftBracket r stop refl)
 
   -- ---- declarations
+
+  by_name : (m : Terminal) (i : Symbols) → is_name m ≡ true → form_by limit inner m i ≡ and_then (name i) (λ x. pure (name_count x))
+  by_name terminal.Literal i e = absurd cc
+  by_name terminal.LeftParen i e = absurd cc
+  by_name _ i e = refl
+
+  form_told : (f : CountForm) (i r : Symbols) (k : IsCountForm f i r) → Told (over_form limit levels f i r k) (f, r) (form_by limit inner (next i) i)
+  form_told (literal_count v w) i r (x, is, rest) = let word : next i ≡ terminal.Literal = ap next rest ∙ is.0 in told_ok (rw word (then_is _ (v, w) r (literal_is v w i r (x, is, rest)) refl))
+  form_told (name_count x) i r k = told_ok (by_name (next i) i (name_begins x i r k) ∙ then_is _ x r (name_is x i r k) refl)
+  form_told (parenthesized_count e) i r (j, begin, (l, inside, close)) = rw (next_is terminal.LeftParen i j begin) (told_after _ e r (condition_told e i j l r begin inside close) refl)
+
+  pub counted_told : (c : CountTree) (i r : Symbols) (k : IsCount c i r) → Told (over_count limit levels c i r k) (c, r) (counted limit inner i)
+  unfolding counted
+  counted_told c i r k = told_after _ c.form r (form_told c.form i r k.1) (ap (λ p. done (count_tree p c.form, r)) (stands i c.place k.0))
 
   by_plain : (m : Terminal) (x : Name) (i : Symbols) → stops m ≡ true → declarator_by limit inner m x i ≡ Ok (plain x, i)
   by_plain terminal.Assign x i e = absurd cc
   by_plain terminal.LeftBracket x i e = absurd cc
   by_plain _ x i e = refl
 
-  declarator_complete : (d : DeclaratorTree) (i r : Symbols) → IsPart IsDeclarator declarator_nesting declarator_operators levels limit d i r → Stops r → declarator limit inner i ≡ Ok (d, r)
+  declarator_told : (d : DeclaratorTree) (i r : Symbols) (k : IsDeclarator d i r) → Stops r → Told (over_declarator limit levels d i r k) (d, r) (declarator limit inner i)
   unfolding declarator
-  declarator_complete (plain x) i r k stop = then_is _ x r (name_is x i r k.spelled) (by_plain (next r) x r stop)
-  declarator_complete (initialized x e) i r k stop =
-      let j = k.spelled.0 in
-      let l = k.spelled.2.0 in
-      then_is _ x j (name_is x i j k.spelled.1)
-      (rw (next_is terminal.Assign j l k.spelled.2.1, dropped terminal.Assign j l k.spelled.2.1)
-      (then_is _ e r (whole_expression_complete e l r (record { spelled = k.spelled.2.2; nests = k.nests; within = k.within }) stop) refl))
-  declarator_complete (array x count) i r k stop =
-      let j = k.spelled.0 in
-      let l = k.spelled.2.0 in
-      let o = k.spelled.2.2.0 in
-      then_is _ x j (name_is x i j k.spelled.1)
-      (rw (next_is terminal.LeftBracket j l k.spelled.2.1, dropped terminal.LeftBracket j l k.spelled.2.1)
-      (then_is _ count o (counted_complete levels inner (may_be limit levels inner h) limit l count o (record { spelled = k.spelled.2.2.1; nests = k.nests; within = k.within }))
-      (then_is _ tt r (expect_is terminal.RightBracket o r k.spelled.2.2.2) refl)))
+  declarator_told (plain x) i r k stop = told_ok (then_is _ x r (name_is x i r k) (by_plain (next r) x r stop))
+  declarator_told (initialized x e) i r (j, named, (l, sign, value)) stop =
+      told_behind _ x j (name_is x i j named) (rw (next_is terminal.Assign j l sign, dropped terminal.Assign j l sign) (told_after _ e r (whole_expression_told e l r value stop) refl))
+  declarator_told (array x count) i r (j, named, (l, begin, (o, inside, close))) stop =
+      told_behind _ x j (name_is x i j named)
+      (rw (next_is terminal.LeftBracket j l begin, dropped terminal.LeftBracket j l begin)
+      (told_after _ count o (counted_told count l o inside) (then_is _ tt r (expect_is terminal.RightBracket o r close) refl)))
 
-  declarators_read : ReadsEach IsDeclarator declarator_nesting declarator_operators levels limit (declarator limit inner) Stops
-  declarators_read = record { reads = declarator_complete; longer = declarator_longer }
+  declarators_read : TellsEach IsDeclarator (over_declarator limit levels) (declarator limit inner) Stops
+  declarators_read = record { reads = declarator_told; longer = declarator_longer }
 
-  pub declaration_complete : (d : DeclarationTree) (i r : Symbols) → IsPart IsDeclaration declaration_nesting declaration_operators levels limit d i r → next r ≡ terminal.Semicolon → declaration_with limit inner i ≡ Ok (d, r)
-  unfolding declaration_with sees same
-  declaration_complete d i r k ends =
-      let j = k.spelled.0 in
-      let l = k.spelled.2.0 in
-      let type = k.spelled.2.1 in
-      let names = k.spelled.2.2 in
-      let word = const_is d.constant i j k.spelled.1 (type_other d.kind terminal.Const j l type refl) in
+  pub declaration_told : (d : DeclarationTree) (i r : Symbols) (k : IsDeclaration d i r) → next r ≡ terminal.Semicolon
+      → Told (over_declaration limit levels d i r k) (d, r) (declaration_with limit inner i)
+  unfolding declaration_with sees same over_declaration
+  declaration_told d i r (j, constant, (l, type, names)) ends =
+      let word = const_is d.constant i j constant (type_other d.kind terminal.Const j l type refl) in
       rw (word.0, word.1)
-      (then_is _ d.kind l (type_complete d.kind j l type (names_begin d.names l r names))
-      (then_is _ d.names r
-      (separated_complete terminal.Comma IsDeclarator declarator_nesting declarator_operators levels limit (declarator limit inner) Stops declarators_read (λ i j comma. stops_at terminal.Comma i j comma refl) d.names l r
-      (record { spelled = names; nests = k.nests; within = k.within }) (rw ends refl) (ap stops ends)) refl))
+      (told_behind _ d.kind l (type_complete d.kind j l type (names_begin d.names l r names))
+      (told_after _ d.names r
+      (separated_told terminal.Comma IsDeclarator (over_declarator limit levels) (declarator limit inner) Stops declarators_read (λ i j comma. stops_at terminal.Comma i j comma refl) d.names l r names
+      (rw ends refl) (ap stops ends)) refl))

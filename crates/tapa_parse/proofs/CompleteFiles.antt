@@ -1,31 +1,32 @@
--- What is spelled as a file, within the limits, is read; so a list of symbols has one tree.
-use Rattle.std.proofs.Common.{◌≡◌, ℕ, suc, max, ◌<◌, ◌≤◌, inl, inr, true, false, List, [], ◌∷◌, length, drop, Option, Some, None, Result, Ok, Err, refl, sym, ap, ◌∙◌, arith}
+-- What is spelled as a file is read, or refused at the first lexeme that passes a limit; so a list of symbols has one tree.
+use Rattle.std.proofs.Common.{◌≡◌, ℕ, suc, max, ◌<◌, ◌≤◌, inl, inr, true, false, List, [], ◌∷◌, length, drop, Option, Result, Ok, Err, refl, sym, ap, ◌∙◌, arith}
 use Rattle.std.specs.Prelude.{◌||◌}
 use Rattle.tapa_base.specs.declared.text.Place.{Place}
 use Rattle.tapa_syntax.specs.declared.terminal.Terminal.{Terminal}
 use Rattle.tapa_syntax.specs.declared.terminal.Terminal.TheVariants as terminal
-use Rattle.tapa_syntax.specs.declared.tree.AttributeArgument.{AttributeArgument}
 use Rattle.tapa_syntax.specs.declared.tree.File.{File}
 use Rattle.tapa_base.specs.Spans.{◌∣◌, Each}
 use Rattle.tapa_syntax.specs.Trees.{AttributeTree, Statements, no_statement, statement_then, StreamTree, BodyTree, leaf, upper, TaskTree, ItemTree, constant, task, file_of}
 use Rattle.tapa_syntax.specs.Grammar.{Takes, TakesAt, AreStatements, IsAttribute, IsParameter, IsStream, IsInvocation, IsBody, IsItem, IsTreeOf, HaveOneTree, expression_level}
-use Rattle.tapa_syntax.specs.Limits.{most, if_there, attribute_nesting, body_nesting, body_operators, item_nesting, item_operators, most_levels, most_operators, IsWithinLimits}
+use Rattle.tapa_syntax.specs.Limits.{most, item_nesting, item_operators, most_levels, most_operators, IsWithinLimits}
 use Rattle.tapa_parse.specs.declared.fault.ParseFault.{ParseFault}
 use Rattle.tapa_parse.specs.declared.fault.ParseFault.TheVariants.{At, OutOfMemory}
 use Rattle.tapa_parse.specs.Answers.{Reads, Answers}
-use Rattle.tapa_parse_expression.specs.Readers.{next, first_place, same, sees}
+use Rattle.tapa_parse_expression.specs.Readers.{is_left, next, first_place, same, sees}
 use Rattle.tapa_parse_expression.specs.Reading.{Readers, attribute, attributes, below_levels, below}
-use Rattle.tapa_parse_expression.specs.Readers.{is_left}
+use Rattle.tapa_parse_expression.specs.Passing.{over_each}
 use Rattle.tapa_parse.specs.Reading.{constant_word, body, task_behind, constant_behind, item, file}
+use Rattle.tapa_parse.specs.Passing.{over_attribute, over_body, over_item}
 use Rattle.tapa_base.specs.Gaps.{Bytes}
-use Rattle.tapa_parse_expression.proofs.Parts.{Symbols, done, ok_is, then_is, if_true, if_false, next_is, seen_is, dropped, expect_is, name_is}
-use Rattle.tapa_parse_expression.proofs.Lists.{IsPart, ReadsAll, repeat_complete}
+use Rattle.tapa_parse_expression.proofs.Parts.{Symbols, done, ok_is, then_is, if_true, next_is, seen_is, dropped, expect_is, name_is, told, Told, told_true, told_false, told_behind, told_then, told_after}
+use Rattle.tapa_parse_expression.proofs.CompleteLists.{TellsAll, repeat_told}
 use Rattle.tapa_parse_expression.proofs.CompleteTypes.{type_complete, type_longer, takes_longer, sees_other}
 use Rattle.tapa_parse_expression.proofs.CompleteLevels.{stops, expression_longer}
-use Rattle.tapa_parse.proofs.CompleteActions.{MayComplete, name_behind, name_longer, whole_expression_complete}
+use Rattle.tapa_parse.proofs.CompleteActions.{LevelMayTell, name_behind, name_longer, whole_expression_told}
 use Rattle.tapa_parse.proofs.CompleteLengths.{each_longer, some_longer, listed_longer, attribute_longer, statements_longer}
-use Rattle.tapa_parse.proofs.CompleteStatements.{list_of, of_list, most_is, statement_other, attributes_read, statements_complete, below_is_complete}
-use Rattle.tapa_parse.proofs.CompleteTasks.{third, parameter_longer, stream_longer, invocation_longer, parameters_complete, streams_complete, invocations_complete}
+use Rattle.tapa_parse.proofs.CompleteStatements.{list_of, of_list, statement_other, attributes_read, statements_told, below_tells}
+use Rattle.tapa_parse.proofs.CompleteTasks.{third, parameter_longer, stream_longer, invocation_longer, parameters_complete, streams_told, invocations_told}
+use Rattle.tapa_parse.proofs.Passing.{none_over_items}
 
 -- ---- each item has symbols
 
@@ -59,13 +60,6 @@ streams_begin : (streams : List StreamTree) (i j r : Symbols) → Each IsStream 
 streams_begin [] i j r is tapa = rw is (seen_is terminal.Tapa j r tapa)
 streams_begin (s ∷ streams) i j r (a, (b, first, rest), more) tapa = seen_is terminal.Tapa i b first
 
-arguments_flat : (a : Option (List AttributeArgument)) → if_there (λ (x : List AttributeArgument). 1) a ≤ 1
-arguments_flat None = omega arith
-arguments_flat (Some xs) = omega arith
-
-attribute_flat : (a : AttributeTree) → attribute_nesting a ≤ 1
-attribute_flat a = arguments_flat a.arguments
-
 stands_at : (m : Terminal) (at : Place) (i r : Symbols) → TakesAt m at i r → first_place i ≡ at
 stands_at m at i r (x, h, is) = rw is h.1
 
@@ -86,69 +80,68 @@ constant_word_other : (m : Terminal) (i r : Symbols) → (Takes terminal.Const �
 constant_word_other m i r (inl t) e f = sees_other terminal.Const m i r t e
 constant_word_other m i r (inr t) e f = sees_other terminal.Constexpr m i r t f
 
-module _ (limit levels : ℕ) (inner : Option Readers) (h : MayComplete limit levels inner) (one : 1 ≤ levels) where
-  body_complete : (b : BodyTree) (i r : Symbols) → IsPart IsBody body_nesting body_operators levels limit b i r → next r ≡ terminal.RightBrace → body limit inner i ≡ Ok (b, r)
-  unfolding body same
-  body_complete (leaf ss) i r k ends =
-      if_false _ (statements_no_stream ss i r k.spelled ends)
-      (then_is _ (list_of ss) r (statements_complete limit levels inner h ss i r (record { spelled = k.spelled; nests = k.nests; within = k.within }) ends) (ap (λ xs. done (leaf xs, r)) (of_list ss)))
-  body_complete (upper streams invocations) i r k ends =
-      let (j, declared, (a, tapa, (b, scope, (c, word, rest)))) = k.spelled in
+module _ (limit levels : ℕ) (inner : Option Readers) (h : LevelMayTell limit levels inner) where
+  body_told : (b : BodyTree) (i r : Symbols) (k : IsBody b i r) → next r ≡ terminal.RightBrace → Told (over_body limit levels b i r k) (b, r) (body limit inner i)
+  unfolding body same over_body
+  body_told (leaf ss) i r k ends =
+      told_false _ (statements_no_stream ss i r k ends) (told_after _ (list_of ss) r (statements_told limit levels inner h ss i r k ends) (ap (λ xs. done (leaf xs, r)) (of_list ss)))
+  body_told (upper streams invocations) i r (j, declared, (a, tapa, (b, scope, (c, word, (d, begin, (e, close, (f, all, end))))))) ends =
       let stop : sees terminal.Stream (drop 2 j) ≡ false = rw (third j a b tapa scope) (sees_other terminal.Task terminal.Stream b c word refl) in
-      if_true _ (streams_begin streams i j a declared tapa)
-      (then_is _ streams j (streams_complete limit levels inner h streams i j (record { spelled = declared; nests = omega (arith, k.nests); within = omega (arith, k.within) }) stop)
-      (then_is _ invocations r (invocations_complete limit levels inner h invocations j r (a, tapa, (b, scope, (c, word, rest))) (omega (arith, k.nests)) (omega (arith, k.within))) refl))
+      told_true _ (streams_begin streams i j a declared tapa)
+      (told_then _ streams j (streams_told limit levels inner h streams i j declared stop)
+      (told_after _ invocations r (invocations_told limit levels inner h invocations j a b c d e f r tapa scope word begin close all end) refl))
 
-  attributes_complete : (found : List AttributeTree) (i r : Symbols) → Each IsAttribute found i r → sees terminal.LeftBracket r ≡ false → attributes inner i ≡ Ok (found, r)
-  attributes_complete found i r all stop =
-      repeat_complete IsAttribute attribute_nesting (λ a. 0) levels 0 (sees terminal.LeftBracket) (attribute inner) (λ r. Unit {0}) (attributes_read limit levels inner h) found i r
-      (record { spelled = all; nests = omega (arith, most_is attribute_nesting 1 attribute_flat found); within = most_is (λ a. 0) 0 (λ a. omega arith) found }) stop tt
+  attributes_told : (found : List AttributeTree) (i r : Symbols) (k : Each IsAttribute found i r) → sees terminal.LeftBracket r ≡ false
+      → Told (over_each IsAttribute (over_attribute limit levels) found i r k) (found, r) (attributes inner i)
+  attributes_told found i r k stop =
+      repeat_told IsAttribute (over_attribute limit levels) (sees terminal.LeftBracket) (attribute inner) (λ r. Unit {0}) (attributes_read limit levels inner h) found i r k stop tt
 
-  task_complete : (t : TaskTree) (i r : Symbols) → IsPart IsItem item_nesting item_operators levels limit (task t) i r → item limit inner i ≡ Ok (task t, r)
-  unfolding item task_behind same
-  task_complete t i r k =
-      let (j, all, (a, void, (b, named, (c, begin, (d, parameters, (e, close, (f, brace, (g, inside, end)))))))) = k.spelled in
+  item_told : (x : ItemTree) (i r : Symbols) (k : IsItem x i r) → Told (over_item limit levels x i r k) (x, r) (item limit inner i)
+  unfolding item task_behind constant_behind same over_item
+  item_told (constant found kind x e) i r (j, all, (a, word, (b, type, (c, named, (d, sign, (f, value, end)))))) =
+      told_then _ found j (attributes_told found i j all (constant_word_other terminal.LeftBracket j a word refl refl))
+      (told_false _ (constant_word_other terminal.Void j a word refl refl)
+      (told_behind _ tt a (constant_word_complete j a word)
+      (told_behind _ kind b (type_complete kind a b type (name_behind x b c named))
+      (told_behind _ x c (name_is x b c named)
+      (told_behind _ tt d (expect_is terminal.Assign c d sign)
+      (told_after _ e f (whole_expression_told limit levels inner h e d f value (ap stops (next_is terminal.Semicolon f r end)))
+      (then_is _ tt r (expect_is terminal.Semicolon f r end) refl)))))))
+  item_told (task t) i r (j, all, (a, void, (b, named, (c, begin, (d, parameters, (e, close, (f, brace, (g, inside, end)))))))) =
       let end_brace : Takes terminal.RightBrace g r = (end.0, end.1.0, end.2) in
-      then_is _ t.attributes j (attributes_complete t.attributes i j all (sees_other terminal.Void terminal.LeftBracket j a void refl))
-      (if_true _ (seen_is terminal.Void j a void)
-      (then_is _ t r
-      (then_is _ tt a (expect_is terminal.Void j a void)
-      (then_is _ t.name b (name_is t.name a b named)
-      (then_is _ t.parameters e (parameters_complete t.parameters b c d e begin parameters close)
-      (then_is _ tt f (expect_is terminal.LeftBrace e f brace)
-      (then_is _ t.body g (body_complete t.body f g (record { spelled = inside; nests = omega (arith, k.nests); within = k.within }) (next_is terminal.RightBrace g r end_brace))
+      told_then _ t.attributes j (attributes_told t.attributes i j all (sees_other terminal.Void terminal.LeftBracket j a void refl))
+      (told_true _ (seen_is terminal.Void j a void)
+      (told_after _ t r
+      (told_behind _ tt a (expect_is terminal.Void j a void)
+      (told_behind _ t.name b (name_is t.name a b named)
+      (told_behind _ t.parameters e (parameters_complete t.parameters b c d e begin parameters close)
+      (told_behind _ tt f (expect_is terminal.LeftBrace e f brace)
+      (told_after _ t.body g (body_told t.body f g inside (next_is terminal.RightBrace g r end_brace))
       (then_is _ tt r (expect_is terminal.RightBrace g r end_brace) (ap (λ p. done (task_tree t p, r)) (stands_at terminal.RightBrace t.end g r end))))))))
       refl))
 
-  item_complete : (x : ItemTree) (i r : Symbols) → IsPart IsItem item_nesting item_operators levels limit x i r → item limit inner i ≡ Ok (x, r)
-  unfolding item constant_behind same
-  item_complete (constant found kind x e) i r k =
-      let (j, all, (a, word, (b, type, (c, named, (d, sign, (f, value, end)))))) = k.spelled in
-      then_is _ found j (attributes_complete found i j all (constant_word_other terminal.LeftBracket j a word refl refl))
-      (if_false _ (constant_word_other terminal.Void j a word refl refl)
-      (then_is _ tt a (constant_word_complete j a word)
-      (then_is _ kind b (type_complete kind a b type (name_behind x b c named))
-      (then_is _ x c (name_is x b c named)
-      (then_is _ tt d (expect_is terminal.Assign c d sign)
-      (then_is _ e f (whole_expression_complete limit levels inner h e d f (record { spelled = value; nests = k.nests; within = k.within }) (ap stops (next_is terminal.Semicolon f r end)))
-      (then_is _ tt r (expect_is terminal.Semicolon f r end) refl)))))))
-  item_complete (task t) i r k = task_complete t i r k
-
-  items_read : ReadsAll IsItem item_nesting item_operators levels limit is_left (item limit inner) (λ r. Unit {0})
+  items_read : TellsAll IsItem (over_item limit levels) is_left (item limit inner) (λ r. Unit {0})
   items_read = record {
-    reads = λ x i r k free. item_complete x i r k;
+    reads = λ x i r k free. item_told x i r k;
     begins = λ x i r k. (some_left i r (item_longer x i r k), tt);
     longer = item_longer;
   }
 
 -- ---- files
 
-pub file_complete : (limit levels : ℕ) (i : Symbols) (trees : List ItemTree) → IsTreeOf i trees → most item_nesting trees ≤ levels → most item_operators trees ≤ limit → 1 ≤ levels → file limit (below_levels limit levels) i ≡ Ok (trees, [])
+pub file_told : (limit levels : ℕ) (i : Symbols) (items : List ItemTree) (h : IsTreeOf i items)
+    → file limit (below_levels limit levels) i ≡ told (over_each IsItem (over_item limit levels) items i [] h) (items, [])
 unfolding file
-file_complete limit levels i trees h deep few one =
-    then_is _ trees []
-    (repeat_complete IsItem item_nesting item_operators levels limit is_left (item limit (below_levels limit levels)) (λ r. Unit {0}) (items_read limit levels (below_levels limit levels) (below_is_complete limit levels) one) trees i []
-    (record { spelled = h; nests = deep; within = few }) refl tt) refl
+file_told limit levels i items h = reads.is
+  where
+    reads : Told (over_each IsItem (over_item limit levels) items i [] h) (items, []) (file limit (below_levels limit levels) i)
+    reads =
+        told_after _ items []
+        (repeat_told IsItem (over_item limit levels) is_left (item limit (below_levels limit levels)) (λ r. Unit {0})
+        (items_read limit levels (below_levels limit levels) (below_tells limit levels)) items i [] h refl tt) refl
+
+pub file_complete : (limit levels : ℕ) (i : Symbols) (trees : List ItemTree) → IsTreeOf i trees → most item_nesting trees ≤ levels → most item_operators trees ≤ limit → 1 ≤ levels → file limit (below_levels limit levels) i ≡ Ok (trees, [])
+file_complete limit levels i trees h deep few one = file_told limit levels i trees h ∙ ap (λ w. told w (trees, [])) (none_over_items limit levels one trees i h deep few)
 
 -- the levels that both trees need tells them apart, if they differ
 pub one_tree : HaveOneTree

@@ -1,5 +1,5 @@
--- What is spelled as attributes or as a statement, within the limits, is read; an else belongs to the nearest if.
-use Rattle.std.proofs.Common.{◌≡◌, ℕ, zero, suc, ◌-◌, ◌≤◌, inl, inr, Bool, true, false, List, [], ◌∷◌, Option, Some, None, Ok, refl, ap, ◌∙◌, arith}
+-- What is spelled as attributes or as a statement is read, or refused at the first lexeme that passes a limit; an else belongs to the nearest if.
+use Rattle.std.proofs.Common.{◌≡◌, ℕ, zero, suc, inl, inr, Bool, true, false, List, [], ◌∷◌, Option, Some, None, Ok, refl, ap, ◌∙◌, arith}
 use Rattle.std.specs.Prelude.{◌||◌, not}
 use Rattle.tapa_base.specs.declared.text.Place.{Place}
 use Rattle.tapa_syntax.specs.declared.terminal.Terminal.{Terminal}
@@ -11,17 +11,18 @@ use Rattle.tapa_syntax.specs.declared.tree.AttributeArgument.TheVariants as argu
 use Rattle.tapa_base.specs.Spans.{◌⨾◌, Maybe, When, Each, EachOfSome, SeparatedOrNone}
 use Rattle.tapa_syntax.specs.Trees.{ExpressionTree, ActionTree, call_action, write, read, assign, postfix, prefix_step, PlaceTree, variable_place, element_place, DeclarationTree, AttributeTree, StartTree, no_start, declare_start, act_start, HeadTree, StatementTree, attributed, empty, block, declare, act, if_only, if_else, while, for, while_not_eot, break, continue, Statements, no_statement, statement_then, statements}
 use Rattle.tapa_syntax.specs.Grammar.{Takes, TakesAt, IsName, IsExpression, is_name, step_operator_of, expression_level, IsPlace, IsAction, IsDeclaration, IsAttributeArgument, AreAttributeArguments, IsAttribute, IsBare, IsStart, IsHead, IsStatement, AreStatements}
-use Rattle.tapa_syntax.specs.Limits.{most, if_there, nesting, operators, action_nesting, action_operators, attribute_nesting, start_nesting, start_operators, head_nesting, head_operators, statement_nesting, statement_operators, statements_nesting, statements_operators}
 use Rattle.tapa_parse_expression.specs.Readers.{and_then, pure, next, same, sees, name}
 use Rattle.tapa_parse_expression.specs.Reading.{Readers, begins_action, begins_statement, attribute_argument_by, attribute_argument, listed_arguments, attribute_arguments, attribute, start, loop_test, step, jump, statement_with, statements_with, simple, braces, otherwise, choice, repetition, counting_loop, transaction_loop, bare_by, bare, inside_with, readers, below_levels}
 use Rattle.tapa_parse_expression.specs.Reading as spec
-use Rattle.tapa_parse_expression.proofs.Parts.{Symbols, done, then_is, if_true, if_false, differ_by, is_seen, next_is, seen_is, dropped, expect_is, name_is, plain_is, literal_is}
-use Rattle.tapa_parse_expression.proofs.Lists.{IsPart, ReadsAll, repeat_complete, repeat_some_complete, separated_until_complete}
+use Rattle.tapa_parse_expression.specs.Passing.{one_more, or_later, Over, over_each, over_maybe}
+use Rattle.tapa_parse.specs.Passing.{over_whole, over_action, over_declaration, over_attribute_arguments, over_attribute, over_start, over_head, over_inside, over_statements}
+use Rattle.tapa_parse_expression.proofs.Parts.{Symbols, done, then_is, if_true, if_false, differ_by, is_seen, next_is, seen_is, dropped, expect_is, name_is, plain_is, literal_is, Told, told_ok, told_by, told_true, told_false, told_behind, told_then, told_after, told_over}
+use Rattle.tapa_parse_expression.proofs.CompleteLists.{TellsAll, repeat_told, repeat_some_told, separated_until_is}
 use Rattle.tapa_parse_expression.proofs.CompleteTypes.{sees_other}
-use Rattle.tapa_parse_expression.proofs.CompleteLevels.{stops, stop_ends, entered, opened}
+use Rattle.tapa_parse_expression.proofs.CompleteLevels.{stops, stop_ends, told_entered, told_opened}
 use Rattle.tapa_parse_expression.proofs.Begins.{begins_type, name_begins, expression_begins, begins_otherwise}
-use Rattle.tapa_parse_expression.proofs.CompleteExpressions.{whole_complete, unary_complete, expression_complete}
-use Rattle.tapa_parse.proofs.CompleteActions.{NoElse, Complete, MayComplete, may_be, type_begins, condition_complete, place_complete, action_complete, declaration_complete}
+use Rattle.tapa_parse_expression.proofs.CompleteExpressions.{whole_told, unary_told, expression_told}
+use Rattle.tapa_parse.proofs.CompleteActions.{NoElse, LevelTells, LevelMayTell, may_be, type_begins, condition_told, place_told, action_told, declaration_told}
 use Rattle.tapa_parse.proofs.CompleteLengths.{attribute_argument_longer, attribute_longer, statement_longer}
 
 -- ---- what a statement begins with
@@ -162,25 +163,7 @@ pub statement_other : (m : Terminal) (s : StatementTree) (i r : Symbols) → IsS
 unfolding sees
 statement_other m s i r h e = let begins = statement_begins s i r h in differ_by begins_statement (next i) m (λ f. cc)
 
-statement_levels : (s : StatementTree) → 1 ≤ statement_nesting s
-statement_levels (attributed found s) = omega arith
-statement_levels empty = omega arith
-statement_levels (block ss) = omega arith
-statement_levels (declare d) = omega arith
-statement_levels (act a) = omega arith
-statement_levels (if_only c s) = omega arith
-statement_levels (if_else c s t) = omega arith
-statement_levels (while c s) = omega arith
-statement_levels (for head s) = omega arith
-statement_levels (while_not_eot x s) = omega arith
-statement_levels (break at) = omega arith
-statement_levels (continue at) = omega arith
-
 -- ---- attributes
-
-pub most_is : {A : Type 0} (f : A → ℕ) (n : ℕ) → ((x : A) → f x ≤ n) → (xs : List A) → most f xs ≤ n
-most_is f n h [] = omega arith
-most_is f n h (x ∷ xs) = omega (arith, h x, most_is f n h xs)
 
 argument_by_name : (m : Terminal) (i : Symbols) → is_name m ≡ true → attribute_argument_by m i ≡ and_then (name i) (λ x. pure (argument_form.Name x))
 argument_by_name terminal.Literal i e = absurd cc
@@ -213,99 +196,108 @@ each_of : (ss : Statements) (i r : Symbols) → AreStatements ss i r → Each Is
 each_of no_statement i r is = is
 each_of (statement_then s ss) i r (j, first, rest) = (j, first, each_of ss j r rest)
 
-list_nesting : (ss : Statements) → most statement_nesting (list_of ss) ≡ statements_nesting ss
-list_nesting no_statement = refl
-list_nesting (statement_then s ss) = omega (arith, list_nesting ss)
+-- a statement, which opens a level at its first lexeme
+abbrev over_open : (limit levels : ℕ) → Over IsStatement
+over_open limit levels s i r k = one_more levels i (λ less. over_inside limit less s i r k)
 
-list_operators : (ss : Statements) → most statement_operators (list_of ss) ≡ statements_operators ss
-list_operators no_statement = refl
-list_operators (statement_then s ss) = omega (arith, list_operators ss)
+over_all : (limit levels : ℕ) (ss : Statements) (i r : Symbols) (k : AreStatements ss i r)
+    → over_each IsStatement (over_open limit levels) (list_of ss) i r (each_of ss i r k) ≡ over_statements limit levels ss i r k
+unfolding over_each over_statements each_of
+over_all limit levels no_statement i r k = refl
+over_all limit levels (statement_then s ss) i r (j, first, rest) = ap (or_later (over_open limit levels s i j first)) (over_all limit levels ss j r rest)
 
 -- ---- the head of a `for`
 
-start_complete : (limit levels : ℕ) (R : Readers) → Complete limit levels R → (s : StartTree) (i r : Symbols) → IsPart IsStart start_nesting start_operators levels limit s i r → next r ≡ terminal.Semicolon → start R i ≡ Ok (s, r)
+start_told : (limit levels : ℕ) (R : Readers) → LevelTells limit levels R → (s : StartTree) (i r : Symbols) (k : IsStart s i r) → next r ≡ terminal.Semicolon
+    → Told (over_start limit levels s i r k) (s, r) (start R i)
 unfolding start sees same
-start_complete limit levels R h no_start i r k ends = if_true _ (is_seen terminal.Semicolon i (ap next k.spelled ∙ ends)) (ap (λ (j : Symbols). done (no_start, j)) k.spelled)
-start_complete limit levels R h (declare_start d) i r k ends =
-    let begins = declaration_begins d i r k.spelled in
-    if_false _ (differ_by begins_declaration (next i) terminal.Semicolon (λ f. cc))
-    (if_false _ (declares_no_act (next i) begins) (then_is _ d r (h.declaration d i r (record { spelled = k.spelled; nests = k.nests; within = k.within }) ends) refl))
-start_complete limit levels R h (act_start a) i r k ends =
-    let begins = action_begins a i r k.spelled in
-    if_false _ (differ_by begins_action (next i) terminal.Semicolon (λ f. cc))
-    (if_true _ begins (then_is _ a r (h.action a i r (record { spelled = k.spelled; nests = k.nests; within = k.within }) (ap stops ends)) refl))
+start_told limit levels R h no_start i r k ends = told_ok (if_true _ (is_seen terminal.Semicolon i (ap next k ∙ ends)) (ap (λ (j : Symbols). done (no_start, j)) k))
+start_told limit levels R h (declare_start d) i r k ends =
+    let begins = declaration_begins d i r k in
+    told_false _ (differ_by begins_declaration (next i) terminal.Semicolon (λ f. cc)) (told_false _ (declares_no_act (next i) begins) (told_after _ d r (h.declaration d i r k ends) refl))
+start_told limit levels R h (act_start a) i r k ends =
+    let begins = action_begins a i r k in
+    told_false _ (differ_by begins_action (next i) terminal.Semicolon (λ f. cc)) (told_true _ begins (told_after _ a r (h.action a i r k (ap stops ends)) refl))
 
-test_complete : (limit levels : ℕ) (R : Readers) → Complete limit levels R → (e : Option ExpressionTree) (i r : Symbols) → Maybe (IsExpression expression_level) e i r → if_there nesting e ≤ levels → if_there operators e ≤ limit → next r ≡ terminal.Semicolon → loop_test limit R i ≡ Ok (e, r)
+test_told : (limit levels : ℕ) (R : Readers) → LevelTells limit levels R → (e : Option ExpressionTree) (i r : Symbols) (k : Maybe (IsExpression expression_level) e i r) → next r ≡ terminal.Semicolon
+    → Told (over_maybe (IsExpression expression_level) (over_whole limit levels expression_level) e i r k) (e, r) (loop_test limit R i)
 unfolding loop_test
-test_complete limit levels R h None i r is deep few ends = if_true _ (is_seen terminal.Semicolon i (ap next is ∙ ends)) (ap (λ (j : Symbols). done (None, j)) is)
-test_complete limit levels R h (Some e) i r is deep few ends =
-    if_false _ (begins_otherwise terminal.Semicolon i (expression_begins expression_level e i r (omega arith) is) refl)
-    (then_is _ e r (whole_complete expression_level levels limit R.expression h.expressions.expression i e r (record { spelled = is; nests = deep; within = few }) (stop_ends expression_level (next r) (ap stops ends))) refl)
+test_told limit levels R h None i r is ends = told_ok (if_true _ (is_seen terminal.Semicolon i (ap next is ∙ ends)) (ap (λ (j : Symbols). done (None, j)) is))
+test_told limit levels R h (Some e) i r is ends =
+    told_false _ (begins_otherwise terminal.Semicolon i (expression_begins expression_level e i r (omega arith) is) refl)
+    (told_after _ e r (whole_told expression_level levels limit R.expression h.expressions.expression i e r is (stop_ends expression_level (next r) (ap stops ends))) refl)
 
-step_complete : (limit levels : ℕ) (R : Readers) → Complete limit levels R → (a : Option ActionTree) (i r : Symbols) → Maybe IsAction a i r → if_there action_nesting a ≤ levels → if_there action_operators a ≤ limit → next r ≡ terminal.RightParen → step R i ≡ Ok (a, r)
+step_told : (limit levels : ℕ) (R : Readers) → LevelTells limit levels R → (a : Option ActionTree) (i r : Symbols) (k : Maybe IsAction a i r) → next r ≡ terminal.RightParen
+    → Told (over_maybe IsAction (over_action limit levels) a i r k) (a, r) (step R i)
 unfolding step sees
-step_complete limit levels R h None i r is deep few ends = if_true _ (is_seen terminal.RightParen i (ap next is ∙ ends)) (ap (λ (j : Symbols). done (None, j)) is)
-step_complete limit levels R h (Some a) i r is deep few ends =
+step_told limit levels R h None i r is ends = told_ok (if_true _ (is_seen terminal.RightParen i (ap next is ∙ ends)) (ap (λ (j : Symbols). done (None, j)) is))
+step_told limit levels R h (Some a) i r is ends =
     let begins = action_begins a i r is in
-    if_false _ (differ_by begins_action (next i) terminal.RightParen (λ f. cc)) (then_is _ a r (h.action a i r (record { spelled = is; nests = deep; within = few }) (ap stops ends)) refl)
+    told_false _ (differ_by begins_action (next i) terminal.RightParen (λ f. cc)) (told_after _ a r (h.action a i r is (ap stops ends)) refl)
 
-module _ (limit levels : ℕ) (inner : Option Readers) (h : MayComplete limit levels inner) where
-  listed_complete : (xs : List AttributeArgument) (i r : Symbols) → (Takes terminal.LeftParen ⨾ SeparatedOrNone (Takes terminal.Comma) IsAttributeArgument xs ⨾ Takes terminal.RightParen) i r → 1 ≤ levels → listed_arguments inner i ≡ Ok (xs, r)
+-- what stands behind a level with nothing in it that passes a limit
+alone : (levels : ℕ) (i : Symbols) (w : Option Symbols) → one_more levels i (λ less. w) ≡ or_later (one_more levels i (λ less. None)) w
+alone zero i w = refl
+alone (suc levels) i w = refl
+
+module _ (limit levels : ℕ) (inner : Option Readers) (h : LevelMayTell limit levels inner) where
+  listed_told : (xs : List AttributeArgument) (i r : Symbols) → (Takes terminal.LeftParen ⨾ SeparatedOrNone (Takes terminal.Comma) IsAttributeArgument xs ⨾ Takes terminal.RightParen) i r
+      → Told (one_more levels i (λ less. None)) (xs, r) (listed_arguments inner i)
   unfolding listed_arguments same
-  listed_complete xs i r (j, begin, (k, all, close)) deep =
-      let o = opened (Complete limit) levels 0 inner terminal.LeftParen i j h deep begin in
-      then_is _ o.readers j o.is
+  listed_told xs i r (j, begin, (k, all, close)) =
+      told_opened (LevelTells limit) _ levels inner terminal.LeftParen i j _ h begin
+      (λ R less tells. told_ok
       (then_is _ xs k
-      (separated_until_complete terminal.Comma IsAttributeArgument (λ a. 0) (λ a. 0) 0 0 attribute_argument (λ r. Unit {0}) (record { reads = λ a i r k free. attribute_argument_complete a i r k.spelled; longer = attribute_argument_longer })
-      (λ i j comma. tt) terminal.RightParen argument_no_end xs j k (record { spelled = all; nests = most_is (λ a. 0) 0 (λ a. omega arith) xs; within = most_is (λ a. 0) 0 (λ a. omega arith) xs })
+      (separated_until_is terminal.Comma IsAttributeArgument attribute_argument (λ r. Unit {0}) (λ a i r k free. attribute_argument_complete a i r k) attribute_argument_longer
+      (λ i j comma. tt) terminal.RightParen argument_no_end xs j k all
       (seen_is terminal.RightParen k r close) (sees_other terminal.RightParen terminal.Comma k r close refl) tt)
-      (then_is _ tt r (expect_is terminal.RightParen k r close) refl))
+      (then_is _ tt r (expect_is terminal.RightParen k r close) refl)))
 
-  attribute_arguments_complete : (a : Option (List AttributeArgument)) (i r : Symbols) → AreAttributeArguments a i r → if_there (λ a. 1) a ≤ levels → sees terminal.LeftParen r ≡ false → attribute_arguments inner i ≡ Ok (a, r)
+  attribute_arguments_told : (a : Option (List AttributeArgument)) (i r : Symbols) (k : AreAttributeArguments a i r) → sees terminal.LeftParen r ≡ false
+      → Told (over_attribute_arguments limit levels a i r k) (a, r) (attribute_arguments inner i)
   unfolding attribute_arguments
-  attribute_arguments_complete None i r is deep free = if_false _ (ap (sees terminal.LeftParen) is ∙ free) (ap (λ (j : Symbols). done (None, j)) is)
-  attribute_arguments_complete (Some xs) i r is deep free = if_true _ (seen_is terminal.LeftParen i is.0 is.1) (then_is _ xs r (listed_complete xs i r is deep) refl)
+  attribute_arguments_told None i r is free = told_ok (if_false _ (ap (sees terminal.LeftParen) is ∙ free) (ap (λ (j : Symbols). done (None, j)) is))
+  attribute_arguments_told (Some xs) i r is free = told_true _ (seen_is terminal.LeftParen i is.0 is.1) (told_after _ xs r (listed_told xs i r is) refl)
 
-  attribute_complete : (a : AttributeTree) (i r : Symbols) → IsAttribute a i r → attribute_nesting a ≤ levels → attribute inner i ≡ Ok (a, r)
+  attribute_told : (a : AttributeTree) (i r : Symbols) (k : IsAttribute a i r) → Told (over_attribute limit levels a i r k) (a, r) (attribute inner i)
   unfolding attribute same
-  attribute_complete a i r (j, first, (k, second, (l, tapa, (o, scope, (p, is, (q, arguments, (s, third, last))))))) deep =
-      then_is _ tt j (expect_is terminal.LeftBracket i j first)
-      (then_is _ tt k (expect_is terminal.LeftBracket j k second)
-      (then_is _ tt l (expect_is terminal.Tapa k l tapa)
-      (then_is _ tt o (expect_is terminal.Scope l o scope)
-      (then_is _ a.name p (plain_is a.name o p is)
-      (then_is _ a.arguments q (attribute_arguments_complete a.arguments p q arguments deep (sees_other terminal.RightBracket terminal.LeftParen q s third refl))
+  attribute_told a i r (j, first, (k, second, (l, tapa, (o, scope, (p, is, (q, arguments, (s, third, last))))))) =
+      told_behind _ tt j (expect_is terminal.LeftBracket i j first)
+      (told_behind _ tt k (expect_is terminal.LeftBracket j k second)
+      (told_behind _ tt l (expect_is terminal.Tapa k l tapa)
+      (told_behind _ tt o (expect_is terminal.Scope l o scope)
+      (told_behind _ a.name p (plain_is a.name o p is)
+      (told_after _ a.arguments q (attribute_arguments_told a.arguments p q arguments (sees_other terminal.RightBracket terminal.LeftParen q s third refl))
       (then_is _ tt s (expect_is terminal.RightBracket q s third)
       (then_is _ tt r (expect_is terminal.RightBracket s r last) refl)))))))
 
-  pub attributes_read : ReadsAll IsAttribute attribute_nesting (λ a. 0) levels 0 (sees terminal.LeftBracket) (attribute inner) (λ r. Unit {0})
+  pub attributes_read : TellsAll IsAttribute (over_attribute limit levels) (sees terminal.LeftBracket) (attribute inner) (λ r. Unit {0})
   attributes_read = record {
-    reads = λ a i r k free. attribute_complete a i r k.spelled k.nests;
+    reads = λ a i r k free. attribute_told a i r k;
     begins = λ a i r k. (seen_is terminal.LeftBracket i k.0 k.1, tt);
     longer = attribute_longer;
   }
 
   -- ---- statements
 
-  statement_complete : (s : StatementTree) (i r : Symbols) → IsPart IsStatement statement_nesting statement_operators levels limit s i r → NoElse s r → statement_with limit inner i ≡ Ok (s, r)
+  statement_told : (s : StatementTree) (i r : Symbols) (k : IsStatement s i r) → NoElse s r → Told (one_more levels i (λ less. over_inside limit less s i r k)) (s, r) (statement_with limit inner i)
   unfolding statement_with
-  statement_complete s i r k free =
-      let e = entered (Complete limit) levels (statement_nesting s - 1) inner i h (omega (arith, statement_levels s, k.nests)) in
-      if_true _ (statement_begins s i r k.spelled)
-      (then_is _ e.readers i e.is (e.complete.inside s i r (record { spelled = k.spelled; nests = omega (arith, statement_levels s, e.deep); within = k.within }) free))
+  statement_told s i r k free = told_true _ (statement_begins s i r k) (told_entered (LevelTells limit) _ levels inner i _ h (λ R less tells. tells.inside s i r k free))
 
-  one_statement_read : ReadsAll IsStatement statement_nesting statement_operators levels limit (λ i. not (sees terminal.RightBrace i)) (statement_with limit inner) (λ r. sees terminal.Else r ≡ false)
+  one_statement_read : TellsAll IsStatement (over_open limit levels) (λ i. not (sees terminal.RightBrace i)) (statement_with limit inner) (λ r. sees terminal.Else r ≡ false)
   one_statement_read = record {
-    reads = λ s i r k free. statement_complete s i r k (inr free);
+    reads = λ s i r k free. statement_told s i r k (inr free);
     begins = λ s i r k. (ap not (statement_other terminal.RightBrace s i r k refl), statement_other terminal.Else s i r k refl);
     longer = statement_longer;
   }
 
-  pub statements_complete : (ss : Statements) (i r : Symbols) → IsPart AreStatements statements_nesting statements_operators levels limit ss i r → next r ≡ terminal.RightBrace → statements_with limit inner i ≡ Ok (list_of ss, r)
+  pub statements_told : (ss : Statements) (i r : Symbols) (k : AreStatements ss i r) → next r ≡ terminal.RightBrace
+      → Told (over_statements limit levels ss i r k) (list_of ss, r) (statements_with limit inner i)
   unfolding sees same
-  statements_complete ss i r k ends =
-      repeat_complete IsStatement statement_nesting statement_operators levels limit (λ i. not (sees terminal.RightBrace i)) (statement_with limit inner) (λ r. sees terminal.Else r ≡ false) one_statement_read (list_of ss) i r
-      (record { spelled = each_of ss i r k.spelled; nests = omega (arith, list_nesting ss, k.nests); within = omega (arith, list_operators ss, k.within) }) (rw ends refl) (rw ends refl)
+  statements_told ss i r k ends =
+      told_over (over_all limit levels ss i r k)
+      (repeat_told IsStatement (over_open limit levels) (λ i. not (sees terminal.RightBrace i)) (statement_with limit inner) (λ r. sees terminal.Else r ≡ false) one_statement_read (list_of ss) i r
+      (each_of ss i r k) (rw ends refl) (rw ends refl))
 
   simple_by : (m : Terminal) (i : Symbols) → (begins_action m || begins_declaration m) ≡ true → bare_by limit inner m i ≡ simple limit inner i
   simple_by terminal.Semicolon i e = absurd cc
@@ -318,144 +310,126 @@ module _ (limit levels : ℕ) (inner : Option Readers) (h : MayComplete limit le
   simple_by terminal.Continue i e = absurd cc
   simple_by _ i e = refl
 
-  declare_complete : (d : DeclarationTree) (i r : Symbols) → IsPart IsStatement statement_nesting statement_operators (suc levels) limit (declare d) i r → bare limit inner i ≡ Ok (declare d, r)
+  declare_told : (d : DeclarationTree) (i j r : Symbols) (k : IsDeclaration d i j) → Takes terminal.Semicolon j r → Told (over_declaration limit levels d i j k) (declare d, r) (bare limit inner i)
   unfolding bare simple
-  declare_complete d i r k =
-      let j = k.spelled.0 in
-      let end = k.spelled.2 in
-      let begins = declaration_begins d i j k.spelled.1 in
+  declare_told d i j r k end =
+      let begins = declaration_begins d i j k in
       let acts_not = declares_no_act (next i) begins in
-      simple_by (next i) i (rw acts_not begins)
-      ∙ if_false _ acts_not
-      (then_is _ d j (declaration_complete limit levels inner h d i j (record { spelled = k.spelled.1; nests = omega (arith, k.nests); within = k.within }) (next_is terminal.Semicolon j r end))
-      (then_is _ tt r (expect_is terminal.Semicolon j r end) refl))
+      told_by (simple_by (next i) i (rw acts_not begins))
+      (told_false _ acts_not (told_after _ d j (declaration_told limit levels inner h d i j k (next_is terminal.Semicolon j r end)) (then_is _ tt r (expect_is terminal.Semicolon j r end) refl)))
 
-  act_complete : (a : ActionTree) (i r : Symbols) → IsPart IsStatement statement_nesting statement_operators (suc levels) limit (act a) i r → bare limit inner i ≡ Ok (act a, r)
+  act_told : (a : ActionTree) (i j r : Symbols) (k : IsAction a i j) → Takes terminal.Semicolon j r → Told (over_action limit levels a i j k) (act a, r) (bare limit inner i)
   unfolding bare simple
-  act_complete a i r k =
-      let j = k.spelled.0 in
-      let end = k.spelled.2 in
-      let acts = action_begins a i j k.spelled.1 in
-      simple_by (next i) i (rw acts refl)
-      ∙ if_true _ acts
-      (then_is _ a j (action_complete limit levels inner h a i j (record { spelled = k.spelled.1; nests = omega (arith, k.nests); within = k.within }) (ap stops (next_is terminal.Semicolon j r end)))
-      (then_is _ tt r (expect_is terminal.Semicolon j r end) refl))
+  act_told a i j r k end =
+      let acts = action_begins a i j k in
+      told_by (simple_by (next i) i (rw acts refl))
+      (told_true _ acts (told_after _ a j (action_told limit levels inner h a i j k (ap stops (next_is terminal.Semicolon j r end))) (then_is _ tt r (expect_is terminal.Semicolon j r end) refl)))
 
-  block_complete : (ss : Statements) (i r : Symbols) → IsPart IsStatement statement_nesting statement_operators (suc levels) limit (block ss) i r → bare limit inner i ≡ Ok (block ss, r)
+  block_told : (ss : Statements) (i j l r : Symbols) → Takes terminal.LeftBrace i j → (all : AreStatements ss j l) → Takes terminal.RightBrace l r
+      → Told (over_statements limit levels ss j l all) (block ss, r) (bare limit inner i)
   unfolding bare braces
-  block_complete ss i r k =
-      let j = k.spelled.0 in
-      let begin = k.spelled.1 in
-      let l = k.spelled.2.0 in
-      let end = k.spelled.2.2 in
+  block_told ss i j l r begin all end =
       rw (next_is terminal.LeftBrace i j begin, dropped terminal.LeftBrace i j begin)
-      (then_is _ (list_of ss) l (statements_complete ss j l (record { spelled = k.spelled.2.1; nests = omega (arith, k.nests); within = k.within }) (next_is terminal.RightBrace l r end))
+      (told_after _ (list_of ss) l (statements_told ss j l all (next_is terminal.RightBrace l r end))
       (then_is _ tt r (expect_is terminal.RightBrace l r end) (ap (λ xs. done (block xs, r)) (of_list ss))))
 
-  if_only_complete : (c : ExpressionTree) (s : StatementTree) (i r : Symbols) → IsPart IsStatement statement_nesting statement_operators (suc levels) limit (if_only c s) i r → sees terminal.Else r ≡ false → bare limit inner i ≡ Ok (if_only c s, r)
-  unfolding bare choice otherwise
-  if_only_complete c s i r k free =
-      let (j, word, (l, begin, (o, test, (p, close, body)))) = k.spelled in
+  if_only_told : (c : ExpressionTree) (s : StatementTree) (i r : Symbols) (k : IsStatement (if_only c s) i r) → sees terminal.Else r ≡ false
+      → Told (over_inside limit levels (if_only c s) i r k) (if_only c s, r) (bare limit inner i)
+  unfolding bare choice otherwise over_inside
+  if_only_told c s i r (j, word, (l, begin, (o, test, (p, close, body)))) free =
       rw (next_is terminal.If i j word, dropped terminal.If i j word)
-      (then_is _ c p (condition_complete limit levels inner h c j l o p begin test close (omega (arith, k.nests)) (omega (arith, k.within)))
-      (then_is _ s r (statement_complete s p r (record { spelled = body; nests = omega (arith, k.nests); within = omega (arith, k.within) }) (inr free))
-      (if_false _ free refl)))
+      (told_then _ c p (condition_told limit levels inner h c j l o p begin test close) (told_after _ s r (statement_told s p r body (inr free)) (if_false _ free refl)))
 
-  if_else_complete : (c : ExpressionTree) (s t : StatementTree) (i r : Symbols) → IsPart IsStatement statement_nesting statement_operators (suc levels) limit (if_else c s t) i r → NoElse t r → bare limit inner i ≡ Ok (if_else c s t, r)
-  unfolding bare choice otherwise
-  if_else_complete c s t i r k free =
-      let (closed, (j, word, (l, begin, (o, test, (p, close, (q, first, (u, other, second))))))) = k.spelled in
+  if_else_told : (c : ExpressionTree) (s t : StatementTree) (i r : Symbols) (k : IsStatement (if_else c s t) i r) → NoElse t r
+      → Told (over_inside limit levels (if_else c s t) i r k) (if_else c s t, r) (bare limit inner i)
+  unfolding bare choice otherwise over_inside
+  if_else_told c s t i r (closed, (j, word, (l, begin, (o, test, (p, close, (q, first, (u, other, second))))))) free =
       rw (next_is terminal.If i j word, dropped terminal.If i j word)
-      (then_is _ c p (condition_complete limit levels inner h c j l o p begin test close (omega (arith, k.nests)) (omega (arith, k.within)))
-      (then_is _ s q (statement_complete s p q (record { spelled = first; nests = omega (arith, k.nests); within = omega (arith, k.within) }) (inl closed))
-      (if_true _ (seen_is terminal.Else q u other)
-      (rw (dropped terminal.Else q u other)
-      (then_is _ t r (statement_complete t u r (record { spelled = second; nests = omega (arith, k.nests); within = omega (arith, k.within) }) free) refl)))))
+      (told_then _ c p (condition_told limit levels inner h c j l o p begin test close)
+      (told_then _ s q (statement_told s p q first (inl closed))
+      (told_true _ (seen_is terminal.Else q u other) (rw (dropped terminal.Else q u other) (told_after _ t r (statement_told t u r second free) refl)))))
 
-  while_complete : (c : ExpressionTree) (s : StatementTree) (i r : Symbols) → IsPart IsStatement statement_nesting statement_operators (suc levels) limit (while c s) i r → NoElse s r → bare limit inner i ≡ Ok (while c s, r)
-  unfolding bare repetition
-  while_complete c s i r k free =
-      let (j, word, (l, begin, (o, test, (p, close, body)))) = k.spelled in
+  while_told : (c : ExpressionTree) (s : StatementTree) (i r : Symbols) (k : IsStatement (while c s) i r) → NoElse s r
+      → Told (over_inside limit levels (while c s) i r k) (while c s, r) (bare limit inner i)
+  unfolding bare repetition over_inside
+  while_told c s i r (j, word, (l, begin, (o, test, (p, close, body)))) free =
       rw (next_is terminal.While i j word, dropped terminal.While i j word)
-      (then_is _ c p (condition_complete limit levels inner h c j l o p begin test close (omega (arith, k.nests)) (omega (arith, k.within)))
-      (then_is _ s r (statement_complete s p r (record { spelled = body; nests = omega (arith, k.nests); within = omega (arith, k.within) }) free) refl))
+      (told_then _ c p (condition_told limit levels inner h c j l o p begin test close) (told_after _ s r (statement_told s p r body free) refl))
 
-  head_complete : (head : HeadTree) (i j k r : Symbols) → Takes terminal.LeftParen i j → IsHead head j k → Takes terminal.RightParen k r → suc (head_nesting head) ≤ levels → head_operators head ≤ limit → spec.head limit inner i ≡ Ok (head, r)
-  unfolding spec.head
-  head_complete head i j k r begin (l, start, (o, first, (p, test, (q, second, step)))) close deep few =
-      let b = opened (Complete limit) levels (head_nesting head) inner terminal.LeftParen i j h deep begin in
-      then_is _ b.readers j b.is
-      (then_is _ head.start l (start_complete limit b.less b.readers b.complete head.start j l (record { spelled = start; nests = omega (arith, b.deep); within = omega arith }) (next_is terminal.Semicolon l o first))
-      (then_is _ tt o (expect_is terminal.Semicolon l o first)
-      (then_is _ head.test p (test_complete limit b.less b.readers b.complete head.test o p test (omega (arith, b.deep)) (omega arith) (next_is terminal.Semicolon p q second))
-      (then_is _ tt q (expect_is terminal.Semicolon p q second)
-      (then_is _ head.step k (step_complete limit b.less b.readers b.complete head.step q k step (omega (arith, b.deep)) (omega arith) (next_is terminal.RightParen k r close))
+  head_told : (head : HeadTree) (i j k r : Symbols) → Takes terminal.LeftParen i j → (inside : IsHead head j k) → Takes terminal.RightParen k r
+      → Told (one_more levels i (λ less. over_head limit less head j k inside)) (head, r) (spec.head limit inner i)
+  unfolding spec.head over_head
+  head_told head i j k r begin (l, start, (o, first, (p, test, (q, second, step)))) close =
+      told_opened (LevelTells limit) _ levels inner terminal.LeftParen i j _ h begin
+      (λ R less tells. told_then _ head.start l (start_told limit less R tells head.start j l start (next_is terminal.Semicolon l o first))
+      (told_behind _ tt o (expect_is terminal.Semicolon l o first)
+      (told_then _ head.test p (test_told limit less R tells head.test o p test (next_is terminal.Semicolon p q second))
+      (told_behind _ tt q (expect_is terminal.Semicolon p q second)
+      (told_after _ head.step k (step_told limit less R tells head.step q k step (next_is terminal.RightParen k r close))
       (then_is _ tt r (expect_is terminal.RightParen k r close) refl))))))
 
-  for_complete : (head : HeadTree) (s : StatementTree) (i r : Symbols) → IsPart IsStatement statement_nesting statement_operators (suc levels) limit (for head s) i r → NoElse s r → bare limit inner i ≡ Ok (for head s, r)
-  unfolding bare counting_loop
-  for_complete head s i r k free =
-      let (j, word, (l, begin, (o, inside, (p, close, body)))) = k.spelled in
+  for_told : (head : HeadTree) (s : StatementTree) (i r : Symbols) (k : IsStatement (for head s) i r) → NoElse s r
+      → Told (over_inside limit levels (for head s) i r k) (for head s, r) (bare limit inner i)
+  unfolding bare counting_loop over_inside
+  for_told head s i r (j, word, (l, begin, (o, inside, (p, close, body)))) free =
       rw (next_is terminal.For i j word, dropped terminal.For i j word)
-      (then_is _ head p (head_complete head j l o p begin inside close (omega (arith, k.nests)) (omega (arith, k.within)))
-      (then_is _ s r (statement_complete s p r (record { spelled = body; nests = omega (arith, k.nests); within = omega (arith, k.within) }) free) refl))
+      (told_then _ head p (head_told head j l o p begin inside close) (told_after _ s r (statement_told s p r body free) refl))
 
-  while_not_eot_complete : (x : Name) (s : StatementTree) (i r : Symbols) → IsPart IsStatement statement_nesting statement_operators (suc levels) limit (while_not_eot x s) i r → NoElse s r → bare limit inner i ≡ Ok (while_not_eot x s, r)
-  unfolding bare transaction_loop
-  while_not_eot_complete x s i r k free =
-      let (j, word, (l, begin, (o, stream, (p, close, body)))) = k.spelled in
-      let b = opened (Complete limit) levels 0 inner terminal.LeftParen j l h (omega (arith, k.nests)) begin in
+  while_not_eot_told : (x : Name) (s : StatementTree) (i r : Symbols) (k : IsStatement (while_not_eot x s) i r) → NoElse s r
+      → Told (over_inside limit levels (while_not_eot x s) i r k) (while_not_eot x s, r) (bare limit inner i)
+  unfolding bare transaction_loop over_inside
+  while_not_eot_told x s i r (j, word, (l, begin, (o, stream, (p, close, body)))) free =
       rw (next_is terminal.WhileNotEot i j word, dropped terminal.WhileNotEot i j word)
-      (then_is _ b.readers l b.is
-      (then_is _ x o (name_is x l o stream)
-      (then_is _ tt p (expect_is terminal.RightParen o p close)
-      (then_is _ s r (statement_complete s p r (record { spelled = body; nests = omega (arith, k.nests); within = k.within }) free) refl))))
+      (told_over (alone levels j (over_open limit levels s p r body))
+      (told_opened (LevelTells limit) _ levels inner terminal.LeftParen j l (λ less. over_open limit levels s p r body) h begin
+      (λ R less tells. told_behind _ x o (name_is x l o stream)
+      (told_behind _ tt p (expect_is terminal.RightParen o p close)
+      (told_after _ s r (statement_told s p r body free) refl)))))
 
-  jump_complete : (m : Terminal) (at : Place) (i j r : Symbols) → TakesAt m at i j → Takes terminal.Semicolon j r → jump i ≡ Ok (at, r)
+  jump_is : (m : Terminal) (at : Place) (i j r : Symbols) → TakesAt m at i j → Takes terminal.Semicolon j r → jump i ≡ Ok (at, r)
   unfolding jump
-  jump_complete m at i j r (x, h, is) end = rw is (then_is _ tt r (expect_is terminal.Semicolon j r end) (ap (λ p. done (p, r)) h.1))
+  jump_is m at i j r (x, h, is) end = rw is (then_is _ tt r (expect_is terminal.Semicolon j r end) (ap (λ p. done (p, r)) h.1))
 
-  bare_complete : (s : StatementTree) (i r : Symbols) → IsBare s → IsPart IsStatement statement_nesting statement_operators (suc levels) limit s i r → NoElse s r → bare limit inner i ≡ Ok (s, r)
-  unfolding bare
-  bare_complete (attributed found s) i r is_bare k free = absurd is_bare
-  bare_complete empty i r is_bare k free = rw (next_is terminal.Semicolon i r k.spelled, dropped terminal.Semicolon i r k.spelled) refl
-  bare_complete (block ss) i r is_bare k free = block_complete ss i r k
-  bare_complete (declare d) i r is_bare k free = declare_complete d i r k
-  bare_complete (act a) i r is_bare k free = act_complete a i r k
-  bare_complete (if_only c s) i r is_bare k (inl closed) = absurd closed
-  bare_complete (if_only c s) i r is_bare k (inr free) = if_only_complete c s i r k free
-  bare_complete (if_else c s t) i r is_bare k free = if_else_complete c s t i r k free
-  bare_complete (while c s) i r is_bare k free = while_complete c s i r k free
-  bare_complete (for head s) i r is_bare k free = for_complete head s i r k free
-  bare_complete (while_not_eot x s) i r is_bare k free = while_not_eot_complete x s i r k free
-  bare_complete (break at) i r is_bare k free =
-      let word : next i ≡ terminal.Break = ap next k.spelled.1.2 ∙ k.spelled.1.1.0 in
-      rw word (then_is _ at r (jump_complete terminal.Break at i k.spelled.0 r k.spelled.1 k.spelled.2) refl)
-  bare_complete (continue at) i r is_bare k free =
-      let word : next i ≡ terminal.Continue = ap next k.spelled.1.2 ∙ k.spelled.1.1.0 in
-      rw word (then_is _ at r (jump_complete terminal.Continue at i k.spelled.0 r k.spelled.1 k.spelled.2) refl)
+  bare_told : (s : StatementTree) (i r : Symbols) → IsBare s → (k : IsStatement s i r) → NoElse s r → Told (over_inside limit levels s i r k) (s, r) (bare limit inner i)
+  unfolding bare over_inside
+  bare_told (attributed found s) i r is_bare k free = absurd is_bare
+  bare_told empty i r is_bare k free = told_ok (rw (next_is terminal.Semicolon i r k, dropped terminal.Semicolon i r k) refl)
+  bare_told (block ss) i r is_bare (j, begin, (l, all, end)) free = block_told ss i j l r begin all end
+  bare_told (declare d) i r is_bare (j, k, end) free = declare_told d i j r k end
+  bare_told (act a) i r is_bare (j, k, end) free = act_told a i j r k end
+  bare_told (if_only c s) i r is_bare k (inl closed) = absurd closed
+  bare_told (if_only c s) i r is_bare k (inr free) = if_only_told c s i r k free
+  bare_told (if_else c s t) i r is_bare k free = if_else_told c s t i r k free
+  bare_told (while c s) i r is_bare k free = while_told c s i r k free
+  bare_told (for head s) i r is_bare k free = for_told head s i r k free
+  bare_told (while_not_eot x s) i r is_bare k free = while_not_eot_told x s i r k free
+  bare_told (break at) i r is_bare k free =
+      let word : next i ≡ terminal.Break = ap next k.1.2 ∙ k.1.1.0 in
+      told_ok (rw word (then_is _ at r (jump_is terminal.Break at i k.0 r k.1 k.2) refl))
+  bare_told (continue at) i r is_bare k free =
+      let word : next i ≡ terminal.Continue = ap next k.1.2 ∙ k.1.1.0 in
+      told_ok (rw word (then_is _ at r (jump_is terminal.Continue at i k.0 r k.1 k.2) refl))
 
-  inside_complete : (s : StatementTree) (i r : Symbols) → IsPart IsStatement statement_nesting statement_operators (suc levels) limit s i r → NoElse s r → inside_with limit inner i ≡ Ok (s, r)
-  unfolding inside_with
-  inside_complete (attributed found s) i r k free =
-      let (is_bare, (j, all, body)) = k.spelled in
-      if_true _ (is_seen terminal.LeftBracket i (attributes_begin found i j all))
-      (then_is _ found j (repeat_some_complete IsAttribute attribute_nesting (λ a. 0) levels 0 (sees terminal.LeftBracket) (attribute inner) (λ r. Unit {0}) attributes_read found i j
-      (record { spelled = all; nests = omega (arith, k.nests); within = most_is (λ a. 0) 0 (λ a. omega arith) found }) (bare_no_bracket s j r is_bare body) tt)
-      (then_is _ s r (bare_complete s j r is_bare (record { spelled = body; nests = omega (arith, k.nests); within = k.within }) free) refl))
-  inside_complete s i r k free = if_false _ (bare_no_bracket s i r tt k.spelled) (bare_complete s i r tt k free)
+  inside_told : (s : StatementTree) (i r : Symbols) (k : IsStatement s i r) → NoElse s r → Told (over_inside limit levels s i r k) (s, r) (inside_with limit inner i)
+  unfolding inside_with over_inside
+  inside_told (attributed found s) i r (is_bare, (j, all, body)) free =
+      told_true _ (is_seen terminal.LeftBracket i (attributes_begin found i j all))
+      (told_then _ found j (repeat_some_told IsAttribute (over_attribute limit levels) (sees terminal.LeftBracket) (attribute inner) (λ r. Unit {0}) attributes_read found i j all
+      (bare_no_bracket s j r is_bare body) tt)
+      (told_after _ s r (bare_told s j r is_bare body free) refl))
+  inside_told s i r k free = told_false _ (bare_no_bracket s i r tt k) (bare_told s i r tt k free)
 
   -- the readers of this level
-  pub level_is_complete : Complete limit levels (readers limit inner)
-  level_is_complete = record {
-    expressions = record { unary = unary_complete levels inner (may_be limit levels inner h); expression = expression_complete levels inner (may_be limit levels inner h) };
-    place = place_complete limit levels inner h;
-    action = action_complete limit levels inner h;
-    declaration = declaration_complete limit levels inner h;
-    inside = inside_complete;
+  pub level_tells : LevelTells limit levels (readers limit inner)
+  level_tells = record {
+    expressions = record { unary = unary_told levels inner (may_be limit levels inner h); expression = expression_told levels inner (may_be limit levels inner h) };
+    place = place_told limit levels inner h;
+    action = action_told limit levels inner h;
+    declaration = declaration_told limit levels inner h;
+    inside = inside_told;
   }
 
-pub below_is_complete : (limit levels : ℕ) → MayComplete limit levels (below_levels limit levels)
+pub below_tells : (limit levels : ℕ) → LevelMayTell limit levels (below_levels limit levels)
 unfolding below_levels
-below_is_complete limit zero = tt
-below_is_complete limit (suc levels) = level_is_complete limit levels (below_levels limit levels) (below_is_complete limit levels)
+below_tells limit zero = tt
+below_tells limit (suc levels) = level_tells limit levels (below_levels limit levels) (below_tells limit levels)

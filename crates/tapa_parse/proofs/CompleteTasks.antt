@@ -1,5 +1,5 @@
--- What is spelled as parameters, streams and invocations, within the limits, is read.
-use Rattle.std.proofs.Common.{◌≡◌, ℕ, ◌<◌, ◌≤◌, inl, inr, Bool, true, false, List, [], ◌∷◌, length, drop, Option, Some, None, Ok, refl, ap, ◌∙◌, arith}
+-- What is spelled as parameters, streams and invocations is read, or refused at the first lexeme that passes a limit.
+use Rattle.std.proofs.Common.{◌≡◌, ℕ, ◌<◌, inl, inr, Bool, true, false, List, [], ◌∷◌, length, drop, Option, Some, None, Ok, refl, ap, ◌∙◌, arith}
 use Rattle.tapa_base.specs.declared.kind.Kind.{Kind}
 use Rattle.tapa_base.specs.declared.text.Place.{Place}
 use Rattle.tapa_syntax.specs.declared.terminal.Terminal.{Terminal}
@@ -7,22 +7,22 @@ use Rattle.tapa_syntax.specs.declared.terminal.Terminal.TheVariants as terminal
 use Rattle.tapa_syntax.specs.declared.tree.Name.{Name}
 use Rattle.tapa_syntax.specs.declared.tree.Parameter.{Parameter}
 use Rattle.tapa_syntax.specs.declared.tree.Parameter.TheVariants as parameter_form
-use Rattle.tapa_base.specs.Spans.{◌⨾◌, Maybe, When, EachOfSome, SeparatedOrNone}
+use Rattle.tapa_base.specs.Spans.{◌⨾◌, Maybe, When, Each, EachOfSome, SeparatedOrNone}
 use Rattle.tapa_syntax.specs.Trees.{ExpressionTree, CountTree, StreamTree, ArgumentTree, InvocationTree}
 use Rattle.tapa_syntax.specs.Grammar.{Takes, IsName, IsType, expression_level, IsCount, IsParameter, MayBeLabelled, IsStream, IsArgument, IsMode, IsInvocation}
-use Rattle.tapa_syntax.specs.Limits.{most, if_there, nesting, operators, form_nesting, form_operators, stream_nesting, stream_operators, invocation_nesting, invocation_operators}
 use Rattle.tapa_parse_expression.specs.Readers.{◌>>◌, skip, next, same, sees}
 use Rattle.tapa_parse_expression.specs.Reading.{Readers}
+use Rattle.tapa_parse_expression.specs.Passing.{Over, over_each, over_some, over_behind, over_maybe}
 use Rattle.tapa_parse.specs.Reading.{stream_kind, port, scalar, parameter, parameters, stream_name, mode, invocation_argument, depth, stream, invocation, chained, invocations, streams}
-use Rattle.tapa_parse_expression.proofs.Parts.{Symbols, done, then_is, if_true, if_false, next_is, seen_is, dropped, expect_is, name_is, plain_is}
-use Rattle.tapa_parse_expression.proofs.Lists.{IsPart, AreParts, ReadsAll, repeat_complete, repeat_one_complete, separated_complete, separated_until_complete}
+use Rattle.tapa_parse.specs.Passing.{over_count, over_stream, over_argument, over_invocation}
+use Rattle.tapa_parse_expression.proofs.Parts.{Symbols, done, then_is, if_true, if_false, next_is, seen_is, dropped, expect_is, name_is, plain_is, Told, told_ok, told_by, told_true, told_behind, told_then, told_after}
+use Rattle.tapa_parse_expression.proofs.CompleteLists.{TellsAll, repeat_told, repeat_one_told, separated_is, separated_until_is}
 use Rattle.tapa_parse_expression.proofs.CompleteTypes.{extends_type, type_complete, type_longer, takes_longer, sees_other}
-use Rattle.tapa_parse_expression.proofs.CompleteLevels.{Ends, ends_at, opened, expression_longer}
+use Rattle.tapa_parse_expression.proofs.CompleteLevels.{Ends, ends_at, expression_longer, told_opened}
 use Rattle.tapa_parse_expression.proofs.Begins.{begins_type}
-use Rattle.tapa_parse_expression.proofs.CompleteExpressions.{counted_complete, whole_complete, stands}
-use Rattle.tapa_parse.proofs.CompleteActions.{Complete, MayComplete, may_be, name_behind, type_other, const_is, name_longer, form_longer}
+use Rattle.tapa_parse_expression.proofs.CompleteExpressions.{stands, whole_told}
+use Rattle.tapa_parse.proofs.CompleteActions.{LevelTells, LevelMayTell, counted_told, name_behind, type_other, const_is, name_longer, form_longer}
 use Rattle.tapa_parse.proofs.CompleteLengths.{each_longer, separated_longer, maybe_longer, when_longer, behind_longer}
-use Rattle.tapa_parse.proofs.CompleteStatements.{most_is}
 
 -- ---- parameters
 
@@ -89,8 +89,8 @@ unfolding parameters same
 parameters_complete xs i j k r begin all close =
     then_is _ tt j (expect_is terminal.LeftParen i j begin)
     (then_is _ xs k
-    (separated_until_complete terminal.Comma IsParameter (λ x. 0) (λ x. 0) 0 0 parameter (λ r. Unit {0}) (record { reads = λ x i r k free. parameter_complete x i r k.spelled; longer = parameter_longer })
-    (λ i j comma. tt) terminal.RightParen parameter_no_end xs j k (record { spelled = all; nests = most_is (λ x. 0) 0 (λ x. omega arith) xs; within = most_is (λ x. 0) 0 (λ x. omega arith) xs })
+    (separated_until_is terminal.Comma IsParameter parameter (λ r. Unit {0}) (λ x i r k free. parameter_complete x i r k) parameter_longer
+    (λ i j comma. tt) terminal.RightParen parameter_no_end xs j k all
     (seen_is terminal.RightParen k r close) (sees_other terminal.RightParen terminal.Comma k r close refl) tt)
     (then_is _ tt r (expect_is terminal.RightParen k r close) refl))
 
@@ -144,18 +144,23 @@ mode_longer x i r (a, less, (b, tapa, (c, scope, (d, (s, h, is), greater)))) =
 abbrev argument_tree : Place → ExpressionTree → ArgumentTree
 argument_tree at e = record { place = at; value = e }
 
-argument_complete : (limit levels : ℕ) (R : Readers) → Complete limit levels R → (a : ArgumentTree) (i r : Symbols) → IsArgument a i r → nesting a.value ≤ levels → operators a.value ≤ limit → Ends expression_level (next r) → invocation_argument limit R i ≡ Ok (a, r)
+argument_told : (limit levels : ℕ) (R : Readers) → LevelTells limit levels R → (a : ArgumentTree) (i r : Symbols) (k : IsArgument a i r) → Ends expression_level (next r)
+    → Told (over_argument limit levels a i r k) (a, r) (invocation_argument limit R i)
 unfolding invocation_argument
-argument_complete limit levels R h a i r is deep few ends =
-    then_is _ a.value r (whole_complete expression_level levels limit R.expression h.expressions.expression i a.value r (record { spelled = is.1; nests = deep; within = few }) ends)
-    (ap (λ p. done (argument_tree p a.value, r)) (stands i a.place is.0))
+argument_told limit levels R h a i r k ends =
+    told_after _ a.value r (whole_told expression_level levels limit R.expression h.expressions.expression i a.value r k.1 ends) (ap (λ p. done (argument_tree p a.value, r)) (stands i a.place k.0))
 
 argument_longer : (a : ArgumentTree) (i r : Symbols) → IsArgument a i r → length r < length i
 argument_longer a i r h = expression_longer expression_level a.value i r h.1
 
-arguments_read : (limit levels : ℕ) (R : Readers) → Complete limit levels R → ReadsAll (λ a. Takes terminal.Comma ⨾ IsArgument a) (λ a. nesting a.value) (λ a. operators a.value) levels limit (sees terminal.Comma) (skip >> invocation_argument limit R) (λ r. Ends expression_level (next r))
+-- the arguments of an invocation, each behind a comma
+abbrev over_arguments : (limit levels : ℕ) → Over (λ a. Takes terminal.Comma ⨾ IsArgument a)
+over_arguments limit levels = over_behind (Takes terminal.Comma) IsArgument (over_argument limit levels)
+
+arguments_read : (limit levels : ℕ) (R : Readers) → LevelTells limit levels R
+    → TellsAll (λ a. Takes terminal.Comma ⨾ IsArgument a) (over_arguments limit levels) (sees terminal.Comma) (skip >> invocation_argument limit R) (λ r. Ends expression_level (next r))
 arguments_read limit levels R h = record {
-  reads = λ a i r k ends. ap (invocation_argument limit R) (dropped terminal.Comma i k.spelled.0 k.spelled.1) ∙ argument_complete limit levels R h a k.spelled.0 r k.spelled.2 k.nests k.within ends;
+  reads = λ a i r k ends. told_by (ap (invocation_argument limit R) (dropped terminal.Comma i k.0 k.1)) (argument_told limit levels R h a k.0 r k.2 ends);
   begins = λ a i r k. (seen_is terminal.Comma i k.0 k.1, ends_at expression_level terminal.Comma i k.0 k.1 refl);
   longer = behind_longer terminal.Comma IsArgument argument_longer;
 }
@@ -164,79 +169,79 @@ pub invocation_longer : (x : InvocationTree) (i r : Symbols) → IsInvocation x 
 invocation_longer x i r (a, dot, (b, word, (c, mode, (d, begin, (e, named, (f, all, close)))))) =
     omega (arith, takes_longer terminal.Dot i a dot, takes_longer terminal.Invoke a b word, maybe_longer IsMode mode_longer x.mode b c mode, takes_longer terminal.LeftParen c d begin, name_longer x.task d e named, each_longer (λ a. Takes terminal.Comma ⨾ IsArgument a) (behind_longer terminal.Comma IsArgument argument_longer) x.arguments e f all, takes_longer terminal.RightParen f r close)
 
-module _ (limit levels : ℕ) (inner : Option Readers) (h : MayComplete limit levels inner) where
-  depth_complete : (c : Option CountTree) (i r : Symbols) → Maybe (λ count. Takes terminal.Comma ⨾ IsCount count) c i r → if_there (λ count. form_nesting count.form) c ≤ levels → if_there (λ count. form_operators count.form) c ≤ limit → sees terminal.Comma r ≡ false → depth limit inner i ≡ Ok (c, r)
+module _ (limit levels : ℕ) (inner : Option Readers) (h : LevelMayTell limit levels inner) where
+  depth_told : (c : Option CountTree) (i r : Symbols) (k : Maybe (λ count. Takes terminal.Comma ⨾ IsCount count) c i r) → sees terminal.Comma r ≡ false
+      → Told (over_maybe (λ count. Takes terminal.Comma ⨾ IsCount count) (over_behind (Takes terminal.Comma) IsCount (over_count limit levels)) c i r k) (c, r) (depth limit inner i)
   unfolding depth
-  depth_complete None i r is deep few free = if_false _ (ap (sees terminal.Comma) is ∙ free) (ap (λ (j : Symbols). done (None, j)) is)
-  depth_complete (Some count) i r (j, comma, is) deep few free =
-      if_true _ (seen_is terminal.Comma i j comma)
-      (rw (dropped terminal.Comma i j comma)
-      (then_is _ count r (counted_complete levels inner (may_be limit levels inner h) limit j count r (record { spelled = is; nests = deep; within = few })) refl))
+  depth_told None i r is free = told_ok (if_false _ (ap (sees terminal.Comma) is ∙ free) (ap (λ (j : Symbols). done (None, j)) is))
+  depth_told (Some count) i r (j, comma, is) free =
+      told_true _ (seen_is terminal.Comma i j comma) (rw (dropped terminal.Comma i j comma) (told_after _ count r (counted_told limit levels inner h count j r is) refl))
 
-  stream_complete : (s : StreamTree) (i r : Symbols) → IsPart IsStream stream_nesting stream_operators levels limit s i r → stream limit inner i ≡ Ok (s, r)
+  stream_told : (s : StreamTree) (i r : Symbols) (k : IsStream s i r) → Told (over_stream limit levels s i r k) (s, r) (stream limit inner i)
   unfolding stream same
-  stream_complete s i r k =
-      let (a, tapa, (b, scope, (c, word, (d, less, (e, type, (f, count, (g, greater, (l, names, end)))))))) = k.spelled in
-      then_is _ tt a (expect_is terminal.Tapa i a tapa)
-      (then_is _ tt b (expect_is terminal.Scope a b scope)
-      (then_is _ tt c (expect_is terminal.Stream b c word)
-      (then_is _ tt d (expect_is terminal.Less c d less)
-      (then_is _ s.kind e (type_complete s.kind d e type (depth_begins s.depth e f g count greater))
-      (then_is _ s.depth f (depth_complete s.depth e f count k.nests k.within (sees_other terminal.Greater terminal.Comma f g greater refl))
+  stream_told s i r (a, tapa, (b, scope, (c, word, (d, less, (e, type, (f, count, (g, greater, (l, names, end)))))))) =
+      told_behind _ tt a (expect_is terminal.Tapa i a tapa)
+      (told_behind _ tt b (expect_is terminal.Scope a b scope)
+      (told_behind _ tt c (expect_is terminal.Stream b c word)
+      (told_behind _ tt d (expect_is terminal.Less c d less)
+      (told_behind _ s.kind e (type_complete s.kind d e type (depth_begins s.depth e f g count greater))
+      (told_after _ s.depth f (depth_told s.depth e f count (sees_other terminal.Greater terminal.Comma f g greater refl))
       (then_is _ tt g (expect_is terminal.Greater f g greater)
       (then_is _ s.names l
-      (separated_complete terminal.Comma (λ x. IsName x ⨾ MayBeLabelled) (λ x. 0) (λ x. 0) 0 0 stream_name (λ r. sees terminal.LeftParen r ≡ false)
-      (record { reads = λ x i r k free. stream_name_complete x i r k.spelled free; longer = stream_name_longer }) (λ i j comma. sees_other terminal.Comma terminal.LeftParen i j comma refl) s.names g l
-      (record { spelled = names; nests = most_is (λ x. 0) 0 (λ x. omega arith) s.names; within = most_is (λ x. 0) 0 (λ x. omega arith) s.names }) (sees_other terminal.Semicolon terminal.Comma l r end refl) (sees_other terminal.Semicolon terminal.LeftParen l r end refl))
+      (separated_is terminal.Comma (λ x. IsName x ⨾ MayBeLabelled) stream_name (λ r. sees terminal.LeftParen r ≡ false) stream_name_complete stream_name_longer
+      (λ i j comma. sees_other terminal.Comma terminal.LeftParen i j comma refl) s.names g l names
+      (sees_other terminal.Semicolon terminal.Comma l r end refl) (sees_other terminal.Semicolon terminal.LeftParen l r end refl))
       (then_is _ tt r (expect_is terminal.Semicolon l r end) refl))))))))
 
-  streams_read : ReadsAll IsStream stream_nesting stream_operators levels limit (λ i. sees terminal.Stream (drop 2 i)) (stream limit inner) (λ r. Unit {0})
+  streams_read : TellsAll IsStream (over_stream limit levels) (λ i. sees terminal.Stream (drop 2 i)) (stream limit inner) (λ r. Unit {0})
   streams_read = record {
-    reads = λ s i r k free. stream_complete s i r k;
+    reads = λ s i r k free. stream_told s i r k;
     begins = λ s i r k. (rw (third i k.0 k.2.0 k.1 k.2.1) (seen_is terminal.Stream k.2.0 k.2.2.0 k.2.2.1), tt);
     longer = stream_longer;
   }
 
-  pub streams_complete : (xs : List StreamTree) (i r : Symbols) → AreParts IsStream stream_nesting stream_operators levels limit xs i r → sees terminal.Stream (drop 2 r) ≡ false → streams limit inner i ≡ Ok (xs, r)
-  streams_complete xs i r k stop = repeat_complete IsStream stream_nesting stream_operators levels limit (λ i. sees terminal.Stream (drop 2 i)) (stream limit inner) (λ r. Unit {0}) streams_read xs i r k stop tt
+  pub streams_told : (xs : List StreamTree) (i r : Symbols) (k : Each IsStream xs i r) → sees terminal.Stream (drop 2 r) ≡ false
+      → Told (over_each IsStream (over_stream limit levels) xs i r k) (xs, r) (streams limit inner i)
+  streams_told xs i r k stop = repeat_told IsStream (over_stream limit levels) (λ i. sees terminal.Stream (drop 2 i)) (stream limit inner) (λ r. Unit {0}) streams_read xs i r k stop tt
 
-  invocation_complete : (x : InvocationTree) (i r : Symbols) → IsPart IsInvocation invocation_nesting invocation_operators levels limit x i r → invocation limit inner i ≡ Ok (x, r)
-  unfolding invocation same
-  invocation_complete x i r k =
-      let (a, dot, (b, word, (c, mode, (d, begin, (e, named, (f, all, close)))))) = k.spelled in
-      let o = opened (Complete limit) levels (most (λ a. nesting a.value) x.arguments) inner terminal.LeftParen c d h k.nests begin in
-      then_is _ tt a (expect_is terminal.Dot i a dot)
-      (then_is _ tt b (expect_is terminal.Invoke a b word)
-      (then_is _ x.mode c (mode_complete x.mode b c mode (sees_other terminal.LeftParen terminal.Less c d begin refl))
-      (then_is _ o.readers d o.is
-      (then_is _ x.task e (name_is x.task d e named)
-      (then_is _ x.arguments f
-      (repeat_complete (λ a. Takes terminal.Comma ⨾ IsArgument a) (λ a. nesting a.value) (λ a. operators a.value) o.less limit (sees terminal.Comma) (skip >> invocation_argument limit o.readers) (λ r. Ends expression_level (next r)) (arguments_read limit o.less o.readers o.complete) x.arguments e f
-      (record { spelled = all; nests = o.deep; within = k.within }) (sees_other terminal.RightParen terminal.Comma f r close refl) (ends_at expression_level terminal.RightParen f r close refl))
+  invocation_told : (x : InvocationTree) (i r : Symbols) (k : IsInvocation x i r) → Told (over_invocation limit levels x i r k) (x, r) (invocation limit inner i)
+  unfolding invocation same over_invocation
+  invocation_told x i r (a, dot, (b, word, (c, mode, (d, begin, (e, named, (f, all, close)))))) =
+      told_behind _ tt a (expect_is terminal.Dot i a dot)
+      (told_behind _ tt b (expect_is terminal.Invoke a b word)
+      (told_behind _ x.mode c (mode_complete x.mode b c mode (sees_other terminal.LeftParen terminal.Less c d begin refl))
+      (told_opened (LevelTells limit) _ levels inner terminal.LeftParen c d _ h begin
+      (λ R less tells. told_behind _ x.task e (name_is x.task d e named)
+      (told_after _ x.arguments f
+      (repeat_told (λ a. Takes terminal.Comma ⨾ IsArgument a) (over_arguments limit less) (sees terminal.Comma) (skip >> invocation_argument limit R) (λ r. Ends expression_level (next r))
+      (arguments_read limit less R tells) x.arguments e f all
+      (sees_other terminal.RightParen terminal.Comma f r close refl) (ends_at expression_level terminal.RightParen f r close refl))
       (then_is _ tt r (expect_is terminal.RightParen f r close) refl))))))
 
-  invocations_read : ReadsAll IsInvocation invocation_nesting invocation_operators levels limit (sees terminal.Dot) (invocation limit inner) (λ r. Unit {0})
+  invocations_read : TellsAll IsInvocation (over_invocation limit levels) (sees terminal.Dot) (invocation limit inner) (λ r. Unit {0})
   invocations_read = record {
-    reads = λ x i r k free. invocation_complete x i r k;
+    reads = λ x i r k free. invocation_told x i r k;
     begins = λ x i r k. (seen_is terminal.Dot i k.0 k.1, tt);
     longer = invocation_longer;
   }
 
-  chained_complete : (xs : List InvocationTree) (i r : Symbols) → EachOfSome IsInvocation xs i r → most invocation_nesting xs ≤ levels → most invocation_operators xs ≤ limit → sees terminal.Dot r ≡ false → chained limit inner i ≡ Ok (xs, r)
-  unfolding chained
-  chained_complete [] i r all deep few stop = absurd all
-  chained_complete (x ∷ xs) i r (j, first, rest) deep few stop =
-      then_is _ x j (invocation_complete x i j (record { spelled = first; nests = omega arith; within = omega arith }))
-      (repeat_one_complete IsInvocation invocation_nesting invocation_operators levels limit (sees terminal.Dot) (invocation limit inner) (λ r. Unit {0}) invocations_read x xs j r (record { spelled = rest; nests = omega arith; within = omega arith }) stop tt)
+  chained_told : (xs : List InvocationTree) (i r : Symbols) (k : EachOfSome IsInvocation xs i r) → sees terminal.Dot r ≡ false
+      → Told (over_some IsInvocation (over_invocation limit levels) xs i r k) (xs, r) (chained limit inner i)
+  unfolding chained over_some
+  chained_told [] i r k stop = absurd k
+  chained_told (x ∷ xs) i r (j, first, rest) stop =
+      told_then _ x j (invocation_told x i j first)
+      (repeat_one_told IsInvocation (over_invocation limit levels) (sees terminal.Dot) (invocation limit inner) (λ r. Unit {0}) invocations_read x xs j r rest stop tt)
 
-  pub invocations_complete : (xs : List InvocationTree) (i r : Symbols) → (Takes terminal.Tapa ⨾ Takes terminal.Scope ⨾ Takes terminal.Task ⨾ Takes terminal.LeftParen ⨾ Takes terminal.RightParen ⨾ EachOfSome IsInvocation xs ⨾ Takes terminal.Semicolon) i r
-      → most invocation_nesting xs ≤ levels → most invocation_operators xs ≤ limit → invocations limit inner i ≡ Ok (xs, r)
+  pub invocations_told : (xs : List InvocationTree) (i a b c d e f r : Symbols) → Takes terminal.Tapa i a → Takes terminal.Scope a b → Takes terminal.Task b c → Takes terminal.LeftParen c d
+      → Takes terminal.RightParen d e → (k : EachOfSome IsInvocation xs e f) → Takes terminal.Semicolon f r
+      → Told (over_some IsInvocation (over_invocation limit levels) xs e f k) (xs, r) (invocations limit inner i)
   unfolding invocations same
-  invocations_complete xs i r (a, tapa, (b, scope, (c, word, (d, begin, (e, close, (f, all, end)))))) deep few =
-      then_is _ tt a (expect_is terminal.Tapa i a tapa)
-      (then_is _ tt b (expect_is terminal.Scope a b scope)
-      (then_is _ tt c (expect_is terminal.Task b c word)
-      (then_is _ tt d (expect_is terminal.LeftParen c d begin)
-      (then_is _ tt e (expect_is terminal.RightParen d e close)
-      (then_is _ xs f (chained_complete xs e f all deep few (sees_other terminal.Semicolon terminal.Dot f r end refl))
+  invocations_told xs i a b c d e f r tapa scope word begin close all end =
+      told_behind _ tt a (expect_is terminal.Tapa i a tapa)
+      (told_behind _ tt b (expect_is terminal.Scope a b scope)
+      (told_behind _ tt c (expect_is terminal.Task b c word)
+      (told_behind _ tt d (expect_is terminal.LeftParen c d begin)
+      (told_behind _ tt e (expect_is terminal.RightParen d e close)
+      (told_after _ xs f (chained_told xs e f all (sees_other terminal.Semicolon terminal.Dot f r end refl))
       (then_is _ tt r (expect_is terminal.Semicolon f r end) refl))))))

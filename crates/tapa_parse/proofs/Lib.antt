@@ -3,6 +3,7 @@ pub mod SoundLevels
 pub mod SoundActions
 pub mod SoundStatements
 pub mod SoundTasks
+pub mod Passing
 pub mod CompleteActions
 pub mod CompleteLengths
 pub mod CompleteStatements

@@ -1,3 +1,4 @@
 pub use Rattle.tapa_parse_expression.specs.Readers
 pub mod Reading
+pub mod Passing
 pub mod Answers

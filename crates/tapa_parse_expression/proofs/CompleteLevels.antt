@@ -1,5 +1,5 @@
--- What an expression ends before, and its levels: what is spelled at a level is read, where it does not go on.
-use Rattle.std.proofs.Common.{◌≡◌, ℕ, zero, suc, ◌+◌, ◌<◌, ◌≤◌, inl, inr, Bool, true, false, cond, ◌∷◌, length, Option, Some, None, Ok, refl, ap, subst, ◌∙◌, arith, eqb}
+-- What an expression ends before, and its levels: what is spelled at a level is read, where it does not go on, or refused at the first lexeme that passes a limit.
+use Rattle.std.proofs.Common.{◌≡◌, ℕ, zero, suc, ◌+◌, ◌-◌, ◌<◌, ◌≤◌, inl, inr, Bool, true, false, cond, length, Option, Some, None, Ok, Err, refl, sym, ap, subst, ◌∙◌, arith, eqb}
 use Rattle.std.proofs.lemmas.Bool.{eqb-true, eq-eqb, cases_lt}
 use Rattle.tapa_base.specs.declared.op.Op.TheVariants as op
 use Rattle.tapa_base.specs.declared.text.Place.{Place}
@@ -13,10 +13,11 @@ use Rattle.tapa_syntax.specs.Trees.{none as no_expression, one as one_expression
 use Rattle.tapa_syntax.specs.Limits.{operators}
 use Rattle.tapa_base.specs.Spans.{Is}
 use Rattle.tapa_syntax.specs.Grammar.{Takes, MeansAt, IsExpression, AreArguments, AreMoreArguments, binary_operator_of, binds_at, sum_level, or_level, expression_level, argument_level}
-use Rattle.tapa_parse_expression.specs.Readers.{Outcome, next, same}
+use Rattle.tapa_parse_expression.specs.declared.fault.ParseCode.TheVariants.{P2}
+use Rattle.tapa_parse_expression.specs.Readers.{Outcome, Reader, and_then, next, same}
 use Rattle.tapa_parse_expression.specs.Reading.{Counting, Readers, enter, open_level, count, at_level, operator_of, chain, chain_of, level}
-use Rattle.tapa_parse_expression.proofs.Parts.{Symbols, done, then_is, if_true, next_is, seen_is, dropped}
-use Rattle.tapa_parse_expression.proofs.SoundExpressions.{IsRead}
+use Rattle.tapa_parse_expression.specs.Passing.{one_more, or_later, over_expression}
+use Rattle.tapa_parse_expression.proofs.Parts.{Symbols, done, then_is, if_true, next_is, seen_is, dropped, Told, told_left, told_behind}
 use Rattle.tapa_parse_expression.proofs.CompleteTypes.{one_longer, type_longer, takes_longer}
 
 -- ---- what may stand behind an expression
@@ -102,44 +103,42 @@ ends_unary l m h = record { name = h.name; operator = λ k lt. absurd (omega ari
 
 -- ---- what readers are to do
 
-pub record CompletesAt (level levels : ℕ) (p : Counting ExpressionTree) : Type 0 where
-  pub on : (n : ℕ) (i : Symbols) (e : ExpressionTree) (left : ℕ) (r : Symbols) → IsRead level levels n i e left r → Ends level (next r) → p n i ≡ Ok ((e, left), r)
+pub record Tells (level levels : ℕ) (p : Counting ExpressionTree) : Type 0 where
+  pub on : (n : ℕ) (i : Symbols) (e : ExpressionTree) (r : Symbols) (h : IsExpression level e i r) → Ends level (next r)
+      → Told (over_expression levels n level e i r h) ((e, n - operators e), r) (p n i)
 
-pub record AreComplete (levels : ℕ) (R : Readers) : Type 0 where
-  pub unary : CompletesAt 0 levels R.unary
-  pub expression : CompletesAt expression_level levels R.expression
+pub record AllTell (levels : ℕ) (R : Readers) : Type 0 where
+  pub unary : Tells 0 levels R.unary
+  pub expression : Tells expression_level levels R.expression
 
--- the readers of the level below do what they are to, if there is one more level
+-- the readers of the level below do what they are to, and are there if there is one more level
 abbrev pub MayDo : (ℕ → Readers → Type 0) → ℕ → Option Readers → Type 0
-MayDo Does zero inner = Unit {0}
+MayDo Does zero None = Unit {0}
+MayDo Does zero (Some R) = ⊥
 MayDo Does (suc levels) None = ⊥
 MayDo Does (suc levels) (Some R) = Does levels R
 
-abbrev pub MayBeComplete : ℕ → Option Readers → Type 0
-MayBeComplete = MayDo AreComplete
+abbrev pub MayTell : ℕ → Option Readers → Type 0
+MayTell = MayDo AllTell
 
--- a level that was opened for what nests so deep
-pub record IsOpened (Does : ℕ → Readers → Type 0) (d : ℕ) (o : Outcome Readers) (j : Symbols) : Type 0 where
-  pub readers : Readers
-  pub less : ℕ
-  pub deep : d ≤ less
-  pub complete : Does less readers
-  pub is : o ≡ Ok (readers, j)
+-- one more level, which the next symbol opens
+pub told_entered : {B : Type 0} {y : B × Symbols} (Does : ℕ → Readers → Type 0) (f : Readers → Reader B) (levels : ℕ) (inner : Option Readers) (i : Symbols) (behind : ℕ → Option Symbols)
+    → MayDo Does levels inner
+    → ((R : Readers) (less : ℕ) → Does less R → Told (behind less) y (f R i)) → Told (one_more levels i behind) y (and_then (enter inner i) f)
+told_entered Does f zero None i behind h k = record { is = refl }
+told_entered Does f zero (Some R) i behind h k = absurd h
+told_entered Does f (suc levels) None i behind h k = absurd h
+told_entered Does f (suc levels) (Some R) i behind h k = k R levels h
 
-pub entered : (Does : ℕ → Readers → Type 0) (levels d : ℕ) (inner : Option Readers) (i : Symbols) → MayDo Does levels inner → suc d ≤ levels → IsOpened Does d (enter inner i) i
-entered Does zero d inner i h le = absurd (omega arith)
-entered Does (suc levels) d None i h le = absurd h
-entered Does (suc levels) d (Some R) i h le = record { readers = R; less = levels; deep = omega arith; complete = h; is = refl }
-
-pub opened : (Does : ℕ → Readers → Type 0) (levels d : ℕ) (inner : Option Readers) (m : Terminal) (i j : Symbols) → MayDo Does levels inner → suc d ≤ levels → Takes m i j → IsOpened Does d (open_level m inner i) j
+-- one more level, which this terminal opens
+pub told_opened : {B : Type 0} {y : B × Symbols} (Does : ℕ → Readers → Type 0) (f : Readers → Reader B) (levels : ℕ) (inner : Option Readers) (m : Terminal) (i j : Symbols)
+    (behind : ℕ → Option Symbols) → MayDo Does levels inner → Takes m i j
+    → ((R : Readers) (less : ℕ) → Does less R → Told (behind less) y (f R j)) → Told (one_more levels i behind) y (and_then (open_level m inner i) f)
 unfolding open_level
-opened Does levels d inner m i j h le t =
-    let e = entered Does levels d inner i h le in
-    record { readers = e.readers; less = e.less; deep = e.deep; complete = e.complete; is = if_true _ (seen_is m i j t) (then_is _ e.readers i e.is (ap (λ (k : Symbols). done (e.readers, k)) (dropped m i j t))) }
-
-pub count_is : (n m : ℕ) (i : Symbols) → n ≡ suc m → count n i ≡ Ok (m, i)
-unfolding count
-count_is n m i e = rw e refl
+told_opened Does f zero None m i j behind h t k = record { is = ap (λ o. and_then o f) (if_true _ (seen_is m i j t) refl) }
+told_opened Does f zero (Some R) m i j behind h t k = absurd h
+told_opened Does f (suc levels) None m i j behind h t k = absurd h
+told_opened Does f (suc levels) (Some R) m i j behind h t k = told_behind f R j (if_true _ (seen_is m i j t) (ap (λ (l : Symbols). done (R, l)) (dropped m i j t))) (k R levels h)
 
 -- ---- each tree has a symbol
 
@@ -184,76 +183,118 @@ unfolding chain
 chain_stops operand l zero e n r stop = refl
 chain_stops operand l (suc turns) e n r stop = rw stop refl
 
+-- what goes on so, unless a limit is passed before
+abbrev Until : {A : Type 0} → Option Symbols → Outcome A → Outcome A → Type 0
+Until None o later = o ≡ later
+Until (Some w) o later = o ≡ Err (P2, w)
+
+until_refused : {A B : Type 0} {o : Outcome A} (f : A → Reader B) (w : Symbols) → o ≡ Err (P2, w) → and_then o f ≡ Err (P2, w)
+until_refused f w e = ap (λ o. and_then o f) e
+
+-- one operator too many
+chain_refused : (operand : Counting ExpressionTree) (l turns : ℕ) (o : BinaryOperator) (at : Place) (a : ExpressionTree) (j k : Symbols) → MeansAt binary_operator_of o at j k → binds_at o ≡ l
+    → chain operand l (suc turns) a 0 j ≡ Err (P2, j)
+unfolding chain operator_of count
+chain_refused operand l turns o at a j k (x, h, is) binds = rw (is, h.0, eq-eqb (binds_at o) l binds) refl
+
 -- one operator more
-chain_goes : (operand : Counting ExpressionTree) (l turns : ℕ) (o : BinaryOperator) (at : Place) (a b : ExpressionTree) (n m left : ℕ) (j k r : Symbols) → MeansAt binary_operator_of o at j k → binds_at o ≡ l → n ≡ suc m → operand m k ≡ Ok ((b, left), r)
-    → chain operand l (suc turns) a n j ≡ chain operand l turns (binary o at a b) left r
-unfolding chain operator_of
-chain_goes operand l turns o at a b n m left j k r (x, h, is) binds one_less reads =
-    rw (is, h.0, eq-eqb (binds_at o) l binds) (then_is _ m (x ∷ k) (count_is n m (x ∷ k) one_less) (then_is _ (b, left) r reads (ap (λ p. chain operand l turns (binary o p a b) left r) h.1)))
+chain_goes : (operand : Counting ExpressionTree) (l turns : ℕ) (o : BinaryOperator) (at : Place) (a b : ExpressionTree) (m left : ℕ) (j k r : Symbols) (w : Option Symbols)
+    → MeansAt binary_operator_of o at j k → binds_at o ≡ l → Told w ((b, left), r) (operand m k)
+    → Until w (chain operand l (suc turns) a (suc m) j) (chain operand l turns (binary o at a b) left r)
+unfolding chain operator_of count
+chain_goes operand l turns o at a b m left j k r None (x, h, is) binds reads =
+    rw (is, h.0, eq-eqb (binds_at o) l binds) (then_is _ (b, left) r reads.is (ap (λ p. chain operand l turns (binary o p a b) left r) h.1))
+chain_goes operand l turns o at a b m left j k r (Some w) (x, h, is) binds reads = rw (is, h.0, eq-eqb (binds_at o) l binds) (until_refused _ w reads.is)
 
 -- where the operators of this level go on after e
-record GoesOn (l : ℕ) (u : Counting ExpressionTree) (n : ℕ) (i : Symbols) (e : ExpressionTree) (left : ℕ) (r : Symbols) : Type 0 where
+record GoesOn (l : ℕ) (u : Counting ExpressionTree) (n : ℕ) (i : Symbols) (e : ExpressionTree) (left : ℕ) (r : Symbols) (w : Option Symbols) : Type 0 where
   turns : ℕ
   enough : length r ≤ turns
-  reads : level u (suc l) n i ≡ chain (level u l) l turns e left r
+  reads : Until w (level u (suc l) n i) (chain (level u l) l turns e left r)
 
 module _ (u : Counting ExpressionTree) (levels : ℕ) where
-  starts : (l n : ℕ) (i : Symbols) (e : ExpressionTree) (left : ℕ) (r : Symbols) → level u l n i ≡ Ok ((e, left), r) → GoesOn l u n i e left r
+  starts : (l n : ℕ) (i : Symbols) (e : ExpressionTree) (left : ℕ) (r : Symbols) (w : Option Symbols) → Told w ((e, left), r) (level u l n i) → GoesOn l u n i e left r w
   unfolding level chain_of
-  starts l n i e left r h = record { turns = length r; enough = omega arith; reads = then_is _ (e, left) r h refl }
+  starts l n i e left r None h = record { turns = length r; enough = omega arith; reads = then_is _ (e, left) r h.is refl }
+  starts l n i e left r (Some w) h = record { turns = length r; enough = omega arith; reads = until_refused _ w h.is }
 
-  goes_on : (l n : ℕ) (i : Symbols) (o : BinaryOperator) (at : Place) (a b : ExpressionTree) (m left : ℕ) (j k r : Symbols) → MeansAt binary_operator_of o at j k → binds_at o ≡ l → level u l m k ≡ Ok ((b, left), r) → length r < length k
-      → GoesOn l u n i a (suc m) j → GoesOn l u n i (binary o at a b) left r
-  goes_on l n i o at a b m left j k r sign binds reads less before = pick before.turns before.enough before.reads
+  goes_on : (l n : ℕ) (i : Symbols) (o : BinaryOperator) (at : Place) (a b : ExpressionTree) (some left : ℕ) (j k r : Symbols) (w : Option Symbols) (behind : ℕ → Option Symbols)
+      → MeansAt binary_operator_of o at j k → binds_at o ≡ l → length r < length k
+      → ((m : ℕ) → some ≡ suc m → Told (behind m) ((b, left), r) (level u l m k)) → GoesOn l u n i a some j w → GoesOn l u n i (binary o at a b) left r (or_later w (one_more some j behind))
+  goes_on l n i o at a b some left j k r (Some w) behind sign binds less reads before = record { turns = length r; enough = omega arith; reads = before.reads }
+  goes_on l n i o at a b some left j k r None behind sign binds less reads before = pick some before.turns before.enough before.reads reads
     where
       longer : length k < length j
       longer = is_longer j k sign
 
-      pick : (turns : ℕ) → length j ≤ turns → level u (suc l) n i ≡ chain (level u l) l turns a (suc m) j → GoesOn l u n i (binary o at a b) left r
-      pick zero le so_far = absurd (omega (arith, longer))
-      pick (suc turns) le so_far = record { turns = turns; enough = omega (arith, longer, less); reads = so_far ∙ chain_goes (level u l) l turns o at a b (suc m) m left j k r sign binds refl reads }
+      last : (turns m : ℕ) (w : Option Symbols) → length j ≤ suc turns → level u (suc l) n i ≡ chain (level u l) l (suc turns) a (suc m) j
+          → Until w (chain (level u l) l (suc turns) a (suc m) j) (chain (level u l) l turns (binary o at a b) left r) → GoesOn l u n i (binary o at a b) left r w
+      last turns m None le so_far more = record { turns = turns; enough = omega (arith, longer, less); reads = so_far ∙ more }
+      last turns m (Some w) le so_far more = record { turns = length r; enough = omega arith; reads = so_far ∙ more }
 
-  spine : (l : ℕ) → suc l ≤ or_level → CompletesAt l levels (level u l) → (e : ExpressionTree) (n : ℕ) (i : Symbols) (left : ℕ) (r : Symbols) → IsRead (suc l) levels n i e left r → Ends l (next r) → GoesOn l u n i e left r
-  spine l le h (binary o at a b) n i left r k ends =
+      pick : (some turns : ℕ) → length j ≤ turns → level u (suc l) n i ≡ chain (level u l) l turns a some j → ((m : ℕ) → some ≡ suc m → Told (behind m) ((b, left), r) (level u l m k))
+          → GoesOn l u n i (binary o at a b) left r (one_more some j behind)
+      pick some zero le so_far reads = absurd (omega (arith, longer))
+      pick zero (suc turns) le so_far reads = record { turns = length r; enough = omega arith; reads = so_far ∙ chain_refused (level u l) l turns o at a j k sign binds }
+      pick (suc m) (suc turns) le so_far reads = last turns m (behind m) le so_far (chain_goes (level u l) l turns o at a b m left j k r (behind m) sign binds (reads m refl))
+
+  -- what is spelled at a level that is this one
+  on_level : (l m : ℕ) → m ≡ l → (p : Counting ExpressionTree) → Tells l levels p → (n : ℕ) (i : Symbols) (e : ExpressionTree) (r : Symbols) (h : IsExpression m e i r) → Ends l (next r)
+      → Told (over_expression levels n m e i r h) ((e, n - operators e), r) (p n i)
+  on_level l m is p tells n i e r h ends =
+      subst (λ m. (h : IsExpression m e i r) → Told (over_expression levels n m e i r h) ((e, n - operators e), r) (p n i)) (sym is) (λ h. tells.on n i e r h ends) h
+
+  left_is : (a b : ExpressionTree) (n m : ℕ) → n - operators a ≡ suc m → m - operators b ≡ n - suc (operators a + operators b)
+  left_is a b n m one_less = omega (arith, one_less)
+
+  -- the left side of the operators of a level
+  spine : (l m : ℕ) → m ≡ suc l → suc l ≤ or_level → Tells l levels (level u l) → (e : ExpressionTree) (n : ℕ) (i : Symbols) (r : Symbols) (k : IsExpression m e i r) → Ends l (next r)
+      → GoesOn l u n i e (n - operators e) r (over_expression levels n m e i r k)
+  unfolding over_expression
+  spine l m is le h (binary o at a b) n i r k ends =
       elim (cases_lt (binds_at o) l) [
-        | inl lt ↦ starts l n i (binary o at a b) left r (h.on n i (binary o at a b) left r (record { spelled = (omega arith, k.spelled.1); nests = k.nests; counted = k.counted }) ends)
+        | inl lt ↦ starts l n i (binary o at a b) _ r _ (h.on n i (binary o at a b) r (omega arith, k.1) ends)
         | inr ge ↦
-            let parts = k.spelled.1 in
-            let sign = parts.2.1 in
-            let binds : binds_at o ≡ l = omega (arith, k.spelled.0) in
-            let first = subst (λ m. IsExpression (suc m) a i parts.0) binds parts.1 in
-            let second = subst (λ m. IsExpression m b parts.2.0 r) binds parts.2.2 in
-            let before = spine l le h a n i (suc (operators b + left)) parts.0 (record { spelled = first; nests = omega (arith, k.nests); counted = omega (arith, k.counted) }) (behind parts.0 parts.2.0 o at sign ge) in
-            goes_on l n i o at a b (operators b + left) left parts.0 parts.2.0 r sign binds
-            (h.on (operators b + left) parts.2.0 b left r (record { spelled = second; nests = omega (arith, k.nests); counted = refl }) ends)
-            (expression_longer l b parts.2.0 r second) before
+            let parts = k.1 in
+            let binds : binds_at o ≡ l = omega (arith, k.0) in
+            let before = spine l (suc (binds_at o)) (ap suc binds) le h a n i parts.0 parts.1 (behind parts.0 parts.2.0 o at parts.2.1 ge) in
+            goes_on l n i o at a b (n - operators a) (n - operators (binary o at a b)) parts.0 parts.2.0 r (over_expression levels n (suc (binds_at o)) a i parts.0 parts.1)
+            (λ m. over_expression levels m (binds_at o) b parts.2.0 r parts.2.2) parts.2.1 binds
+            (expression_longer (binds_at o) b parts.2.0 r parts.2.2)
+            (λ m one_less. told_left (left_is a b n m one_less) (on_level l (binds_at o) binds (level u l) h m parts.2.0 b r parts.2.2 ends))
+            before
       ]
     where
       behind : (j k : Symbols) (o : BinaryOperator) (at : Place) → MeansAt binary_operator_of o at j k → l ≤ binds_at o → Ends l (next j)
       behind j k o at (x, h, is) ge = rw is (operator_ends l x.terminal o h.0 ge)
-  spine l le h nullptr n i left r k ends = absurd (omega (arith, k.spelled.0))
-  spine l le h (conditional at c a b) n i left r k ends = absurd (omega (arith, k.spelled.0))
-  spine l le h (literal v w) n i left r k ends = starts l n i (literal v w) left r (h.on n i (literal v w) left r (record { spelled = k.spelled; nests = k.nests; counted = k.counted }) ends)
-  spine l le h (boolean true) n i left r k ends = starts l n i (boolean true) left r (h.on n i (boolean true) left r (record { spelled = k.spelled; nests = k.nests; counted = k.counted }) ends)
-  spine l le h (boolean false) n i left r k ends = starts l n i (boolean false) left r (h.on n i (boolean false) left r (record { spelled = k.spelled; nests = k.nests; counted = k.counted }) ends)
-  spine l le h (variable x) n i left r k ends = starts l n i (variable x) left r (h.on n i (variable x) left r (record { spelled = k.spelled; nests = k.nests; counted = k.counted }) ends)
-  spine l le h (element x e) n i left r k ends = starts l n i (element x e) left r (h.on n i (element x e) left r (record { spelled = k.spelled; nests = k.nests; counted = k.counted }) ends)
-  spine l le h (call x y es) n i left r k ends = starts l n i (call x y es) left r (h.on n i (call x y es) left r (record { spelled = k.spelled; nests = k.nests; counted = k.counted }) ends)
-  spine l le h (construct v e) n i left r k ends = starts l n i (construct v e) left r (h.on n i (construct v e) left r (record { spelled = k.spelled; nests = k.nests; counted = k.counted }) ends)
-  spine l le h (static_cast v e) n i left r k ends = starts l n i (static_cast v e) left r (h.on n i (static_cast v e) left r (record { spelled = k.spelled; nests = k.nests; counted = k.counted }) ends)
-  spine l le h (cast v e) n i left r k ends = starts l n i (cast v e) left r (h.on n i (cast v e) left r (record { spelled = k.spelled; nests = k.nests; counted = k.counted }) ends)
-  spine l le h (parenthesized e) n i left r k ends = starts l n i (parenthesized e) left r (h.on n i (parenthesized e) left r (record { spelled = k.spelled; nests = k.nests; counted = k.counted }) ends)
-  spine l le h (prefix o at e) n i left r k ends = starts l n i (prefix o at e) left r (h.on n i (prefix o at e) left r (record { spelled = k.spelled; nests = k.nests; counted = k.counted }) ends)
+  spine l m is le h nullptr n i r k ends = absurd (omega (arith, k.0))
+  spine l m is le h (conditional at c a b) n i r k ends = absurd (omega (arith, k.0))
+  spine l m is le h (literal v w) n i r k ends = starts l n i (literal v w) _ r _ (h.on n i (literal v w) r k ends)
+  spine l m is le h (boolean true) n i r k ends = starts l n i (boolean true) _ r _ (h.on n i (boolean true) r k ends)
+  spine l m is le h (boolean false) n i r k ends = starts l n i (boolean false) _ r _ (h.on n i (boolean false) r k ends)
+  spine l m is le h (variable x) n i r k ends = starts l n i (variable x) _ r _ (h.on n i (variable x) r k ends)
+  spine l m is le h (element x e) n i r k ends = starts l n i (element x e) _ r _ (h.on n i (element x e) r k ends)
+  spine l m is le h (call x y es) n i r k ends = starts l n i (call x y es) _ r _ (h.on n i (call x y es) r k ends)
+  spine l m is le h (construct v e) n i r k ends = starts l n i (construct v e) _ r _ (h.on n i (construct v e) r k ends)
+  spine l m is le h (static_cast v e) n i r k ends = starts l n i (static_cast v e) _ r _ (h.on n i (static_cast v e) r k ends)
+  spine l m is le h (cast v e) n i r k ends = starts l n i (cast v e) _ r _ (h.on n i (cast v e) r k ends)
+  spine l m is le h (parenthesized e) n i r k ends = starts l n i (parenthesized e) _ r _ (h.on n i (parenthesized e) r k ends)
+  spine l m is le h (prefix o at e) n i r k ends = starts l n i (prefix o at e) _ r _ (h.on n i (prefix o at e) r k ends)
 
   stops_at : (l : ℕ) (r : Symbols) → Ends (suc l) (next r) → operator_of l r ≡ None
   unfolding operator_of
   stops_at l r ends = ends.operator l (omega arith)
 
-  pub level_complete : CompletesAt 0 levels u → (l : ℕ) → l ≤ or_level → CompletesAt l levels (level u l)
+  finishes : (l n : ℕ) (i : Symbols) (e : ExpressionTree) (left : ℕ) (r : Symbols) (w : Option Symbols) → GoesOn l u n i e left r w → operator_of l r ≡ None
+      → Told w ((e, left), r) (level u (suc l) n i)
+  finishes l n i e left r None s stop = record { is = s.reads ∙ chain_stops (level u l) l s.turns e left r stop }
+  finishes l n i e left r (Some w) s stop = record { is = s.reads }
+
+  pub level_told : Tells 0 levels u → (l : ℕ) → l ≤ or_level → Tells l levels (level u l)
   unfolding level
-  level_complete h zero le = h
-  level_complete h (suc l) le = record {
-    on = λ n i e left r k ends.
-        let s = spine l le (level_complete h l (omega arith)) e n i left r k (ends_tighter l (next r) ends) in
-        s.reads ∙ chain_stops (level u l) l s.turns e left r (stops_at l r ends);
+  level_told h zero le = h
+  level_told h (suc l) le = record {
+    on =
+        λ n i e r k ends. finishes l n i e (n - operators e) r (over_expression levels n (suc l) e i r k)
+        (spine l (suc l) refl le (level_told h l (omega arith)) e n i r k (ends_tighter l (next r) ends)) (stops_at l r ends);
   }

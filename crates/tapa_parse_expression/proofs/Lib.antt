@@ -9,3 +9,5 @@ pub mod CompleteLevels
 pub mod Begins
 pub mod CompleteExpressions
 pub mod Lists
+pub mod CompleteLists
+pub mod Passing

@@ -1,5 +1,5 @@
 -- What a reader gives, part by part.
-use Rattle.std.proofs.Common.{◌≡◌, ℕ, Bool, true, false, cond, List, [], ◌∷◌, drop, Option, Some, None, Ok, Err, refl, ap, subst, ◌∙◌, rules}
+use Rattle.std.proofs.Common.{◌≡◌, ℕ, zero, suc, Bool, true, false, cond, List, [], ◌∷◌, drop, Option, Some, None, Ok, Err, refl, ap, subst, ◌∙◌, rules}
 use denote.Enum.Bare.{same_true, true_same}
 use Rattle.tapa_base.specs.declared.kind.Kind.{Kind}
 use Rattle.tapa_syntax.specs.contracts.terminal.Terminal.{the_type}
@@ -9,8 +9,10 @@ use Rattle.tapa_syntax.specs.declared.tree.Name.{Name}
 use Rattle.tapa_syntax.specs.Symbols.{Symbol}
 use Rattle.tapa_syntax.specs.Grammar.{Takes, Means, MeansAt, IsName, IsPlainName, IsLiteral, named, is_name}
 use Rattle.tapa_parse_expression.specs.declared.fault.ParseCode.{ParseCode}
-use Rattle.tapa_parse_expression.specs.declared.fault.ParseCode.TheVariants.{P1}
+use Rattle.tapa_parse_expression.specs.declared.fault.ParseCode.TheVariants.{P1, P2}
 use Rattle.tapa_parse_expression.specs.Readers.{Outcome, Reader, and_then, next, first_place, same, sees, expect, past, name, plain_by, plain_name, literal_value}
+use Rattle.tapa_parse_expression.specs.Reading.{count}
+use Rattle.tapa_parse_expression.specs.Passing.{one_more, or_later}
 
 abbrev pub Symbols : Type 0
 Symbols = List Symbol
@@ -155,3 +157,74 @@ plain_is x i j (s, e, is) = rw (is, e.0) (ap (λ (y : Name). done (y, j)) e.1)
 pub literal_is : (k : Kind) (v : ℕ) (i j : Symbols) → IsLiteral k v i j → literal_value i ≡ Ok ((k, v), j)
 unfolding literal_value
 literal_is k v i j (s, e, is) = rw is (if_true _ (is_seen terminal.Literal (s ∷ j) e.0) (ap (λ (y : Kind × ℕ). done (y, j)) e.1))
+
+-- ---- what is given, or refused where a limit is passed
+
+abbrev pub told : {A : Type 0} → Option Symbols → A × Symbols → Outcome A
+told None y = Ok y
+told (Some w) y = Err (P2, w)
+
+-- a reader gives this, or refuses where a limit is passed
+pub record Told {A : Type 0} (w : Option Symbols) (y : A × Symbols) (o : Outcome A) : Type 0 where
+  pub is : o ≡ told w y
+
+pub told_ok : {A : Type 0} {o : Outcome A} {y : A × Symbols} → o ≡ Ok y → Told None y o
+told_ok e = record { is = e }
+
+pub told_by : {A : Type 0} {w : Option Symbols} {y : A × Symbols} {o p : Outcome A} → o ≡ p → Told w y p → Told w y o
+told_by e h = record { is = e ∙ h.is }
+
+-- the value and the symbols behind it, written otherwise
+pub told_as : {A : Type 0} {w : Option Symbols} {y z : A × Symbols} {o : Outcome A} → y ≡ z → Told w y o → Told w z o
+told_as {A} {w} {y} {z} {o} e h = subst (λ x. Told w x o) e h
+
+-- the count of the operators that are left, written otherwise
+pub told_left : {A : Type 0} {w : Option Symbols} {a : A} {n m : ℕ} {r : Symbols} {o : Outcome (A × ℕ)} → n ≡ m → Told w ((a, n), r) o → Told w ((a, m), r) o
+told_left {A} {w} {a} {n} {m} {r} {o} e h = subst (λ k. Told w ((a, k), r) o) e h
+
+-- the place where a limit is passed, written otherwise
+pub told_over : {A : Type 0} {v w : Option Symbols} {y : A × Symbols} {o : Outcome A} → v ≡ w → Told v y o → Told w y o
+told_over {A} {v} {w} {y} {o} e h = subst (λ v. Told v y o) e h
+
+-- where no limit is passed
+pub told_given : {A : Type 0} {w : Option Symbols} {y : A × Symbols} {o : Outcome A} → w ≡ None → Told w y o → o ≡ Ok y
+told_given e h = (told_over e h).is
+
+-- a part with its limits, and nothing with any behind it
+pub told_only : {A : Type 0} {y : A × Symbols} {o : Outcome A} (first : Option Symbols) → Told (or_later first None) y o → Told first y o
+told_only None h = h
+told_only (Some w) h = h
+
+pub told_true : {A : Type 0} {w : Option Symbols} {y : A × Symbols} {test : Bool} {p : Outcome A} (q : Outcome A) → test ≡ true → Told w y p → Told w y (cond test p q)
+told_true q e h = record { is = if_true q e h.is }
+
+pub told_false : {A : Type 0} {w : Option Symbols} {y : A × Symbols} {test : Bool} {q : Outcome A} (p : Outcome A) → test ≡ false → Told w y q → Told w y (cond test p q)
+told_false p e h = record { is = if_false p e h.is }
+
+-- behind what is given
+pub told_behind : {A B : Type 0} {w : Option Symbols} {y : B × Symbols} {o : Outcome A} (f : A → Reader B) (a : A) (j : Symbols) → o ≡ Ok (a, j) → Told w y (f a j) → Told w y (and_then o f)
+told_behind f a j e h = record { is = then_is f a j e h.is }
+
+-- two parts, each with its limits
+pub told_then : {A B : Type 0} {first later : Option Symbols} {y : B × Symbols} {o : Outcome A} (f : A → Reader B) (a : A) (j : Symbols) → Told first (a, j) o → Told later y (f a j)
+    → Told (or_later first later) y (and_then o f)
+told_then {A} {B} {first} {later} {y} {o} f a j e h = record { is = pick first e.is }
+  where
+    pick : (first : Option Symbols) → o ≡ told first (a, j) → and_then o f ≡ told (or_later first later) y
+    pick None e = then_is f a j e h.is
+    pick (Some w) e = ap (λ o. and_then o f) e
+
+-- a part with its limits, and what is given behind it whatever the limits
+pub told_after : {A B : Type 0} {first : Option Symbols} {y : B × Symbols} {o : Outcome A} (f : A → Reader B) (a : A) (j : Symbols) → Told first (a, j) o → f a j ≡ Ok y → Told first y (and_then o f)
+told_after {A} {B} {first} {y} {o} f a j e h = record { is = pick first e.is }
+  where
+    pick : (first : Option Symbols) → o ≡ told first (a, j) → and_then o f ≡ told first y
+    pick None e = then_is f a j e h
+    pick (Some w) e = ap (λ o. and_then o f) e
+
+-- one more operator
+pub told_counted : {B : Type 0} {y : B × Symbols} (f : ℕ → Reader B) (n : ℕ) (i : Symbols) (behind : ℕ → Option Symbols) → ((m : ℕ) → n ≡ suc m → Told (behind m) y (f m i))
+    → Told (one_more n i behind) y (and_then (count n i) f)
+unfolding count
+told_counted f zero i behind h = record { is = refl }
+told_counted f (suc n) i behind h = h n refl
