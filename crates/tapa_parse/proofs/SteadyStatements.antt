@@ -1,26 +1,24 @@
 -- The readers of statements are steady.
-use Rattle.std.proofs.Common.{◌≡◌, ◌⊎◌, inl, inr, ℕ, zero, suc, ◌<◌, Bool, true, false, cond, List, [], ◌∷◌, length, drop, Option, Some, None, Ok, refl, sym, ap, subst, ◌∙◌, arith}
+use Rattle.std.proofs.Common.{◌≡◌, ◌⊎◌, inl, inr, ℕ, zero, suc, Bool, true, false, List, [], ◌∷◌, drop, Option, Some, None, Ok, refl, sym, ap, subst, ◌∙◌, arith}
 use Rattle.std.specs.Prelude.{not, if◌then◌else◌}
 use Rattle.tapa_base.specs.declared.kind.Kind.{Kind}
 use Rattle.tapa_base.specs.declared.kind.Kind.TheVariants as kind
-use Rattle.tapa_base.specs.declared.text.Place.{Place}
 use Rattle.tapa_base.specs.Spans.{◌⨾◌, Nothing, Is, Maybe, Each}
 use Rattle.tapa_syntax.specs.declared.terminal.Terminal.{Terminal}
 use Rattle.tapa_syntax.specs.declared.terminal.Terminal.TheVariants as terminal
 use Rattle.tapa_syntax.specs.declared.tree.StepOperator.{StepOperator}
 use Rattle.tapa_syntax.specs.declared.tree.StepOperator.TheVariants as step_operator
 use Rattle.tapa_syntax.specs.Symbols.{Symbol}
-use Rattle.tapa_syntax.specs.Trees.{ExpressionTree, nullptr, variable_place, ActionTree, postfix, prefix_step, plain, DeclarationTree, StartTree, no_start, declare_start, act_start, HeadTree, StatementTree, attributed, empty, block, declare, act, if_only, if_else, while, for, while_not_eot, break, continue, Statements, no_statement, statement_then, statements}
-use Rattle.tapa_syntax.specs.Grammar.{Part, Takes, IsName, IsType, is_name, named, step_operator_of, IsExpression, expression_level, IsAction, IsDeclaration, IsAttribute, IsStart, IsHead, IsClosed, IsBare, IsStatement, AreStatements}
+use Rattle.tapa_syntax.specs.Trees.{ExpressionTree, nullptr, variable_place, ActionTree, postfix, prefix_step, plain, DeclarationTree, StartTree, no_start, declare_start, act_start, HeadTree, StatementTree, attributed, empty, block, declare, act, if_only, if_else, while, for, while_not_eot, break, continue, no_statement, statement_then, statements}
+use Rattle.tapa_syntax.specs.Grammar.{Part, Takes, IsName, IsType, is_name, named, step_operator_of, IsExpression, expression_level, IsAction, IsDeclaration, IsAttribute, IsStart, IsClosed, IsBare, IsStatement, AreStatements}
 use Rattle.tapa_parse_expression.specs.declared.fault.ParseCode.TheVariants.{P1, P2}
-use Rattle.tapa_parse_expression.specs.Readers.{Reader, and_then, next, first_place, same, sees, skip, expect, here, name, pure, refuse, ◌>>=◌, ◌>>◌}
-use Rattle.tapa_parse_expression.specs.Reading as spec
-use Rattle.tapa_parse_expression.specs.Reading.{Readers, one_kind, whole, enter, open_level, action_with, declaration_with, attribute, attributes, begins_action, begins_other, begins_statement, start, loop_test, step, head, jump, statement_with, statements_with, simple, braces, otherwise, choice, repetition, counting_loop, transaction_loop, bare_by, bare, inside_with, readers, below_levels}
+use Rattle.tapa_parse_expression.specs.Readers.{Reader, and_then, next, first_place, same, sees, skip, expect, name, pure, refuse, ◌>>=◌, ◌>>◌}
+use Rattle.tapa_parse_expression.specs.Reading.{Readers, one_kind, whole, enter, action_with, declaration_with, attribute, attributes, begins_action, begins_other, begins_statement, start, loop_test, step, head, jump, statement_with, statements_with, simple, braces, otherwise, choice, repetition, counting_loop, transaction_loop, bare_by, bare, inside_with, readers, below_levels}
 use Rattle.tapa_parse_expression.proofs.Parts.{Symbols, then_is, if_true, if_false, is_end, is_seen, sees_is}
 use Rattle.tapa_parse_expression.proofs.SoundTypes.{is_word, takes_it}
 use Rattle.tapa_parse_expression.proofs.SoundExpressions.{MayBe}
 use Rattle.tapa_parse_expression.proofs.CompleteTypes.{takes_longer}
-use Rattle.tapa_parse_expression.proofs.Fronts.{Front, front_one, front_then, Steady, gives, refuses, SameGiven, carry, Full, Any, MaySteady, full_then, full_takes, full_name, mark, no_name, goes_at, steady_map, steady_where, steady_then, steady_value, steady_pure, steady_by, steady_at, steady_test, steady_sees, steady_refuse, steady_expect, steady_name, steady_skips, steady_enter, steady_open, goes_behind}
+use Rattle.tapa_parse_expression.proofs.Fronts.{Front, front_one, front_then, Steady, gives, refuses, SameGiven, carry, Full, Any, MaySteady, full_then, full_takes, full_name, mark, no_name, goes_at, steady_map, steady_where, steady_then, steady_value, steady_pure, steady_by, steady_at, steady_test, steady_sees, steady_refuse, steady_expect, steady_name, steady_skips, steady_enter, steady_open}
 use Rattle.tapa_parse_expression.proofs.SteadyLists.{Many, full_many, some_of, steady_repeat, steady_repeat_some, looks_sees}
 use Rattle.tapa_parse_expression.proofs.SteadyExpressions.{AnyExpression, full_expression}
 use Rattle.tapa_parse_expression.proofs.SteadyCasts.{are_steady}
