@@ -14,7 +14,7 @@ use Rattle.tapa_syntax.specs.Trees.{PlaceTree, variable_place, element_place, Ac
 use Rattle.tapa_syntax.specs.Grammar.{Part, Takes, May, Means, IsName, IsPlainName, IsType, is_name, step_operator_of, assignment_operator_of, IsExpression, sum_level, expression_level, argument_level, IsPlace, IsAction, IsCountForm, IsCount, IsDeclarator, IsDeclaration, IsAttributeArgument, AreAttributeArguments, IsAttribute, IsStatement}
 use Rattle.tapa_parse_expression.specs.Readers.{Reader, next, first_place, no_place, sees, skip, expect, here, name, known, pure, separated_until, ◌>>=◌, ◌>>◌}
 use Rattle.tapa_parse_expression.specs.Reading as spec
-use Rattle.tapa_parse_expression.specs.Reading.{Readers, argument, type_name, whole, place_from, place_with, call_arguments, written, targets, assigned_by, assigned, acted_by, acted, stepped, action_with, form_by, form, counted, declarator_by, declarator, declaration_with, attribute_argument_by, attribute_argument, listed_arguments, attribute_arguments, attribute, attributes, enter, open_level}
+use Rattle.tapa_parse_expression.specs.Reading.{Readers, argument, whole, place_from, place_with, call_arguments, assigned_by, assigned, acted_by, acted, stepped, action_with, form_by, form, counted, declarator_by, declarator, declaration_with, attribute_argument_by, attribute_argument, listed_arguments, attribute_arguments, attribute, attributes}
 use Rattle.tapa_parse_expression.proofs.Parts.{Symbols}
 use Rattle.tapa_parse_expression.proofs.Fronts.{Steady, Full, Any, Literal, MaySteady, full_then, full_takes, full_name, mark, no_name, goes_at, steady_map, steady_then, steady_value, steady_pure, steady_by, steady_at, steady_test, steady_sees, steady_refuse, steady_expect, steady_eat, steady_name, steady_plain, steady_literal, steady_skip, steady_skips, steady_enter, steady_open}
 use Rattle.tapa_parse_expression.proofs.SteadyLists.{Many, Longer, more_of, separated_of, listed_of, steady_repeat, steady_some, steady_separated, steady_separated_until, looks_sees}

@@ -12,7 +12,7 @@ use Rattle.tapa_syntax.specs.Symbols.{Symbol}
 use Rattle.tapa_syntax.specs.Trees.{ExpressionTree, nullptr, variable_place, ActionTree, postfix, prefix_step, plain, DeclarationTree, StartTree, no_start, declare_start, act_start, HeadTree, StatementTree, attributed, empty, block, declare, act, if_only, if_else, while, for, while_not_eot, break, continue, no_statement, statement_then, statements}
 use Rattle.tapa_syntax.specs.Grammar.{Part, Takes, IsName, IsType, is_name, named, step_operator_of, IsExpression, expression_level, IsAction, IsDeclaration, IsAttribute, IsStart, IsClosed, IsBare, IsStatement, AreStatements}
 use Rattle.tapa_parse_expression.specs.declared.fault.ParseCode.TheVariants.{P1}
-use Rattle.tapa_parse_expression.specs.Readers.{Reader, and_then, next, first_place, same, sees, skip, expect, name, pure, refuse, ◌>>=◌, ◌>>◌}
+use Rattle.tapa_parse_expression.specs.Readers.{Reader, next, first_place, same, sees, skip, expect, name, pure, refuse, ◌>>=◌, ◌>>◌}
 use Rattle.tapa_parse_expression.specs.Reading.{Readers, one_kind, whole, enter, action_with, declaration_with, attribute, attributes, begins_action, begins_other, begins_statement, start, loop_test, step, head, jump, statement_with, statements_with, simple, braces, otherwise, choice, repetition, counting_loop, transaction_loop, bare_by, bare, inside_with, readers, below_levels}
 use Rattle.tapa_parse_expression.proofs.Parts.{Symbols, if_true, if_false, is_end, is_seen, sees_is}
 use Rattle.tapa_parse_expression.proofs.SoundTypes.{is_word, takes_it}
