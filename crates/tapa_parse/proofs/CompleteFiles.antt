@@ -39,7 +39,7 @@ constant_word_longer : (i r : Symbols) → (Takes terminal.Const ∣ Takes termi
 constant_word_longer i r (inl t) = takes_longer terminal.Const i r t
 constant_word_longer i r (inr t) = takes_longer terminal.Constexpr i r t
 
-item_longer : (x : ItemTree) (i r : Symbols) → IsItem x i r → length r < length i
+pub item_longer : (x : ItemTree) (i r : Symbols) → IsItem x i r → length r < length i
 item_longer (constant found k x e) i r (j, all, (a, word, (b, type, (c, named, (d, sign, (f, value, end)))))) =
     omega (arith, each_longer IsAttribute attribute_longer found i j all, constant_word_longer j a word, type_longer k a b type, name_longer x b c named, takes_longer terminal.Assign c d sign, expression_longer expression_level e d f value, takes_longer terminal.Semicolon f r end)
 item_longer (task t) i r (j, all, (a, void, (b, named, (c, begin, (d, parameters, (e, close, (f, brace, (g, inside, (x, h, is))))))))) =

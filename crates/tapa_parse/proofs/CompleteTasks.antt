@@ -105,7 +105,7 @@ stream_name_complete x i r (j, named, inl (k, begin, (l, string, close))) free =
 stream_name_complete x i r (j, named, inr is) free =
     then_is _ x j (name_is x i j named) (if_false _ (ap (sees terminal.LeftParen) is ∙ free) (ap (λ (l : Symbols). done (x, l)) is))
 
-stream_name_longer : (x : Name) (i r : Symbols) → (IsName x ⨾ MayBeLabelled) i r → length r < length i
+pub stream_name_longer : (x : Name) (i r : Symbols) → (IsName x ⨾ MayBeLabelled) i r → length r < length i
 stream_name_longer x i r (j, named, inl (k, begin, (l, string, close))) = omega (arith, name_longer x i j named, takes_longer terminal.LeftParen j k begin, takes_longer terminal.Str k l string, takes_longer terminal.RightParen l r close)
 stream_name_longer x i r (j, named, inr is) = omega (arith, name_longer x i j named, ap length is)
 
@@ -113,7 +113,7 @@ depth_begins : (c : Option CountTree) (i j r : Symbols) → Maybe (λ count. Tak
 depth_begins None i j r is greater = rw (is, next_is terminal.Greater j r greater) refl
 depth_begins (Some count) i j r (k, comma, is) greater = rw (next_is terminal.Comma i k comma) refl
 
-count_longer : (count : CountTree) (i r : Symbols) → IsCount count i r → length r < length i
+pub count_longer : (count : CountTree) (i r : Symbols) → IsCount count i r → length r < length i
 count_longer count i r h = form_longer count.form i r h.1
 
 pub stream_longer : (s : StreamTree) (i r : Symbols) → IsStream s i r → length r < length i
@@ -150,7 +150,7 @@ unfolding invocation_argument
 argument_told limit levels R h a i r k ends =
     told_after _ a.value r (whole_told expression_level levels limit R.expression h.expressions.expression i a.value r k.1 ends) (ap (λ p. done (argument_tree p a.value, r)) (stands i a.place k.0))
 
-argument_longer : (a : ArgumentTree) (i r : Symbols) → IsArgument a i r → length r < length i
+pub argument_longer : (a : ArgumentTree) (i r : Symbols) → IsArgument a i r → length r < length i
 argument_longer a i r h = expression_longer expression_level a.value i r h.1
 
 -- the arguments of an invocation, each behind a comma

@@ -9,3 +9,6 @@ pub mod CompleteLengths
 pub mod CompleteStatements
 pub mod CompleteTasks
 pub mod CompleteFiles
+pub mod SteadyActions
+pub mod SteadyStatements
+pub mod SteadyTasks

@@ -77,7 +77,7 @@ module _ (limit levels : ℕ) (inner : Option Readers) (h : MayBe (Sound limit) 
   abbrev IsBelowRead : Symbols → StatementTree → Symbols → Type 0
   IsBelowRead i s r = IsPart IsWhole statement_nesting statement_operators levels limit s i r
 
-  statement_reads : Reads IsWhole statement_nesting statement_operators levels limit (statement_with limit inner)
+  pub statement_reads : Reads IsWhole statement_nesting statement_operators levels limit (statement_with limit inner)
   unfolding statement_with
   statement_reads i =
       yields_if (begins_statement (next i)) (λ _. enters (Sound limit) _ levels inner i h (λ R b. weaker (b.sound.inside i) (λ s r k. record { spelled = k.spelled; nests = omega (arith, b.fewer, k.nests); within = k.within })))

@@ -105,7 +105,7 @@ mode_sound i =
     (λ e. yields_pure (λ m r. Maybe IsMode m i r) None i refl)
 
 -- an expression begins with a symbol
-starts : (e : ExpressionTree) (i r : Symbols) → IsExpression expression_level e i r → StandsAt (first_place i) i
+pub starts : (e : ExpressionTree) (i r : Symbols) → IsExpression expression_level e i r → StandsAt (first_place i) i
 starts e (x ∷ i) r h = refl
 starts e [] r h = absurd (omega (arith, expression_longer expression_level e [] r h))
 

@@ -145,7 +145,7 @@ no_word terminal.Int64 e = absurd cc
 no_word terminal.Uint64 e = absurd cc
 no_word _ e = refl
 
-no_type : (j : Symbols) → begins_type (next j) ≡ false → cast_behind j ≡ false
+pub no_type : (j : Symbols) → begins_type (next j) ≡ false → cast_behind j ≡ false
 unfolding sees
 no_type j e = if_false _ (differ_by begins_type (next j) terminal.Std (λ f. cc)) (rw (no_word (next j) e) refl)
 

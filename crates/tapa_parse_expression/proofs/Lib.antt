@@ -11,3 +11,8 @@ pub mod CompleteExpressions
 pub mod Lists
 pub mod CompleteLists
 pub mod Passing
+pub mod Fronts
+pub mod SteadyLists
+pub mod SteadyTypes
+pub mod SteadyExpressions
+pub mod SteadyCasts

@@ -90,7 +90,7 @@ looser n (prefix o at e) i r h = h
 looser n (binary o at a b) i r h = (omega (arith, h.0), h.1)
 looser n (conditional at c a b) i r h = (omega (arith, h.0), h.1)
 
-operator_sound : (l : ℕ) (i : Symbols) (o : BinaryOperator) → operator_of l i ≡ Some o → (binds_at o ≡ l) × (binary_operator_of (next i) ≡ Some o)
+pub operator_sound : (l : ℕ) (i : Symbols) (o : BinaryOperator) → operator_of l i ≡ Some o → (binds_at o ≡ l) × (binary_operator_of (next i) ≡ Some o)
 unfolding operator_of
 operator_sound l i o e = pick (binary_operator_of (next i)) refl e
   where

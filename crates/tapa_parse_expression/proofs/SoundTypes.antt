@@ -26,7 +26,7 @@ words m k e = pick (word_kind m) refl e
     pick None is e = inr e
     pick (Some l) is e = inl (is ∙ e)
 
-is_word : (k : Kind) (i r : Symbols) → Means one_kind k i r → IsOne k i r
+pub is_word : (k : Kind) (i r : Symbols) → Means one_kind k i r → IsOne k i r
 is_word k i r (x, e, is) = pick (words x.terminal k e)
   where
     pick : (word_kind x.terminal ≡ Some k) ⊎ (sized_kind x.terminal ≡ Some k) → IsOne k i r
