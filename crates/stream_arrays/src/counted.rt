@@ -252,6 +252,9 @@ fn write_invokes(
     ensures err { IfErr result (λ e. e ≡ ArrayRefusal.OutOfMemory) }
 {
     for number in 0..count {
+        if out.is_full() {
+            return Ok(());
+        }
         write_invoke(text, number, pieces, out)?;
     }
     Ok(())

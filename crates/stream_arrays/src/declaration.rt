@@ -225,6 +225,9 @@ fn write_elements(
     let word = text_of(text, name);
     out.element(word, 0)?;
     for i in 1..count {
+        if out.is_full() {
+            return Ok(());
+        }
         out.word(b",")?;
         out.element(word, i)?;
     }
