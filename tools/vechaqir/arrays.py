@@ -112,6 +112,7 @@ class Writer:
         return self.constants.get(self.texts[i]) if self.is_name(i) else None
 
     def count(self, i: int) -> int:
+        self.stray(i, i + 1)
         number = self.number(i)
         if number is None or not 1 <= number <= ELEMENTS:
             raise Refused("A1", self.all[i][2])
@@ -197,8 +198,9 @@ class Writer:
         return found + [(start, j)]
 
     def is_element(self, i: int) -> bool:
-        """A name of an array with an index that is a number."""
-        return self.array(i) is not None and self.texts[i + 1] == "[" and self.texts[i + 3] == "]" and self.number(i + 2) is not None
+        """A name of an array with an index that is a number, and no name of an array."""
+        is_indexed = self.array(i) is not None and self.texts[i + 1] == "[" and self.texts[i + 3] == "]"
+        return is_indexed and self.number(i + 2) is not None and self.array(i + 2) is None
 
     def element(self, i: int) -> Word:
         if (self.number(i + 2) or 0) >= (self.array(i) or 0):

@@ -109,6 +109,12 @@ def array_of(case: Case) -> Optional[int]:
     return next((it.count for it in (task.streams if task else []) if it.name == case.word()), None)
 
 
+def arrays_of(case: Case) -> List[str]:
+    """The names of the task's arrays."""
+    task = case.view.task(case.at)
+    return [it.name for it in (task.streams if task else []) if it.is_array]
+
+
 def other_length(case: Case) -> Why:
     length, view = array_of(case), case.view
     opening = view.enclosing(case.at) or 0
@@ -123,6 +129,8 @@ def out_of_place(case: Case) -> Why:
     if case.word(1) == "[":
         index = case.word(2)
         value = int(index) if index.isdecimal() else view.source.counts.get(index)
+        if index in arrays_of(case):
+            return Why([f"`{index}` is an array in this task, and no constant there"], "a number, or a constant of the file of another name")
         if case.word(3) != "]" or value is None:
             return Why([f"the index of `{name}` is computed, and an element's place is known before anything runs"], "a number, or a constant of the file that is one")
         return Why([f"`{name}` has {counted(length or 0, 'element')}: `{name}[0]` to `{name}[{(length or 1) - 1}]`"], "an index below the number of elements")

@@ -1,6 +1,7 @@
--- What is written out of a source has as many line feeds as the source.
-use Rattle.std.proofs.Common.{◌≡◌, ℕ, zero, suc, ◌≤◌, List, [], ◌∷◌, ◌++◌, length, take, drop, Ok, refl, sym, ap, ◌∙◌, subst, arith}
+-- What is written out of a source has as many line feeds as the source, form by form; and what has a tree is written out as it is.
+use Rattle.std.proofs.Common.{◌≡◌, ℕ, zero, suc, ◌≤◌, true, List, [], ◌∷◌, ◌++◌, length, take, drop, Ok, refl, sym, ap, ◌∙◌, subst, arith}
 use Rattle.std.specs.Prelude.{nat_le, slice_range}
+use Rattle.std.proofs.Math.Seq.{drop-append_seam}
 use Rattle.std.proofs.lemmas.List.Elements.{filter-append}
 use Rattle.std.proofs.lemmas.List.Folds.{drop_split}
 use Rattle.tapa_base.specs.Gaps.{Bytes}
@@ -10,8 +11,10 @@ use Rattle.tapa_lex.proofs.Whole.{are_slices, in_order}
 use Rattle.stream_arrays.specs.declared.fault.ArrayCode.TheVariants.{A4}
 use Rattle.stream_arrays.specs.Words.{is_line_feed, end_of}
 use Rattle.stream_arrays.specs.Written.{Scope, faulty, step, written_from, nothing, whole, most, within_most, written_out}
-use Rattle.command_source.specs.Lines.{line_feeds}
-use Rattle.command_source.specs.Source.{IsWrittenOut}
+use Rattle.command_source.specs.Lines.{TextsKeepLines, FormsKeepLines, FilesStay}
+use Rattle.std.proofs.lemmas.Bool.Decides.{nat_tests}
+use Rattle.stream_arrays.specs.Plain.{is_in_order}
+use Rattle.stream_arrays.proofs.Copies.{tree_text}
 use Rattle.stream_arrays.proofs.Feeds.{feeds}
 use Rattle.stream_arrays.proofs.FormFeeds.{all_drop, OnOk, ok_then, ok_either, AreSliced, Keeps, step_keeps}
 
@@ -48,9 +51,28 @@ from_keeps text (suc turns) s before at (l ∷ ls) h k =
     (from_keeps text turns r.scope (before ++ l ∷ take r.more ls) to (drop r.more ls) (all_drop (IsSliceOf text) r.more ls h.1) (order_behind r.more l.to ls k.1)) (λ rest m.
     joined text (slice_range text at l.from) r.written rest at l.from to k.0 later refl f m))
 
-pub lines_kept : (text out : List ℕ) → IsWrittenOut text out → line_feeds out ≡ line_feeds text
-lines_kept text out w =
+pub forms_keep : FormsKeepLines
+forms_keep text lexemes before l ls s r h e f =
+    let here : drop (length before) lexemes ≡ l ∷ ls = ap (drop (length before)) e ∙ drop-append_seam before (l ∷ ls) in
+    let sliced : AreSliced text (l ∷ ls) = subst (AreSliced text) here (all_drop (IsSliceOf text) (length before) lexemes (are_slices text lexemes h)) in
+    ap length (subst (OnOk (Keeps text l ls)) f (step_keeps text s before l ls sliced))
+
+pub texts_keep : TextsKeepLines
+texts_keep text out w =
     let kept : OnOk (From text 0) (written_out text w.lexemes) =
     ok_then (From text 0) (From text 0) (whole text w.lexemes) within_most (from_keeps text (length w.lexemes) nothing [] 0 w.lexemes (are_slices text w.lexemes w.are) (in_order text w.lexemes w.are)) (λ o m.
     ok_either (From text 0) (nat_le (length o) most) (Ok o) (faulty A4 (record { line = 1; col = 1 })) m tt) in
     ap length (subst (OnOk (From text 0)) w.gives kept)
+
+-- ---- texts that have a tree
+
+still_in_order : (text : Bytes) (at : ℕ) (ls : List Lexeme) → at ≤ length text → InOrder at ls → AreSliced text ls → is_in_order text at ls ≡ true
+still_in_order text at [] a h k = grind (arith, nat_tests)
+still_in_order text at (l ∷ ls) a h k =
+    let first : nat_le at l.from ≡ true = grind (arith, nat_tests, h.0) in
+    let second : nat_le l.from l.to ≡ true = grind (arith, nat_tests, k.0.some) in
+    let rest : is_in_order text l.to ls ≡ true = still_in_order text l.to ls k.0.within h.1 k.1 in
+    rw (first, second) rest
+
+pub files_stay : FilesStay
+files_stay text lexemes items h tree b = tree_text text lexemes items b tree (still_in_order text 0 lexemes (omega arith) (in_order text lexemes h) (are_slices text lexemes h))

@@ -1,22 +1,19 @@
 -- Every source is legal or is refused, and none is both.
 use Rattle.std.specs.Prelude.{Result}
-use Rattle.std.proofs.Common.{◌≡◌, ◌⊎◌, inl, inr, ℕ, List, [], ◌∷◌, Ok, Err, refl, sym, subst, arith}
+use Rattle.std.proofs.Common.{◌≡◌, ◌⊎◌, inl, inr, ℕ, List, [], ◌∷◌, Ok, Err, refl, sym, subst}
 use Rattle.tapa_base.specs.declared.text.Place.{Place}
 use Rattle.tapa_syntax.specs.declared.lexeme.Lexeme.{Lexeme}
 use Rattle.tapa_syntax.specs.Grammar.{IsTreeOf}
 use Rattle.tapa_syntax.specs.Lexemes.{HasLexemes}
-use Rattle.tapa_syntax.specs.Limits.{most_levels, most_operators}
-use Rattle.tapa_syntax.specs.Symbols.{Symbol, symbols_of}
+use Rattle.tapa_syntax.specs.Symbols.{symbols_of}
 use Rattle.tapa_syntax.specs.Trees.{ItemTree}
 use Rattle.tapa_lex.specs.declared.fault.LexCode.{LexCode}
 use Rattle.tapa_lex.specs.Refusals.{IsRefused}
 use Rattle.tapa_lex.proofs.Whole.{one_list, not_both}
 use Rattle.tapa_parse_expression.specs.declared.fault.ParseCode.{ParseCode}
-use Rattle.tapa_parse_expression.specs.Readers.{Outcome}
-use Rattle.tapa_parse.specs.Answers.{stopped_at}
-use Rattle.tapa_parse.specs.Reading as reading
-use Rattle.tapa_parse.proofs.CompleteFiles.{file_complete, one_tree}
-use Rattle.tapa_parse.proofs.SoundTasks.{found_sound}
+use Rattle.tapa_parse.specs.Answers.{stopped_at, IsFile, IsRefusedSomewhere}
+use Rattle.tapa_parse.proofs.CompleteFiles.{one_tree}
+use Rattle.tapa_parse.proofs.Places.{file_or_refused}
 use Rattle.check_scope.specs.Answers.{IsFirst}
 use Rattle.check_scope.specs.declared.fault.Broken.{Broken}
 use Rattle.stream_arrays.specs.declared.fault.ArrayCode.{ArrayCode}
@@ -39,12 +36,10 @@ Parsed text = ((items : List ItemTree) × HasFile text items) ⊎ ((code : Parse
 abbrev Checked : List ℕ → List ℕ → Type 0
 Checked text top = IsLegalText text top ⊎ ((broken : Broken) × BreaksRule text top broken)
 
--- reading the symbols gives a file or stops
-parsed : (text : List ℕ) (lexemes : List Lexeme) → HasLexemes text lexemes → (o : Outcome (List ItemTree)) → reading.file most_operators (reading.below most_levels) (symbols_of text lexemes) ≡ o → Parsed text
-parsed text lexemes h (Ok (items, left)) e =
-    let found = found_sound (symbols_of text lexemes) left items e in
-    inl (items, record { lexemes = lexemes; are = h; spelled = found.0; within = found.1 })
-parsed text lexemes h (Err (code, left)) e = inr (code, stopped_at text left, record { lexemes = lexemes; are = h; left = left; at = refl; stops = e })
+-- the symbols are a file or are refused
+parsed : (text : List ℕ) (lexemes : List Lexeme) → HasLexemes text lexemes → IsFile (symbols_of text lexemes) ⊎ IsRefusedSomewhere (symbols_of text lexemes) → Parsed text
+parsed text lexemes h (inl (items, tree, within)) = inl (items, record { lexemes = lexemes; are = h; spelled = tree; within = within })
+parsed text lexemes h (inr (code, left, refused)) = inr (code, stopped_at text left, record { lexemes = lexemes; are = h; refused = (left, refl, refused) })
 
 -- a file breaks no rule or there is a first one
 checked : (text top : List ℕ) (items : List ItemTree) → HasFile text items → (faults : List Broken) → program_faults items top ≡ faults → Checked text top
@@ -63,7 +58,7 @@ text_legal_or_refused text top = of_lexed (lexemes_or_refusal text)
     of_parsed (inr h) = inr (inr (inl h))
 
     of_lexed : Lexed text → IsLegalText text top ⊎ IsRefusedTextSomehow text top
-    of_lexed (inl (lexemes, h)) = of_parsed (parsed text lexemes h (reading.file most_operators (reading.below most_levels) (symbols_of text lexemes)) refl)
+    of_lexed (inl (lexemes, h)) = of_parsed (parsed text lexemes h (file_or_refused (symbols_of text lexemes)).0)
     of_lexed (inr h) = inr (inl h)
 
 -- ---- no text is both
@@ -74,16 +69,12 @@ one_file text items others h k =
     let same = one_list text h.lexemes k.lexemes h.are k.are in
     one_tree (symbols_of text k.lexemes) items others (subst (λ (l : List Lexeme). IsTreeOf (symbols_of text l) items) same h.spelled) k.spelled
 
-read_once : (o : Outcome (List ItemTree)) (items : List ItemTree) (code : ParseCode) (left : List Symbol) → o ≡ Ok (items, []) → o ≡ Err (code, left) → ⊥
-read_once o items code left e f = cc
-
--- what has a file is read
+-- what has a file is not refused
 no_file : (text : List ℕ) (items : List ItemTree) (code : ParseCode) (place : Place) → HasFile text items → IsUnread text code place → ⊥
 no_file text items code place h k =
     let same = one_list text h.lexemes k.lexemes h.are k.are in
     let spelled = subst (λ (l : List Lexeme). IsTreeOf (symbols_of text l) items) same h.spelled in
-    read_once (reading.file most_operators (reading.below most_levels) (symbols_of text k.lexemes)) items code k.left
-    (file_complete most_operators most_levels (symbols_of text k.lexemes) items spelled h.within.levels h.within.longest (omega arith)) k.stops
+    (file_or_refused (symbols_of text k.lexemes)).1 (items, spelled, h.within) (code, k.refused.0, k.refused.2)
 
 not_first : (faults : List Broken) (broken : Broken) → faults ≡ [] → IsFirst faults broken → ⊥
 not_first faults broken none first = subst (λ (l : List Broken). IsFirst l broken) none first

@@ -8,19 +8,18 @@ use Rattle.tapa_syntax.specs.declared.tree.File.{File}
 use Rattle.tapa_syntax.specs.Lexemes.{HasLexemes}
 use Rattle.tapa_syntax.specs.Flat.{flat_program}
 use Rattle.tapa_syntax.specs.Grammar.{IsTreeOf}
-use Rattle.tapa_syntax.specs.Limits.{most_levels, most_operators, IsWithinLimits}
+use Rattle.tapa_syntax.specs.Limits.{IsWithinLimits}
 use Rattle.tapa_syntax.specs.Symbols.{symbols_of}
 use Rattle.tapa_syntax.specs.Trees.{ItemTree, file_of}
 use Rattle.tapa_parse_expression.specs.declared.fault.ParseCode.{ParseCode}
 use Rattle.tapa_parse.specs.declared.fault.ParseFault.TheVariants.{At, OutOfMemory}
-use Rattle.tapa_parse.specs.Answers.{Reads, Answers}
-use Rattle.tapa_parse.specs.Reading as reading
+use Rattle.tapa_parse.specs.Answers.{Answers, Refuses}
 use Rattle.check_scope.specs.Answers as check
 use Rattle.check_scope.specs.declared.fault.Broken.{Broken}
 use Rattle.check_scope.specs.declared.fault.CheckFault.{CheckFault}
 use Rattle.check_scope.specs.declared.fault.CheckFault.TheVariants as check_fault
 use Rattle.stream_check.specs.Programs.{program_faults, program_of}
-use Rattle.command_source.specs.Source.{StopsAt, HasTree, HasNoTree, IsProgramOfText, IsRefusedText}
+use Rattle.command_source.specs.Source.{HasTree, HasNoTree, IsProgramOfText, IsRefusedText}
 use Rattle.command_source.specs.declared.source.SourceCode.TheVariants.{Rule}
 
 pub has_tree : (text : List ℕ) (lexemes seen : List Lexeme) (file : File) → HasLexemes text lexemes → seen ≡ lexemes → IsTreeOf (symbols_of text seen) (file_of file) × IsWithinLimits (file_of file) → HasTree text file
@@ -30,13 +29,13 @@ has_tree text lexemes seen file are same found =
 no_memory : (place : Place) (code : ParseCode) → At code place ≡ OutOfMemory → ⊥
 no_memory place code e = cc
 
-pub has_no_tree : (text : List ℕ) (lexemes seen : List Lexeme) (place : Place) (code : ParseCode) → HasLexemes text lexemes → seen ≡ lexemes → Reads text (Err (At code place)) (reading.file most_operators (reading.below most_levels) (symbols_of text seen))
+pub has_no_tree : (text : List ℕ) (lexemes seen : List Lexeme) (place : Place) (code : ParseCode) → HasLexemes text lexemes → seen ≡ lexemes → Refuses text (symbols_of text seen) (At code place)
     → ((items : List ItemTree) → IsTreeOf (symbols_of text seen) items → IsWithinLimits items → Answers (Err (At code place)) items) → HasNoTree text place code
-has_no_tree text lexemes seen place code are same reads only = record {
+has_no_tree text lexemes seen place code are same refused only = record {
   lexemes = lexemes;
   are = are;
   none = λ items tree within. no_memory place code (only items (subst (λ (l : List Lexeme). IsTreeOf (symbols_of text l) items) (sym same) tree) within);
-  stops = subst (λ (l : List Lexeme). StopsAt text (symbols_of text l) place code) same reads;
+  refused = subst (λ (l : List Lexeme). Refuses text (symbols_of text l) (At code place)) same refused;
 }
 
 -- what the check of a file answers

@@ -7,15 +7,15 @@ use Rattle.tapa_syntax.specs.declared.tree.File.{File}
 use Rattle.tapa_syntax.specs.Lexemes.{HasLexemes}
 use Rattle.tapa_syntax.specs.Flat.{flat_program}
 use Rattle.tapa_syntax.specs.Grammar.{IsTreeOf}
-use Rattle.tapa_syntax.specs.Limits.{most_levels, most_operators, IsWithinLimits}
-use Rattle.tapa_syntax.specs.Symbols.{Symbol, symbols_of}
+use Rattle.tapa_syntax.specs.Limits.{IsWithinLimits}
+use Rattle.tapa_syntax.specs.Symbols.{symbols_of}
 use Rattle.tapa_syntax.specs.Trees.{ItemTree, file_of}
 use Rattle.tapa_lex.specs.declared.fault.LexCode.TheVariants as lex
 use Rattle.tapa_lex.specs.Refusals.{IsRefused}
 use Rattle.tapa_parse_expression.specs.declared.fault.ParseCode.{ParseCode}
 use Rattle.tapa_parse_expression.specs.declared.fault.ParseCode.TheVariants as parse
-use Rattle.tapa_parse.specs.Answers.{stopped_at}
-use Rattle.tapa_parse.specs.Reading as reading
+use Rattle.tapa_parse.specs.Answers.{Refuses}
+use Rattle.tapa_parse.specs.declared.fault.ParseFault.TheVariants.{At}
 use Rattle.stream_arrays.specs.declared.fault.ArrayCode.{ArrayCode}
 use Rattle.stream_arrays.specs.declared.fault.ArrayCode.TheVariants as arrays
 use Rattle.stream_arrays.specs.Written.{written_out}
@@ -49,16 +49,12 @@ pub record IsProgramOfText (text top : List ℕ) (program : Program) : Type 0 wh
   pub legal : program_faults (file_of file) top ≡ []
   pub means : flat_program program ≡ program_of (file_of file) top
 
--- reading the symbols of a text from left to right stops at this place, with this code
-abbrev pub StopsAt : List ℕ → List Symbol → Place → ParseCode → Type 0
-StopsAt text symbols place code = (left : List Symbol) × (place ≡ stopped_at text left) × (reading.file most_operators (reading.below most_levels) symbols ≡ Err (code, left))
-
--- the grammar has no file for the lexemes of the text, within the limits, and reading them stops so
+-- the grammar has no file for the lexemes of the text, within the limits, and refuses them at this place by this rule
 pub record HasNoTree (text : List ℕ) (place : Place) (code : ParseCode) : Type 0 where
   pub lexemes : List Lexeme
   pub are : HasLexemes text lexemes
   pub none : (items : List ItemTree) → IsTreeOf (symbols_of text lexemes) items → IsWithinLimits items → ⊥
-  pub stops : StopsAt text (symbols_of text lexemes) place code
+  pub refused : Refuses text (symbols_of text lexemes) (At code place)
 
 -- the text has a tree, and this is the first rule that it breaks with this top task
 pub record BreaksFirst (text top : List ℕ) (broken : Broken) : Type 0 where

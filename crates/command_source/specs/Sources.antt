@@ -1,17 +1,17 @@
 -- What a source is, with the name of its top task: legal, or refused by the lexer, by the rules on arrays, by the grammar and its limits, or by a rule beyond it.
-use Rattle.std.specs.Prelude.{◌≡◌, ◌⊎◌, ℕ, List, [], Err}
+use Rattle.std.specs.Prelude.{◌≡◌, ◌⊎◌, ℕ, List, []}
 use Rattle.tapa_base.specs.declared.text.Place.{Place}
 use Rattle.tapa_syntax.specs.declared.lexeme.Lexeme.{Lexeme}
 use Rattle.tapa_syntax.specs.Grammar.{IsTreeOf}
 use Rattle.tapa_syntax.specs.Lexemes.{HasLexemes}
-use Rattle.tapa_syntax.specs.Limits.{most_levels, most_operators, IsWithinLimits}
-use Rattle.tapa_syntax.specs.Symbols.{Symbol, symbols_of}
+use Rattle.tapa_syntax.specs.Limits.{IsWithinLimits}
+use Rattle.tapa_syntax.specs.Symbols.{symbols_of}
 use Rattle.tapa_syntax.specs.Trees.{ItemTree}
 use Rattle.tapa_lex.specs.declared.fault.LexCode.{LexCode}
 use Rattle.tapa_lex.specs.Refusals.{IsRefused}
 use Rattle.tapa_parse_expression.specs.declared.fault.ParseCode.{ParseCode}
-use Rattle.tapa_parse.specs.Answers.{stopped_at}
-use Rattle.tapa_parse.specs.Reading as reading
+use Rattle.tapa_parse.specs.Answers.{Refuses}
+use Rattle.tapa_parse.specs.declared.fault.ParseFault.TheVariants.{At}
 use Rattle.check_scope.specs.Answers.{IsFirst}
 use Rattle.check_scope.specs.declared.fault.Broken.{Broken}
 use Rattle.stream_arrays.specs.declared.fault.ArrayCode.{ArrayCode}
@@ -31,13 +31,11 @@ pub record IsLegalText (text top : List ℕ) : Type 0 where
   pub file : HasFile text items
   pub legal : program_faults items top ≡ []
 
--- the text has lexemes, and reading them from left to right stops at this place, with this code
+-- the text has lexemes, and the grammar refuses them at this place by this rule
 pub record IsUnread (text : List ℕ) (code : ParseCode) (place : Place) : Type 0 where
   pub lexemes : List Lexeme
   pub are : HasLexemes text lexemes
-  pub left : List Symbol
-  pub at : place ≡ stopped_at text left
-  pub stops : reading.file most_operators (reading.below most_levels) (symbols_of text lexemes) ≡ Err (code, left)
+  pub refused : Refuses text (symbols_of text lexemes) (At code place)
 
 -- the text has a file, and this is the first rule that it breaks with this top task
 pub record BreaksRule (text top : List ℕ) (broken : Broken) : Type 0 where

@@ -7,8 +7,7 @@ ghost use Rattle.tapa_syntax.specs.Symbols.{symbols_of};
 ghost use Rattle.tapa_syntax.specs.Trees.{ItemTree};
 ghost use Rattle.stream_check.specs.Programs.{program_faults, program_of};
 ghost use Rattle.command_source.specs.Labels.{HasOwnLabels};
-ghost use Rattle.command_source.specs.Lines.{line_feeds};
-ghost use Rattle.command_source.specs.Source.{IsWrittenOut};
+ghost use Rattle.command_source.specs.Lines.{TextsKeepLines, FormsKeepLines, FilesStay};
 ghost use Rattle.command_source.specs.Sources.{IsLegal, IsRefusedSomehow};
 ghost use Rattle.command_source.specs.Writers.{HasJoinedWriters};
 
@@ -33,8 +32,14 @@ pub fn law_writers_are_joined()
     ensures { (items : List ItemTree) (top : List ℕ) → program_faults items top ≡ [] → HasJoinedWriters (program_of items top) }
 {}
 
-/// The text in which the arrays of a source are written out has as many line ends as the source, so that what stands behind a form
-/// is on its own line there.
+/// The text in which the arrays of a source are written out has as many line ends as the source, and what is written of each form has
+/// those that stand in it, so that what stands behind a form is on its own line there.
 pub fn law_written_out_keeps_lines()
-    ensures { (text out : List ℕ) → IsWrittenOut text out → line_feeds out ≡ line_feeds text }
+    ensures texts { TextsKeepLines }
+    ensures forms { FormsKeepLines }
+{}
+
+/// A text that the grammar has a tree for is written out as it is, also where `streams` is a name in it.
+pub fn law_files_are_written_out_as_they_are()
+    ensures { FilesStay }
 {}

@@ -13,8 +13,8 @@ mod status;
 pub use files::{DATA_LIMIT, NO_DATA, read_file, read_source, read_values};
 pub use inputs::read_input;
 pub use laws::{
-    law_every_source_is_legal_or_refused, law_labels_tell_parts_apart, law_writers_are_joined,
-    law_written_out_keeps_lines,
+    law_every_source_is_legal_or_refused, law_files_are_written_out_as_they_are,
+    law_labels_tell_parts_apart, law_writers_are_joined, law_written_out_keeps_lines,
 };
 pub use program::{SourceFault, read_program};
 pub use refusal::{DumpFault, Refusal, put_lines, tell, tell_memory, tell_usage};

@@ -7,14 +7,14 @@ use Rattle.tapa_syntax.specs.declared.lexeme.Lexeme.{Lexeme}
 use Rattle.tapa_syntax.specs.declared.terminal.Terminal.TheVariants as terminal
 use Rattle.tapa_syntax.specs.Lexemes.{IsSliceOf}
 use Rattle.tapa_syntax.specs.Symbols.{text_of}
-use Rattle.stream_arrays.specs.declared.fault.ArrayCode.TheVariants.{A1, A2, A3}
+use Rattle.stream_arrays.specs.declared.fault.ArrayCode.TheVariants.{A2, A3}
 use Rattle.stream_arrays.specs.declared.piece.Piece.{Piece}
 use Rattle.stream_arrays.specs.declared.piece.Piece.TheVariants.{Word, Comma, Instance, Element}
 use Rattle.stream_arrays.specs.Standing.{is, is_named, type_size}
-use Rattle.stream_arrays.specs.Numbers.{may_count, count_of}
+use Rattle.stream_arrays.specs.Numbers.{may_count}
 use Rattle.stream_arrays.specs.Forms.{Declaration, label_size, names_behind, names_from, declared_as, with_names, with_depth, behind_count, behind_type, with_type, begins_declaration, declaration, Invocation, begins_invocation, invoked, inside_size, invocation, argument_size}
 use Rattle.stream_arrays.specs.Words.{start_of, end_of, form_text, element_name, below, more_elements, elements, more_names, name_words, depth_words, words_of, piece_word, invoke_words}
-use Rattle.stream_arrays.specs.Written.{Scope, Step, Outcome, and_then, faulty, some_or, array_at, without_arrays, without_array, with_arrays, element_in, index_in, first_place, declaration_words, declaration_step, whole_array, instances, element_pieces, plain_pieces, by_element, by_array, argument_pieces, pieces_from, head_size, invocation_pieces, invocation_step, element_step, argument_element, other_step, step}
+use Rattle.stream_arrays.specs.Written.{Scope, Step, Outcome, and_then, faulty, count_in, array_at, without_arrays, without_array, with_arrays, element_in, index_in, first_place, declaration_words, declaration_step, whole_array, instances, element_pieces, plain_pieces, by_element, by_array, argument_pieces, pieces_from, head_size, invocation_pieces, invocation_step, element_step, argument_element, other_step, step}
 use Rattle.stream_arrays.proofs.Feeds.{feeds, Clean, element_clean, text_is, lexeme_clean, form_feeds}
 
 -- ---- what holds of all of a list, where a value is there, where a reading succeeds
@@ -194,7 +194,7 @@ declared_words text d n (e, (p, h)) = (
 
 declaration_keeps : (text : Bytes) (s : Scope) (l : Lexeme) (ls : List Lexeme) (d : Declaration) → Parts text d → OnOk (Keeps text l ls) (declaration_step text s (l ∷ ls) d)
 declaration_keeps text s l ls d h =
-    ok_next (Keeps text l ls) (some_or A1 d.count.place (count_of text s.constants d.count)) _ (λ n.
+    ok_next (Keeps text l ls) (count_in text s d.count) _ (λ n.
     ok_next (Keeps text l ls) (without_array text s.arrays d.depth) _ (λ u.
     ok_next (Keeps text l ls) (with_arrays text n s.arrays d.names) _ (λ arrays.
     form_feeds text (l ∷ take (length (l ∷ ls) - suc d.left) ls) (declaration_words text d n) (declared_words text d n h))))
@@ -271,7 +271,7 @@ invoked_words text pieces n h = all_flat Clean (Any {A = ℕ}) (λ i. map (piece
 invocation_keeps : (text : Bytes) (s : Scope) (l : Lexeme) (ls : List Lexeme) (v : Invocation) → AreClean text (l ∷ ls) → InsideClean text v → OnOk (Keeps text l ls) (invocation_step text s (l ∷ ls) v)
 invocation_keeps text s l ls v h k =
     let size : head_size + length v.inside + 1 ≡ suc (head_size + length v.inside) = omega arith in
-    ok_next (Keeps text l ls) (some_or A1 v.count.place (count_of text s.constants v.count)) _ (λ n.
+    ok_next (Keeps text l ls) (count_in text s v.count) _ (λ n.
     ok_then (ArePieces text) (Keeps text l ls) (invocation_pieces text s (l ∷ ls) v.inside n) _ (invoked_pieces text s (l ∷ ls) v.inside n h k) (λ pieces p.
     ap (λ m. feeds (form_text text (take m (l ∷ ls)) (invoke_words text pieces n))) size
     ∙ form_feeds text (l ∷ take (head_size + length v.inside) ls) (invoke_words text pieces n) (invoked_words text pieces n p)))

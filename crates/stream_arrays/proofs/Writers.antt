@@ -1,7 +1,9 @@
 -- What is written, bit by bit, is what is written at once.
-use Rattle.std.proofs.Common.{◌≡◌, ℕ, suc, ◌+◌, ◌-◌, ◌<◌, ◌≤◌, Bool, true, false, List, [], ◌∷◌, ◌++◌, length, take, drop, map, get_or, Option, Some, None, refl, sym, ap, ◌∙◌, append_assoc, append-nil, add-one, length-append, arith, cond}
+use Rattle.std.proofs.Common.{◌≡◌, ℕ, zero, suc, ◌+◌, ◌-◌, ◌<◌, ◌≤◌, Bool, true, false, List, [], ◌∷◌, ◌++◌, length, take, drop, map, get_or, Option, Some, None, refl, sym, ap, ◌∙◌}
+use Rattle.std.proofs.Common.{append_assoc, append-nil, add-one, length-append, arith, cond, ◌⊎◌, inl, inr}
 use Rattle.std.specs.Prelude.{nat_le, codes}
 use Rattle.std.specs.List.{flat_map}
+use Rattle.std.proofs.Math.Nat.{eq-or-lt_of_le}
 use Rattle.std.proofs.lemmas.Bool.Decides.{nat_tests}
 use Rattle.tapa_base.specs.Gaps.{Bytes}
 use Rattle.stream_arrays.specs.declared.writer.Writer.{Writer}
@@ -13,7 +15,7 @@ use Rattle.stream_arrays.specs.Reading.{head_words}
 use Rattle.tapa_syntax.specs.declared.lexeme.Lexeme.{Lexeme}
 use Rattle.tapa_syntax.specs.Symbols.{text_of}
 use Rattle.stream_arrays.specs.Written.{most, declaration_words}
-use Rattle.stream_arrays.specs.Writing.{Writing, writing, more, said_word, said}
+use Rattle.stream_arrays.specs.Writing.{Writing, writing, is_full, more, said_word, said}
 
 same_length : (out a b : Bytes) → length (out ++ a) + length b ≡ length out + length (a ++ b)
 same_length out a b = omega (arith, length-append out a, length-append a b)
@@ -77,6 +79,28 @@ said_below f n w v u e g =
     g ∙ ap (λ z. said z (f n)) e ∙ sym (said_append w (flat_map f (below n)) (f n))
     ∙ ap (said w) (sym (ap (λ k. flat_map f (below k)) (add-one n) ∙ flat_map-append f (below n) (n ∷ []) ∙ ap (λ z. flat_map f (below n) ++ z) (append-nil (f n))))
 
+-- ---- loops that end early, where the text is too long
+
+said_full : (w : Writing) (words : List Bytes) → is_full w ≡ true → said w words ≡ w
+said_full w [] h = refl
+said_full w (x ∷ words) h = ap (λ v. said v words) (word_full w.text w.begun h) ∙ said_full w words h
+  where
+    word_full : (o : Option Bytes) (b : Bool) → is_full (record { text = o; begun = b }) ≡ true → said_word (record { text = o; begun = b }) x ≡ record { text = o; begun = b }
+    word_full None true h = refl
+    word_full None false h = absurd cc
+    word_full (Some out) b h = absurd cc
+
+-- the words for all further numbers change nothing
+pub full_below : (f : ℕ → List Bytes) (n m : ℕ) (w v : Writing) → n ≤ m → v ≡ said w (flat_map f (below n)) → is_full v ≡ true → v ≡ said w (flat_map f (below m))
+full_below f n zero w v h e k = let none : n ≡ 0 = omega (arith, h) in e ∙ ap (λ i. said w (flat_map f (below i))) none
+full_below f n (suc m) w v h e k = by (eq-or-lt_of_le h) (λ s. full_below f n m w v s e k)
+  where
+    by : (n ≡ suc m) ⊎ (n < suc m) → (n ≤ m → v ≡ said w (flat_map f (below m))) → v ≡ said w (flat_map f (below (suc m)))
+    by (inl s) more = e ∙ ap (λ i. said w (flat_map f (below i))) s
+    by (inr s) more =
+        said_below f m w v v (more (omega (arith, s))) (sym (said_full v (f m) k))
+        ∙ ap (λ i. said w (flat_map f (below i))) (add-one m)
+
 abbrev next_element : Bytes → ℕ → List Bytes
 next_element x i = codes "," ∷ element_name x (suc i) ∷ []
 
@@ -85,6 +109,10 @@ elements_more x n h =
     ap (λ k. element_name x 0 ∷ flat_map (next_element x) (below k)) (let e : n + 1 - 1 ≡ suc (n - 1) = omega arith in e)
     ∙ ap (λ z. element_name x 0 ∷ z) (flat_map-append (next_element x) (below (n - 1)) ((n - 1) ∷ []))
     ∙ ap (λ k. (element_name x 0 ∷ flat_map (next_element x) (below (n - 1))) ++ (codes "," ∷ element_name x k ∷ [])) (let e : suc (n - 1) ≡ n = omega arith in e)
+
+-- and so do those for all further elements
+pub full_elements : (x : Bytes) (i n : ℕ) (w v : Writing) → i - 1 ≤ n - 1 → v ≡ said w (elements x i) → is_full v ≡ true → v ≡ said w (elements x n)
+full_elements x i n w v h e k = full_below (next_element x) (i - 1) (n - 1) (said_word w (element_name x 0)) v h e k
 
 -- one more element of an array
 pub said_elements : (x : Bytes) (n : ℕ) (w v u t : Writing) → 1 ≤ n → v ≡ said w (elements x n) → u ≡ said_word v (codes ",") → t ≡ said_word u (element_name x n) → t ≡ said w (elements x (n + 1))

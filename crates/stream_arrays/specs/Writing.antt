@@ -1,5 +1,5 @@
 -- What a writer holds: the text so far, which is told only while it isn't too long, and whether a word of the form is there.
-use Rattle.std.specs.Prelude.{◌+◌, nat_le, Bool, true, false, if◌then◌else◌, List, [], ◌∷◌, ◌++◌, length, Option, Some, None}
+use Rattle.std.specs.Prelude.{◌+◌, nat_le, Bool, true, false, not, ◌&&◌, is_some, if◌then◌else◌, List, [], ◌∷◌, ◌++◌, length, Option, Some, None}
 use Rattle.tapa_base.specs.Gaps.{Bytes}
 use Rattle.stream_arrays.specs.declared.writer.Writer.{Writer}
 use Rattle.stream_arrays.specs.Written.{most}
@@ -10,6 +10,10 @@ pub record Writing : Type 0 where
 
 abbrev pub writing : Writer → Writing
 writing w = record { text = if w.is_over then None else Some w.bytes.items; begun = w.begun }
+
+-- the text is too long and a word of the form is there, so that further words change nothing
+abbrev pub is_full : Writing → Bool
+is_full w = not (is_some w.text) && w.begun
 
 -- bytes behind those so far
 abbrev pub more : Option Bytes → Bytes → Option Bytes

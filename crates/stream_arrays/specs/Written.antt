@@ -59,13 +59,21 @@ abbrev pub without_arrays : Bytes → Numbering → List Lexeme → List Lexeme 
 without_arrays text arrays before [] = Ok tt
 without_arrays text arrays before (l ∷ ls) = if is_some (array_at text arrays before l) then faulty A3 l.place else without_arrays text arrays (before ++ l ∷ []) ls
 
+-- the count of a form, which is no name of an array
+abbrev pub count_in : Bytes → Scope → Lexeme → Outcome ℕ
+count_in text s l = and_then (without_arrays text s.arrays [] (l ∷ [])) (λ _. some_or A1 l.place (count_of text s.constants l))
+
+-- the number that an index is, where it is no name of an array
+abbrev pub index_of : Bytes → Scope → Lexeme → Option ℕ
+index_of text s k = if is_some (array_at text s.arrays [] k) then None else number_of text s.constants k
+
 -- the length and the index, where the name of an array stands in front with a number in brackets
 abbrev pub both : Option ℕ → Option ℕ → Option (ℕ × ℕ)
 both (Some m) (Some k) = Some (m, k)
 both _ _ = None
 
 abbrev pub element_in : Bytes → Scope → List Lexeme → Option (ℕ × ℕ)
-element_in text s (l ∷ a ∷ k ∷ b ∷ ls) = if is text terminal.LeftBracket a && is text terminal.RightBracket b then both (array_at text s.arrays [] l) (number_of text s.constants k) else None
+element_in text s (l ∷ a ∷ k ∷ b ∷ ls) = if is text terminal.LeftBracket a && is text terminal.RightBracket b then both (array_at text s.arrays [] l) (index_of text s k) else None
 element_in text s _ = None
 
 -- an index is below the length
@@ -96,7 +104,7 @@ declared_in text s ls d n arrays = record {
 
 abbrev pub declaration_step : Bytes → Scope → List Lexeme → Declaration → Outcome Step
 declaration_step text s ls d =
-    and_then (some_or A1 d.count.place (count_of text s.constants d.count)) (λ n.
+    and_then (count_in text s d.count) (λ n.
     and_then (without_array text s.arrays d.depth) (λ _.
     and_then (with_arrays text n s.arrays d.names) (λ arrays.
     Ok (declared_in text s ls d n arrays))))
@@ -163,7 +171,7 @@ invoked_in text s ls v n pieces = record {
 
 abbrev pub invocation_step : Bytes → Scope → List Lexeme → Invocation → Outcome Step
 invocation_step text s ls v =
-    and_then (some_or A1 v.count.place (count_of text s.constants v.count)) (λ n.
+    and_then (count_in text s v.count) (λ n.
     and_then (invocation_pieces text s ls v.inside n) (λ pieces.
     Ok (invoked_in text s ls v n pieces)))
 

@@ -11,9 +11,9 @@ ghost use Rattle.stream_arrays.specs.declared.piece.Piece.TheVariants.{Word};
 
 use crate::element::{element_in, index_in};
 use crate::fault::{ArrayCode, ArrayRefusal, refused};
-use crate::number::{count_of, may_count};
+use crate::number::may_count;
 use crate::piece::Piece;
-use crate::scope::{Scope, array_at, without_arrays};
+use crate::scope::{Scope, array_at, count_in, without_arrays};
 use crate::standing::{behind, first_word, front, is, span, stand};
 use crate::writer::Writer;
 use std::alloc::Global;
@@ -252,6 +252,9 @@ fn write_invokes(
     ensures err { IfErr result (λ e. e ≡ ArrayRefusal.OutOfMemory) }
 {
     for number in 0..count {
+        if out.is_full() {
+            return Ok(());
+        }
         write_invoke(text, number, pieces, out)?;
     }
     Ok(())
@@ -268,7 +271,7 @@ pub(crate) fn write_invocation(
 ) -> Result<usize, ArrayRefusal>
     ensures { Steps result scope.now out.old out.new (written.invocation_step text.now (known scope.now) lexemes.now (invocation_of invocation.entry)) }
 {
-    let count = count_of(text, &scope.constants, &invocation.count)?;
+    let count = count_in(text, scope, &invocation.count)?;
     let inside = invocation.inside;
     let pieces = invocation_pieces(alloc, text, scope, lexemes, inside, count)?;
     let size = HEAD + inside.len() + 1;

@@ -10,8 +10,8 @@ ghost use Rattle.stream_arrays.specs.Writing.{writing, said};
 ghost use Rattle.tapa_syntax.specs.Symbols as symbols;
 
 use crate::fault::{ArrayCode, ArrayRefusal, refused};
-use crate::number::{count_of, may_count};
-use crate::scope::{Scope, without_arrays};
+use crate::number::may_count;
+use crate::scope::{Scope, count_in, without_arrays};
 use crate::standing::{behind, first_word, front, is, is_named, span, stand, type_size};
 use crate::table::Table;
 use crate::writer::Writer;
@@ -225,6 +225,9 @@ fn write_elements(
     let word = text_of(text, name);
     out.element(word, 0)?;
     for i in 1..count {
+        if out.is_full() {
+            return Ok(());
+        }
         out.word(b",")?;
         out.element(word, i)?;
     }
@@ -293,7 +296,7 @@ pub(crate) fn write_declaration(
     ensures depth { scope.new.depth ≡ scope.old.depth }
     ensures steps { Steps result scope.new out.old out.new (written.declaration_step text.now (known scope.old) lexemes.now (declaration_of declaration.entry)) }
 {
-    let count = count_of(text, &scope.constants, &declaration.count)?;
+    let count = count_in(text, scope, &declaration.count)?;
     without_array(text, &scope.arrays, &declaration.depth)?;
     with_arrays(alloc, text, count, &mut scope.arrays, &declaration.names)?;
     let size = lexemes

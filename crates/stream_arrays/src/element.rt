@@ -16,6 +16,17 @@ use tapa_base::Place;
 use tapa_parse_expression::text_of;
 use tapa_syntax::{Lexeme, Terminal};
 
+/// The number that an index is, where it is no name of an array.
+fn index_of(text: &[u8], scope: &Scope, index: &Lexeme) -> Option<u64>
+    ensures { result ≡ spec.index_of text.now (known scope.now) index.now }
+{
+    if array_at(text, &scope.arrays, &[], index).is_some() {
+        None
+    } else {
+        number_of(text, &scope.constants, index)
+    }
+}
+
 /// The length and the index, where the name of an array stands in front with a number in brackets.
 pub(crate) fn element_in(text: &[u8], scope: &Scope, lexemes: &[Lexeme]) -> Option<(u64, u64)>
     ensures { result ≡ spec.element_in text.now (known scope.now) lexemes.now }
@@ -27,7 +38,7 @@ pub(crate) fn element_in(text: &[u8], scope: &Scope, lexemes: &[Lexeme]) -> Opti
         return None;
     }
     let length = array_at(text, &scope.arrays, &[], name)?;
-    let number = number_of(text, &scope.constants, index)?;
+    let number = index_of(text, scope, index)?;
     Some((length, number))
 }
 

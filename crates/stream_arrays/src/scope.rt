@@ -8,6 +8,7 @@ ghost use Rattle.stream_arrays.specs.Written as spec;
 
 use crate::constant::constant_behind;
 use crate::fault::{ArrayCode, ArrayRefusal, refused};
+use crate::number::count_of;
 use crate::standing::{is, is_named, stand_last};
 use crate::table::Table;
 use std::alloc::Global;
@@ -63,6 +64,14 @@ pub(crate) fn without_arrays(
         }
     }
     Ok(())
+}
+
+/// The count of a form, which is no name of an array.
+pub(crate) fn count_in(text: &[u8], scope: &Scope, count: &Lexeme) -> Result<u64, ArrayRefusal>
+    ensures { Gives (λ n. n) result (spec.count_in text.now (known scope.now) count.now) }
+{
+    without_arrays(text, &scope.arrays, &[*count])?;
+    count_of(text, &scope.constants, count)
 }
 
 /// These lexemes end with what stands before the parenthesis of an invoke, with a mode or without.

@@ -52,6 +52,13 @@ impl Writer {
         }
     }
 
+    /// Whether the text is too long already, so that further words of the form change nothing.
+    pub(crate) fn is_full(&self) -> bool
+        ensures { result ≡ spec.is_full (writing self.now) }
+    {
+        self.is_over && self.begun
+    }
+
     /// A form begins, so the next word has no space before it.
     pub(crate) fn begin(&mut self)
         ensures { writing self.new ≡ spec.begin (writing self.old) }

@@ -2,7 +2,7 @@
 use Rattle.std.proofs.Common.{◌≡◌, ◌⊎◌, ℕ, List, [], ◌∷◌, Ok, Err, refl, sym, ◌∙◌, ap, subst, inl, inr}
 use Rattle.tapa_base.specs.declared.text.Place.{Place}
 use Rattle.tapa_syntax.specs.declared.lexeme.Lexeme.{Lexeme}
-use Rattle.tapa_syntax.specs.Symbols.{Symbol, symbols_of}
+use Rattle.tapa_syntax.specs.Symbols.{symbols_of}
 use Rattle.tapa_syntax.specs.Trees.{ItemTree, file_of}
 use Rattle.tapa_lex.specs.declared.fault.LexCode.{LexCode}
 use Rattle.tapa_lex.specs.declared.fault.LexCode.TheVariants as lex
@@ -10,8 +10,9 @@ use Rattle.tapa_lex.specs.Refusals.{IsRefused}
 use Rattle.tapa_lex.proofs.Whole.{one_list, not_both, one_refusal as one_lexical_refusal}
 use Rattle.tapa_parse_expression.specs.declared.fault.ParseCode.{ParseCode}
 use Rattle.tapa_parse_expression.specs.declared.fault.ParseCode.TheVariants as parse
-use Rattle.tapa_parse_expression.specs.Readers.{Outcome}
-use Rattle.tapa_parse.specs.Answers.{stopped_at}
+use Rattle.tapa_parse.specs.Answers.{stopped_at, Refuses}
+use Rattle.tapa_parse.specs.declared.fault.ParseFault.TheVariants.{At}
+use Rattle.tapa_parse.proofs.Places.{one_refusal as one_parse_refusal}
 use Rattle.std.specs.Prelude.{Result}
 use Rattle.stream_arrays.specs.declared.fault.ArrayCode.{ArrayCode}
 use Rattle.stream_arrays.specs.declared.fault.ArrayCode.TheVariants as arrays
@@ -23,7 +24,7 @@ use Rattle.stream_check.specs.Programs.{program_faults}
 use Rattle.command_source.specs.declared.source.SourceCode.{SourceCode}
 use Rattle.command_source.specs.declared.source.SourceCode.TheVariants.{L1, L2, L3, L4, A1, A2, A3, A4, P1, P2, Rule}
 use Rattle.command_source.specs.Codes.{lex_code, array_code, parse_code}
-use Rattle.command_source.specs.Source.{StopsAt, HasNoTree, BreaksFirst, IsRefusedText, HasArrayFault, IsUnwritten}
+use Rattle.command_source.specs.Source.{HasNoTree, BreaksFirst, IsRefusedText, HasArrayFault, IsUnwritten}
 use Rattle.command_source.proofs.Sourced.{one_tree, no_tree, one_written, unwritten}
 use Rattle.tapa_drive.specs.OneMeaning.{SourcesHaveOneRefusal}
 
@@ -52,19 +53,6 @@ refusal text top place P1 h = inr (inl (parse.P1, h, refl))
 refusal text top place P2 h = inr (inl (parse.P2, h, refl))
 refusal text top place (Rule code limit) h = inr (inr (record { code = code; place = place; limit = limit }, h, refl, refl))
 
--- where a reading stops, and with which code
-abbrev left_of : Outcome (List ItemTree) → List Symbol
-left_of (Ok read) = []
-left_of (Err stop) = stop.1
-
-abbrev code_of : Outcome (List ItemTree) → SourceCode
-code_of (Ok read) = P1
-code_of (Err stop) = parse_code stop.0
-
--- a reading stops once
-stops_once : (text : List ℕ) (outcome : Outcome (List ItemTree)) (c d : ParseCode) (left right : List Symbol) → outcome ≡ Err (c, left) → outcome ≡ Err (d, right) → (stopped_at text left ≡ stopped_at text right) × (parse_code c ≡ parse_code d)
-stops_once text outcome c d left right h k = (ap (λ (o : Outcome (List ItemTree)). stopped_at text (left_of o)) (sym h ∙ k), ap code_of (sym h ∙ k))
-
 first_once : (faults : List Broken) (a b : Broken) → IsFirst faults a → IsFirst faults b → a ≡ b
 first_once [] a b h k = absurd h
 first_once (x ∷ rest) a b h k = sym h ∙ k
@@ -72,9 +60,9 @@ first_once (x ∷ rest) a b h k = sym h ∙ k
 module _ (text top : List ℕ) (place there : Place) (code other : SourceCode) where
   by_one_parser : ByParser text place code → ByParser text there other → (place ≡ there) × (code ≡ other)
   by_one_parser (c, h, e) (d, k, f) =
-      let seen = subst (λ (l : List Lexeme). StopsAt text (symbols_of text l) there d) (one_list text k.lexemes h.lexemes k.are h.are) k.stops in
-      let once = stops_once text _ c d h.stops.0 seen.0 h.stops.2 seen.2 in
-      (h.stops.1 ∙ once.0 ∙ sym seen.1, e ∙ once.1 ∙ sym f)
+      let seen = subst (λ (l : List Lexeme). Refuses text (symbols_of text l) (At d there)) (one_list text k.lexemes h.lexemes k.are h.are) k.refused in
+      let once = one_parse_refusal (symbols_of text h.lexemes) h.refused.0 seen.0 c d h.refused.2 seen.2 in
+      (h.refused.1 ∙ ap (stopped_at text) once.1 ∙ sym seen.1, e ∙ ap parse_code once.0 ∙ sym f)
 
   by_one_rule : ByRule text top place code → ByRule text top there other → (place ≡ there) × (code ≡ other)
   by_one_rule (a, h, p, e) (b, k, q, f) =

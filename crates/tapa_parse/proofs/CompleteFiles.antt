@@ -11,8 +11,8 @@ use Rattle.tapa_syntax.specs.Grammar.{Takes, TakesAt, AreStatements, IsAttribute
 use Rattle.tapa_syntax.specs.Limits.{most, item_nesting, item_operators, most_levels, most_operators, IsWithinLimits}
 use Rattle.tapa_parse.specs.declared.fault.ParseFault.{ParseFault}
 use Rattle.tapa_parse.specs.declared.fault.ParseFault.TheVariants.{At, OutOfMemory}
-use Rattle.tapa_parse.specs.Answers.{Reads, Answers}
-use Rattle.tapa_parse_expression.specs.Readers.{is_left, next, first_place, same, sees}
+use Rattle.tapa_parse.specs.Answers.{Answers, stopped_at}
+use Rattle.tapa_parse_expression.specs.Readers.{Outcome, is_left, next, first_place, same, sees}
 use Rattle.tapa_parse_expression.specs.Reading.{Readers, attribute, attributes, below_levels, below}
 use Rattle.tapa_parse_expression.specs.Passing.{over_each}
 use Rattle.tapa_parse.specs.Reading.{constant_word, body, task_behind, constant_behind, item, file}
@@ -151,6 +151,12 @@ one_tree symbols a b h k =
     let first = file_complete limit levels symbols a h (omega arith) (omega arith) (omega arith) in
     let second = file_complete limit levels symbols b k (omega arith) (omega arith) (omega arith) in
     ap (λ (x : List ItemTree × Symbols). x.0) (ok_is (a, []) (b, []) (sym first ∙ second))
+
+-- the answer is what reading gives, unless memory ran out
+abbrev pub Reads : Bytes → Result File ParseFault → Outcome (List ItemTree) → Type 0
+Reads text (Ok file) outcome = (left : Symbols) × (outcome ≡ Ok (file_of file, left))
+Reads text (Err OutOfMemory) outcome = Unit {0}
+Reads text (Err (At code place)) outcome = (left : Symbols) × (place ≡ stopped_at text left) × (outcome ≡ Err (code, left))
 
 -- what is read is what the symbols have
 pub answered : (text : Bytes) (result : Result File ParseFault) (i : Symbols) → Reads text result (file most_operators (below most_levels) i) → (trees : List ItemTree) → IsTreeOf i trees → IsWithinLimits trees → Answers result trees

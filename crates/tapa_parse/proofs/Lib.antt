@@ -12,3 +12,4 @@ pub mod CompleteFiles
 pub mod SteadyActions
 pub mod SteadyStatements
 pub mod SteadyTasks
+pub mod Places

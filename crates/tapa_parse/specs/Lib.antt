@@ -1,4 +1,5 @@
 pub use Rattle.tapa_parse_expression.specs.Readers
 pub mod Reading
 pub mod Passing
+pub mod Begins
 pub mod Answers

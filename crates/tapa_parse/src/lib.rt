@@ -11,6 +11,6 @@ mod task;
 mod terminal;
 
 pub use fault::ParseFault;
-pub use laws::one_tree;
+pub use laws::{law_file_or_refused, law_one_place, one_tree};
 pub use source::parse;
 pub use tapa_parse_expression::ParseCode;

@@ -1,13 +1,12 @@
 //! The tree of a source.
 
-ghost use Rattle.std.specs.Prelude.{◌≡◌, ◌<◌, ◌-◌, ◌^◌, List, length, IfOk};
+ghost use Rattle.std.specs.Prelude.{◌≡◌, ◌<◌, ◌-◌, ◌^◌, List, length, IfOk, IfErr};
 ghost use Rattle.tapa_syntax.specs.Characters.{place_of};
 ghost use Rattle.tapa_syntax.specs.Symbols.{symbols_of};
 ghost use Rattle.tapa_syntax.specs.Trees.{ItemTree, file_of};
 ghost use Rattle.tapa_syntax.specs.Grammar.{IsTreeOf};
-ghost use Rattle.tapa_syntax.specs.Limits.{most_levels, most_operators, IsWithinLimits};
-ghost use Rattle.tapa_parse.specs.Answers.{Reads, stopped_at, Answers};
-ghost use Rattle.tapa_parse.specs.Reading as spec;
+ghost use Rattle.tapa_syntax.specs.Limits.{IsWithinLimits};
+ghost use Rattle.tapa_parse.specs.Answers.{stopped_at, Answers, Refuses};
 
 use crate::fault::ParseFault;
 use crate::task::file;
@@ -55,7 +54,7 @@ pub fn parse(alloc: Global, lexemes: &[Lexeme], text: &[u8]) -> Result<File, Par
     requires { length text.now < 2 ^ 32 - 1 }
     ensures found { IfOk result (λ file. IsTreeOf (symbols_of text.now lexemes.now) (file_of file) × IsWithinLimits (file_of file)) }
     ensures only { (items : List ItemTree) → IsTreeOf (symbols_of text.now lexemes.now) items → IsWithinLimits items → Answers result items }
-    ensures reads { Reads text.now result (spec.file most_operators (spec.below most_levels) (symbols_of text.now lexemes.now)) }
+    ensures refused { IfErr result (Refuses text.now (symbols_of text.now lexemes.now)) }
 {
     let mut parser = Parser::new(alloc, text, lexemes);
     match file(&mut parser, MOST_LEVELS) {

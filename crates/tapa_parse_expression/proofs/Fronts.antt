@@ -62,14 +62,6 @@ pub data Steady {A : Type 0} (P : Part) (p : Reader A) (i : Symbols) : Type 0 wh
 
 -- ---- what follows of the fronts
 
--- a front is none, or begins with a symbol
-by_front : (g : Front) (B : Symbols → Type 0) (m : Symbols) → ((w : Symbols) → w ≡ m → B w) → ((y : Symbol) (ys : Symbols) → B (y ∷ (ys ++ m))) → B (g.put m)
-by_front g B m none more = subst B (sym (g.is m)) (pick (g.put []))
-  where
-    pick : (ys : Symbols) → B (ys ++ m)
-    pick [] = none m refl
-    pick (y ∷ ys) = more y ys
-
 -- what is the same of a list whatever follows, is it where a front goes on
 pub carry : {A : Type 0} (p : Reader A) (a : A) (f g : Front) (l m : Symbols) (x : Symbol) (z other : Symbols) → SameGiven p f l a → l ≡ g.put m → m ≡ x ∷ z → p (f.put (g.put (x ∷ other))) ≡ Ok (a, g.put (x ∷ other))
 carry p a f g l m x z other same is ends =
@@ -92,34 +84,39 @@ same_first see looks f i l x z other is ends = ap see (f.is (x ∷ other)) ∙ p
 pub full_then : {P Q : Part} → Full P → Full Q → Full (P ⨾ Q)
 full_then h k = record { before = λ j. h.before (k.before j); spelled = λ j. (k.before j, h.spelled (k.before j), k.spelled j) }
 
+-- what goes on to a part goes on to each that is made of it behind the front
+pub goes_put : (P Q : Part) (f g : Front) → ((m j : Symbols) → P (f.put m) j → Q (g.put m) j) → (c : ParseCode) (l : Symbols) → Goes P c f l → Goes Q c g l
+goes_put P Q f g k P1 l h = (h.0, λ j. k (h.0 j) j (h.1 j))
+goes_put P Q f g k P2 [] h = h
+goes_put P Q f g k P2 (x ∷ l) h = (h.0, λ j. k (x ∷ h.0 j) j (h.1 j))
+
+-- and to what another part makes of it
+pub goes_then : (P Q : Part) → Full Q → (f : Front) (c : ParseCode) (l : Symbols) → Goes P c f l → Goes (P ⨾ Q) c f l
+goes_then P Q full f P1 l goes = (λ j. goes.0 (full.before j), λ j. (full.before j, goes.1 (full.before j), full.spelled j))
+goes_then P Q full f P2 [] goes = goes
+goes_then P Q full f P2 (x ∷ l) goes = (λ j. goes.0 (full.before j), λ j. (full.before j, goes.1 (full.before j), full.spelled j))
+
 pub steady_map : {A : Type 0} (P Q : Part) {p : Reader A} {i : Symbols} → ((i j : Symbols) → P i j → Q i j) → Steady P p i → Steady Q p i
 steady_map P Q f (gives a g l is e part same) = gives a g l is e (λ j. f (g.put j) j (part j)) same
-steady_map P Q f (refuses P1 g l is e goes same) = refuses P1 g l is e (goes.0, λ j. f (g.put (goes.0 j)) j (goes.1 j)) same
-steady_map P Q f (refuses P2 g [] is e goes same) = absurd goes
-steady_map P Q f (refuses P2 g (x ∷ l) is e goes same) = refuses P2 g (x ∷ l) is e (goes.0, λ j. f (g.put (x ∷ goes.0 j)) j (goes.1 j)) same
+steady_map P Q f (refuses c g l is e goes same) = refuses c g l is e (goes_put P Q g g (λ m j. f (g.put m) j) c l goes) same
 
-module _ {A B : Type 0} (P Q : Part) (p : Reader A) (q : A → Reader B) (i : Symbols) where
-  pub goes_on : (c : ParseCode) (f : Front) (l : Symbols) → Full Q → Goes P c f l → Goes (P ⨾ Q) c f l
-  goes_on P1 f l full goes = (λ j. goes.0 (full.before j), λ j. (full.before j, goes.1 (full.before j), full.spelled j))
-  goes_on P2 f [] full goes = goes
-  goes_on P2 f (x ∷ l) full goes = (λ j. goes.0 (full.before j), λ j. (full.before j, goes.1 (full.before j), full.spelled j))
+module _ {A B : Type 0} (p : Reader A) (q : A → Reader B) (i : Symbols) where
+  -- by what is given; a refusal stays one
+  pub by_given : (P R : Part) → ((f : Front) (c : ParseCode) (l : Symbols) → Goes P c f l → Goes R c f l) → Steady P p i
+      → ((a : A) (f : Front) (l : Symbols) → i ≡ f.put l → p i ≡ Ok (a, l) → SameGiven p f l a → ((j : Symbols) → P (f.put j) j) → Steady R (p >>= q) i) → Steady R (p >>= q) i
+  by_given P R g (gives a f l is e part same) k = k a f l is e same part
+  by_given P R g (refuses c f l is e goes same) k = refuses c f l is (ap (λ o. and_then o q) e) (g f c l goes) (λ x z other ends. ap (λ o. and_then o q) (same x z other ends))
 
-  pub goes_behind : (c : ParseCode) (f g : Front) (l : Symbols) → ((j : Symbols) → P (f.put j) j) → Goes Q c g l → Goes (P ⨾ Q) c (front_then f g) l
-  goes_behind P1 f g l part goes = (goes.0, λ j. (g.put (goes.0 j), part (g.put (goes.0 j)), goes.1 j))
-  goes_behind P2 f g [] part goes = goes
-  goes_behind P2 f g (x ∷ l) part goes = (goes.0, λ j. (g.put (x ∷ goes.0 j), part (g.put (x ∷ goes.0 j)), goes.1 j))
+  -- what comes behind a value that was given
+  pub after_given : (a : A) (f : Front) (l : Symbols) → i ≡ f.put l → p i ≡ Ok (a, l) → SameGiven p f l a → (Q R : Part) → ((m j : Symbols) → Q m j → R (f.put m) j) → Steady Q (q a) l → Steady R (p >>= q) i
+  after_given a f l is e same Q R join (gives b g m behind given part same') =
+      gives b (front_then f g) m (is ∙ ap f.put behind) (then_is q a l e given) (λ j. join (g.put j) j (part j)) (λ x z other ends. then_is q a (g.put (x ∷ other)) (carry p a f g l m x z other same behind ends) (same' x z other ends))
+  after_given a f l is e same Q R join (refuses c g m behind refused goes same') =
+      refuses c (front_then f g) m (is ∙ ap f.put behind) (then_is q a l e refused) (goes_put Q R g (front_then f g) (λ m j. join (g.put m) j) c m goes)
+      (λ x z other ends. then_is q a (g.put (x ∷ other)) (carry p a f g l m x z other same behind ends) (same' x z other ends))
 
-  pub then_steady : Steady P p i → Full Q → ((a : A) (j : Symbols) → p i ≡ Ok (a, j) → Steady Q (q a) j) → Steady (P ⨾ Q) (p >>= q) i
-  then_steady (refuses c f l is e goes same) full k = refuses c f l is (ap (λ o. and_then o q) e) (goes_on c f l full goes) (λ x z other ends. ap (λ o. and_then o q) (same x z other ends))
-  then_steady (gives a f l is e part same) full k = after (k a l e)
-    where
-      after : Steady Q (q a) l → Steady (P ⨾ Q) (p >>= q) i
-      after (gives b g m behind given part' same') =
-          gives b (front_then f g) m (is ∙ ap f.put behind) (then_is q a l e given) (λ j. (g.put j, part (g.put j), part' j))
-          (λ x z other ends. then_is q a (g.put (x ∷ other)) (carry p a f g l m x z other same behind ends) (same' x z other ends))
-      after (refuses c g m behind refused goes same') =
-          refuses c (front_then f g) m (is ∙ ap f.put behind) (then_is q a l e refused) (goes_behind c f g m part goes)
-          (λ x z other ends. then_is q a (g.put (x ∷ other)) (carry p a f g l m x z other same behind ends) (same' x z other ends))
+pub then_steady : {A B : Type 0} (P Q : Part) (p : Reader A) (q : A → Reader B) (i : Symbols) → Steady P p i → Full Q → ((a : A) (j : Symbols) → p i ≡ Ok (a, j) → Steady Q (q a) j) → Steady (P ⨾ Q) (p >>= q) i
+then_steady P Q p q i h full k = by_given p q i P (P ⨾ Q) (goes_then P Q full) h (λ a f l is e same part. after_given p q i a f l is e same Q (P ⨾ Q) (λ m j behind. (m, part m, behind)) (k a l e))
 
 -- a front with a symbol behind it is some
 pub none_left : (f : Front) (x : Symbol) (l : Symbols) → [] ≡ f.put (x ∷ l) → ⊥
@@ -172,9 +169,8 @@ steady_where p q i eq (refuses c f l is e goes same) = refuses c f l is (eq i re
 -- a reader that passes a symbol, and answers behind it as another does
 pub steady_behind : {A : Type 0} (P Q : Part) (p q : Reader A) (x : Symbol) (s : Symbols) → ((k : Symbols) → q (x ∷ k) ≡ p k) → ((j r : Symbols) → P j r → Q (x ∷ j) r) → Steady P p s → Steady Q q (x ∷ s)
 steady_behind P Q p q x s eq g (gives a f l is e part same) = gives a (front_then (front_one x) f) l (ap (λ k. x ∷ k) is) (eq s ∙ e) (λ j. g (f.put j) j (part j)) (λ y z other ends. eq (f.put (y ∷ other)) ∙ same y z other ends)
-steady_behind P Q p q x s eq g (refuses P1 f l is e goes same) = refuses P1 (front_then (front_one x) f) l (ap (λ k. x ∷ k) is) (eq s ∙ e) (goes.0, λ j. g (f.put (goes.0 j)) j (goes.1 j)) (λ y z other ends. eq (f.put (y ∷ other)) ∙ same y z other ends)
-steady_behind P Q p q x s eq g (refuses P2 f [] is e goes same) = absurd goes
-steady_behind P Q p q x s eq g (refuses P2 f (w ∷ l) is e goes same) = refuses P2 (front_then (front_one x) f) (w ∷ l) (ap (λ k. x ∷ k) is) (eq s ∙ e) (goes.0, λ j. g (f.put (w ∷ goes.0 j)) j (goes.1 j)) (λ y z other ends. eq (f.put (y ∷ other)) ∙ same y z other ends)
+steady_behind P Q p q x s eq g (refuses c f l is e goes same) =
+    refuses c (front_then (front_one x) f) l (ap (λ k. x ∷ k) is) (eq s ∙ e) (goes_put P Q f (front_then (front_one x) f) (λ m j. g (f.put m) j) c l goes) (λ y z other ends. eq (f.put (y ∷ other)) ∙ same y z other ends)
 
 -- ---- choices by the next symbol
 

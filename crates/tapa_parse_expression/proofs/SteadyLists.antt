@@ -5,11 +5,10 @@ use Rattle.tapa_syntax.specs.declared.terminal.Terminal.{Terminal}
 use Rattle.tapa_syntax.specs.Symbols.{Symbol}
 use Rattle.tapa_syntax.specs.Grammar.{Part, Takes}
 use Rattle.tapa_parse_expression.specs.declared.fault.ParseCode.{ParseCode}
-use Rattle.tapa_parse_expression.specs.declared.fault.ParseCode.TheVariants.{P1, P2}
 use Rattle.tapa_parse_expression.specs.Readers.{Outcome, Reader, and_then, ◌>>=◌, ◌>>◌, pure, next, sees, skip, repeat_from, repeat_behind, separated, separated_until}
 use Rattle.tapa_parse_expression.proofs.Parts.{Symbols, then_is, is_end, sees_is, is_seen, takes}
 use Rattle.tapa_parse_expression.proofs.CompleteTypes.{takes_longer}
-use Rattle.tapa_parse_expression.proofs.Fronts.{Front, spelled_of, front_then, Full, Goes, Steady, gives, refuses, Any, carry, same_first, none_left, put_some, full_then, then_steady, steady_then, goes_on, goes_behind, steady_map, steady_value, steady_pure, steady_sees, steady_skips}
+use Rattle.tapa_parse_expression.proofs.Fronts.{Front, spelled_of, front_then, Full, Goes, Steady, gives, refuses, Any, carry, same_first, none_left, put_some, full_then, then_steady, steady_then, goes_put, goes_then, steady_map, steady_value, steady_pure, steady_sees, steady_skips}
 
 -- parts of this kind, one after another
 abbrev pub Many : Part → Part
@@ -51,9 +50,7 @@ module _ {S B : Type 0} (goes : Symbols → Bool) (turn : S → Reader S) (last 
   -- one is some of any number
   some_is_any : (n : ℕ) (s : S) (i : Symbols) → Turns AtLeastOne n s i → Turns AnyNumber n s i
   some_is_any n s i (given b f l is e part same) = given b f l is e (λ j. one_more (f.put j) j (part j)) same
-  some_is_any n s i (refused P1 f l is e h same) = refused P1 f l is e (h.0, λ j. one_more (f.put (h.0 j)) j (h.1 j)) same
-  some_is_any n s i (refused P2 f [] is e h same) = absurd h
-  some_is_any n s i (refused P2 f (x ∷ l) is e h same) = refused P2 f (x ∷ l) is e (h.0, λ j. one_more (f.put (x ∷ h.0 j)) j (h.1 j)) same
+  some_is_any n s i (refused c f l is e h same) = refused c f l is e (goes_put AtLeastOne AnyNumber f f (λ m j. one_more (f.put m) j) c l h) same
 
   -- one turn more
   again_is : (m : ℕ) (s : S) (k : Symbols) (o : Outcome B) → 0 < length k → length k ≤ m → goes k ≡ true → ((n : ℕ) → length k ≤ suc n → (turn s >>= loop n) k ≡ o) → loop m s k ≡ o
@@ -62,7 +59,7 @@ module _ {S B : Type 0} (goes : Symbols → Bool) (turn : S → Reader S) (last 
 
   turned : (n : ℕ) (s : S) (i : Symbols) → goes i ≡ true → Full Q → Steady P (turn s) i → ((t : S) (j : Symbols) → turn s i ≡ Ok (t, j) → Turns AnyNumber n t j) → Turns AtLeastOne (suc n) s i
   turned n s i g full (refuses c f l is e h same) k =
-      refused c f l is (is_loop.again n s i g ∙ ap (λ o. and_then o (loop n)) e) (goes_on P AnyNumber (turn s) (loop n) i c f l (full_then (full_many P) full) h)
+      refused c f l is (is_loop.again n s i g ∙ ap (λ o. and_then o (loop n)) e) (goes_then P AnyNumber (full_then (full_many P) full) f c l h)
       (λ x z other m ends le. again_is m s (f.put (x ∷ other)) _ (put_some f x other) le (same_first goes is_loop.looks f i l x z other is ends ∙ g) (λ n' le'. ap (λ o. and_then o (loop n')) (same x z other ends)))
   turned n s i g full (gives t f l is e part same) k = after (k t l e)
     where
@@ -72,7 +69,7 @@ module _ {S B : Type 0} (goes : Symbols → Bool) (turn : S → Reader S) (last 
           (λ x z other m ends le. again_is m s (f.put (h.put (x ∷ other))) _ (put_some (front_then f h) x other) le (same_first goes is_loop.looks (front_then f h) i m' x z other (is ∙ ap f.put behind) ends ∙ g)
           (λ n' le'. then_is (loop n') t (h.put (x ∷ other)) (carry (turn s) t f h l m' x z other same behind ends) (same' x z other n' ends (omega (arith, le', longer (f.put (h.put (x ∷ other))) (h.put (x ∷ other)) (part (h.put (x ∷ other))))))))
       after (refused c h m' behind e' goes' same') =
-          refused c (front_then f h) m' (is ∙ ap f.put behind) (is_loop.again n s i g ∙ then_is (loop n) t l e e') (goes_behind P AnyNumber (turn s) (loop n) i c f h m' part goes')
+          refused c (front_then f h) m' (is ∙ ap f.put behind) (is_loop.again n s i g ∙ then_is (loop n) t l e e') (goes_put AnyNumber AtLeastOne h (front_then f h) (λ m j p. (h.put m, part (h.put m), p)) c m' goes')
           (λ x z other m ends le. again_is m s (f.put (h.put (x ∷ other))) _ (put_some (front_then f h) x other) le (same_first goes is_loop.looks (front_then f h) i m' x z other (is ∙ ap f.put behind) ends ∙ g)
           (λ n' le'. then_is (loop n') t (h.put (x ∷ other)) (carry (turn s) t f h l m' x z other same behind ends) (same' x z other n' ends (omega (arith, le', longer (f.put (h.put (x ∷ other))) (h.put (x ∷ other)) (part (h.put (x ∷ other))))))))
 

@@ -20,7 +20,7 @@ GAPS = [" ", " ", " ", "  ", "\t", "\n", "\r\n", " // ( , [ 3 ]\n", " /* s_0, */
 # Words that stand in for others: parts of forms, counts that are good and bad, names of arrays and of other things.
 WORDS = ("tapa :: streams stream < > , ; ( ) [ ] { } . = + 0 1 2 3 512 513 2u 02 0x2 ONE TWO FAR NONE SUM join detach invoke task s t u s_0 x P F C S T int bool const constexpr void "
          "std uint8_t unsigned long \"s\" (2) s[0] t[1] ,s ,1").split()
-COUNTS = "0 1 2 3 4 513 2u 02 0x1 ONE TWO FAR NONE SUM s".split()
+COUNTS = "0 1 2 3 4 513 2u 02 0x1 ONE TWO FAR NONE SUM s t".split()
 LEXEME = re.compile(r"\"[^\"\n]*\"|//[^\n]*\n|/\*.*?\*/|\w+|::|<<|>>|\s+|.", re.S)
 
 
@@ -83,7 +83,7 @@ class Source:
         return f"void {name}() {{ {' '.join(texts)} tapa::task(){''.join(parts)}; }}\n"
 
     def text(self):
-        constants = "const int ONE = 1; constexpr unsigned long TWO = 2; const std::uint8_t NONE = 0; const int FAR = 513; const int SUM = 1 + 1;\n"
+        constants = "const int ONE = 1; constexpr unsigned long TWO = 2; const std::uint8_t NONE = 0; const int FAR = 513; const int SUM = 1 + 1; const int t = 1;\n"
         tasks = self.task("U", ["s", "u"]) if self.some.random() < 0.5 else ""
         top = self.task("T", ["s", "t", "u", "w"][: self.some.randint(1, 4)])
         inner = tasks and self.some.random() < 0.7

@@ -1,5 +1,8 @@
-use Rattle.command_source.proofs.KeptLines.{lines_kept}
+use Rattle.command_source.proofs.KeptLines.{texts_keep, forms_keep}
 use Rattle.command_source.proofs.laws.law_written_out_keeps_lines.Goals as goal
 
-pub returns : goal.returns
-returns c = lines_kept
+pub returns-clause-texts : goal.returns-clause-texts
+returns-clause-texts c = texts_keep
+
+pub returns-clause-forms : goal.returns-clause-forms
+returns-clause-forms c = forms_keep
