@@ -4,9 +4,13 @@ use Rattle.tapa_base.specs.Spans.{◌⨾◌}
 use Rattle.tapa_syntax.specs.declared.terminal.Terminal.TheVariants as terminal
 use Rattle.tapa_syntax.specs.declared.tree.AttributeArgument.{AttributeArgument}
 use Rattle.tapa_syntax.specs.Symbols.{Symbol}
-use Rattle.tapa_syntax.specs.Trees.{variable_place, element_place, call_action, write, read, assign, postfix, prefix_step, parenthesized_count, plain, initialized, array, no_start, declare_start, act_start, StatementTree, attributed, block, declare, act, if_only, if_else, while, for, while_not_eot, Statements, no_statement, statement_then, leaf, upper, ItemTree, constant, task}
+use Rattle.tapa_syntax.specs.Trees.{variable_place, element_place, call_action, write, read, assign, postfix, prefix_step, parenthesized_count, plain, initialized, array}
+use Rattle.tapa_syntax.specs.Trees.{no_start, declare_start, act_start, StatementTree, attributed, block, declare, act, if_only, if_else, while, for, while_not_eot}
+use Rattle.tapa_syntax.specs.Trees.{Statements, no_statement, statement_then, leaf, upper, ItemTree, constant, task}
 use Rattle.tapa_syntax.specs.Limits.{most_levels, most_operators}
-use Rattle.tapa_syntax.specs.Grammar.{Takes, IsExpression, sum_level, expression_level, argument_level, IsPlace, IsAction, IsCountForm, IsCount, IsDeclarator, IsDeclaration, AreAttributeArguments, IsAttribute, IsStart, IsHead, IsStatement, AreStatements, IsStream, IsArgument, IsInvocation, IsBody, IsItem, IsTreeOf}
+use Rattle.tapa_syntax.specs.Grammar.{Takes, IsExpression, sum_level, expression_level, argument_level, IsPlace, IsAction, IsCountForm, IsCount, IsDeclarator}
+use Rattle.tapa_syntax.specs.Grammar.{IsDeclaration, AreAttributeArguments, IsAttribute, IsStart, IsHead, IsStatement, AreStatements, IsStream, IsArgument, IsInvocation}
+use Rattle.tapa_syntax.specs.Grammar.{IsBody, IsItem, IsTreeOf}
 use Rattle.tapa_parse_expression.specs.Passing.{one_more, or_later, over_expression, Over, over_each, over_some, over_behind, over_separated, over_listed, over_maybe}
 
 -- limit is how many operators an expression may have that is part of no other

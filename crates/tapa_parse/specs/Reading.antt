@@ -8,7 +8,8 @@ use Rattle.tapa_syntax.specs.declared.tree.Parameter.{Parameter}
 use Rattle.tapa_syntax.specs.declared.tree.Parameter.TheVariants as parameter_form
 use Rattle.tapa_syntax.specs.Trees.{CountTree, AttributeTree, statements, StreamTree, ArgumentTree, InvocationTree, BodyTree, leaf, upper, TaskTree, ItemTree, constant, task}
 use Rattle.tapa_parse_expression.specs.declared.fault.ParseCode.TheVariants.{P1}
-use Rattle.tapa_parse_expression.specs.Readers.{is_left, Reader, ◌>>=◌, ◌>>◌, pure, refuse, next, ended, sees, skip, here, expect, eat, name, plain_name, repeat_behind, repeat, separated, separated_until}
+use Rattle.tapa_parse_expression.specs.Readers.{is_left, Reader, ◌>>=◌, ◌>>◌, pure, refuse, next, ended, sees, skip, here, expect, eat, name, plain_name, repeat_behind}
+use Rattle.tapa_parse_expression.specs.Readers.{repeat, separated, separated_until}
 use Rattle.tapa_parse_expression.specs.Reading.{Readers, open_level, type_name, attributes, counted, statements_with, whole, whole_expression}
 -- the readers of the levels of nesting
 pub use Rattle.tapa_parse_expression.specs.Reading.{below, at}

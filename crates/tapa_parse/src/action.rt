@@ -94,7 +94,8 @@ fn separated_arguments(parser: &mut Parser, levels: u32) -> Result<Vec<Expressio
 
 #[tactic(auto, unfolding(tapa_parse_expression::specs::Readers::separated_until))]
 fn listed_call_arguments(parser: &mut Parser, levels: u32) -> Result<Vec<Expression>, Fault>
-    ensures { Gives (λ es. map view.expression es.items) result parser.new (separated_until terminal.RightParen terminal.Comma (spec.whole (spec.argument (spec.at levels)) most_operators) parser.old) }
+    ensures { Gives (λ es. map view.expression es.items) result parser.new
+        (separated_until terminal.RightParen terminal.Comma (spec.whole (spec.argument (spec.at levels)) most_operators) parser.old) }
 {
     if parser.sees(Terminal::RightParen) {
         Ok(Vec::new(parser.alloc()))

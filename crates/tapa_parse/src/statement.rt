@@ -31,7 +31,8 @@ fn for_statement(
     head: Box<ForHead>,
     body: Result<Box<Statement>, Fault>,
 ) -> Result<Statement, Fault>
-    ensures { (left : List Symbol) (outcome : Outcome StatementTree) → Gives (λ s. view.statement s.value) body left outcome → Gives view.statement result left (and_then outcome (λ s. pure (view.for (view.head_of head.value) s))) }
+    ensures { (left : List Symbol) (outcome : Outcome StatementTree) → Gives (λ s. view.statement s.value) body left outcome
+        → Gives view.statement result left (and_then outcome (λ s. pure (view.for (view.head_of head.value) s))) }
 {
     let body = body?;
     Ok(Statement::For { head, body })
@@ -42,7 +43,8 @@ fn if_else_statement(
     first: Box<Statement>,
     second: Result<Box<Statement>, Fault>,
 ) -> Result<Statement, Fault>
-    ensures { (left : List Symbol) (outcome : Outcome StatementTree) → Gives (λ s. view.statement s.value) second left outcome → Gives view.statement result left (and_then outcome (λ t. pure (view.if_else (view.expression test) (view.statement first.value) t))) }
+    ensures { (left : List Symbol) (outcome : Outcome StatementTree) → Gives (λ s. view.statement s.value) second left outcome
+        → Gives view.statement result left (and_then outcome (λ t. pure (view.if_else (view.expression test) (view.statement first.value) t))) }
 {
     let second = second?;
     Ok(Statement::IfElse(test, first, second))
@@ -52,7 +54,8 @@ fn while_statement(
     test: Expression,
     body: Result<Box<Statement>, Fault>,
 ) -> Result<Statement, Fault>
-    ensures { (left : List Symbol) (outcome : Outcome StatementTree) → Gives (λ s. view.statement s.value) body left outcome → Gives view.statement result left (and_then outcome (λ s. pure (view.while (view.expression test) s))) }
+    ensures { (left : List Symbol) (outcome : Outcome StatementTree) → Gives (λ s. view.statement s.value) body left outcome
+        → Gives view.statement result left (and_then outcome (λ s. pure (view.while (view.expression test) s))) }
 {
     let body = body?;
     Ok(Statement::While(test, body))
@@ -60,7 +63,8 @@ fn while_statement(
 
 // An action and a semicolon.
 fn act(parser: &mut Parser, levels: u32) -> Result<Statement, Fault>
-    ensures { Gives view.statement result parser.new (and_then (spec.action_with most_operators (spec.below levels) parser.old) (λ a i. and_then (expect terminal.Semicolon i) (λ x. pure (view.act a)))) }
+    ensures { Gives view.statement result parser.new (and_then (spec.action_with most_operators (spec.below levels) parser.old)
+        (λ a i. and_then (expect terminal.Semicolon i) (λ x. pure (view.act a)))) }
 {
     let action = action(parser, levels)?;
     parser.expect(Terminal::Semicolon)?;
@@ -69,7 +73,8 @@ fn act(parser: &mut Parser, levels: u32) -> Result<Statement, Fault>
 
 // A declaration and a semicolon.
 fn declare(parser: &mut Parser, levels: u32) -> Result<Statement, Fault>
-    ensures { Gives view.statement result parser.new (and_then (spec.declaration_with most_operators (spec.below levels) parser.old) (λ d i. and_then (expect terminal.Semicolon i) (λ x. pure (view.declare d)))) }
+    ensures { Gives view.statement result parser.new (and_then (spec.declaration_with most_operators (spec.below levels) parser.old)
+        (λ d i. and_then (expect terminal.Semicolon i) (λ x. pure (view.declare d)))) }
 {
     let declaration = declaration(parser, levels)?;
     parser.expect(Terminal::Semicolon)?;
