@@ -1,6 +1,6 @@
 -- What a call leaves: instances that rest as they did, and counts within the budget.
 use Rattle.std.proofs.Common.{◌≡◌, ℕ, zero, suc, ◌+◌, ◌-◌, ◌*◌, ◌<◌, ◌≤◌, ◌⊎◌, List, [], ◌∷◌, length, Bool, true, false, Some, refl, sym, ap, ◌∙◌, subst, inl, inr, ⊎_elim, arith}
-use Rattle.std.specs.Prelude.{slice_get, if◌then◌else◌}
+use Rattle.std.specs.Prelude.{slice_get, MatchBool, if◌then◌else◌}
 use Rattle.std.proofs.Math.Path.{fun_ext}
 use Rattle.std.proofs.lemmas.Bool.{cases_eq}
 use Rattle.std.proofs.lemmas.Bool.Decides.{nat_tests}
@@ -52,6 +52,12 @@ fewer_by room room' ticks ticks' made e f some few = omega arith
 pub decide_detached : (b : Bool) → (b ≡ true) ⊎ (b ≡ false)
 decide_detached true = inl refl
 decide_detached false = inr refl
+
+-- an instance that may go on within the budget is on the list; who is not told so and answered so is a detached one that has made as many
+-- ticks as the budget
+pub listed_again : (new : NetState) (i : ℕ) (pause : Pause) (budget : ℕ) (again : Bool) (later : List ℕ) → MatchBool again (pause ≡ Fuel) (pause ≡ Fuel → ((network new).detached i ≡ true) × (budget ≤ count new i)) → (again ≡ true → IsIn i later) → (IsIn i later) ⊎ (pause ≡ Fuel → ((network new).detached i ≡ true) × (budget ≤ count new i))
+listed_again new i pause budget true later h there = inl (there refl)
+listed_again new i pause budget false later h there = inr h
 
 -- the ticks of the joined instances after ticks of one of them, or of a detached one
 module _ (net : Network) (k : ℕ → ℕ) (i m : ℕ) where
@@ -183,12 +189,10 @@ module _ (old new : NetState) (i budget left left' : ℕ) (pause : Pause) (made 
       (λ (o : IsFedBySelf P i × (0 < made) × (c.told ≡ Fuel)). o.2)
       c.is_told.cases
 
-  spent_own : pause ≡ Fuel → N.detached i ≡ true → IsSpent new budget i
-  spent_own p d =
+  spent_own : pause ≡ Fuel → N.detached i ≡ true → budget ≤ count new i → IsSpent new budget i
+  spent_own p d s =
       let f = c.fuel_spent p in
-      let e = (r.detached d).0 in
-      let n = count_own in
-      let m = f.0 in
+      let m = capped i in
       record {
         detached = now_detached i d;
         last = own_last ∙ ap (λ x. Some (Some x)) (told_fuel p);
@@ -214,18 +218,14 @@ module _ (old new : NetState) (i budget left left' : ℕ) (pause : Pause) (made 
       ⊎_elim (λ (q : IsQuiet old j). inl (quiet_other j d l w t q)) (λ (q : IsSpent old budget j). inr (spent_other j d q)) h
 
   -- nothing is left to the joined instances, and this one may go on
-  pub visited_limit : pause ≡ Fuel → IsJoined (network new) i → (later : List ℕ) → Visited old new i budget left' later later false
-  visited_limit p j later =
+  pub visited_limit : pause ≡ Fuel → IsJoined (network new) i → left' ≡ 0 → (later : List ℕ) → Visited old new i budget left' later later false
+  visited_limit p j none later =
       let f = c.fuel_spent p in
-      let e = r.joined (subst (λ (net : Network). IsJoined net i) same_network j) in
-      let m = f.0 in
-      let a = e.0 in
-      let b = e.1 in
       record {
         given = c.given;
         within = within_after;
         limit = λ x. record {
-          none = omega arith;
+          none = none;
           instance = i;
           joined = j;
           allowed = now_allowed i f.1;
@@ -235,17 +235,37 @@ module _ (old new : NetState) (i budget left left' : ℕ) (pause : Pause) (made 
         progress = λ h. inl h;
       }
 
-  module _ (passes : pause ≡ Fuel → (network new).detached i ≡ true) where
-    rest_own : ((pause ≡ Fuel → ⊥) → IsQuiet new i) → IsAtRest new budget i
-    rest_own quiet =
-        ⊎_elim (λ (p : pause ≡ Fuel). inr (spent_own p (subst (λ (net : Network). net.detached i ≡ true) same_network (passes p)))) (λ (d : pause ≡ Fuel → ⊥). inl (quiet d)) (decide_fuel pause)
+  -- it is at rest where it may go on: a detached one that has made as many ticks as the budget
+  abbrev Passes : Type 0
+  Passes = pause ≡ Fuel → ((network new).detached i ≡ true) × (budget ≤ count new i)
+
+  rest_own : Passes → ((pause ≡ Fuel → ⊥) → IsQuiet new i) → IsAtRest new budget i
+  rest_own passes quiet =
+      ⊎_elim
+      (λ (p : pause ≡ Fuel). let q = passes p in inr (spent_own p (subst (λ (net : Network). net.detached i ≡ true) same_network q.0) q.1))
+      (λ (d : pause ≡ Fuel → ⊥). inl (quiet d))
+      (decide_fuel pause)
+
+  module _ (past : pause ≡ Fuel → IsJoined (network new) i → 0 < left') where
+    passes_none : made ≡ 0 → Passes
+    passes_none m p =
+        let f = (c.fuel_spent p).0 in
+        let n = count_own in
+        ⊎_elim
+        (λ (d : N.detached i ≡ true). let e = (r.detached d).2 (omega arith) in (now_detached i d, omega arith))
+        (λ (j : N.detached i ≡ false).
+        let e = (r.joined j).2 (omega arith) in
+        let l = (r.joined j).1 in
+        let q = past p (subst (λ (net : Network). IsJoined net i) (sym same_network) j) in
+        absurd (omega arith))
+        (decide_detached (N.detached i))
 
     rest_none : made ≡ 0 → (later : List ℕ) (j : ℕ) → j < length P.instances.items → (j ≡ i) ⊎ (IsAtRest old budget j ⊎ IsIn j later) → IsAtRest new budget j ⊎ IsIn j later
     rest_none e later j l h =
         ⊎_elim
         (λ (q : j ≡ i).
         inl (subst (IsAtRest new budget) (sym q)
-        (rest_own (λ stopped. quiet_own stopped told_none (λ p d. ap (λ m. written N m (stream_at P i p)) same) (λ p d. ap (λ m. taken N m (stream_at P i p)) same)))))
+        (rest_own (passes_none e) (λ stopped. quiet_own stopped told_none (λ p d. ap (λ m. written N m (stream_at P i p)) same) (λ p d. ap (λ m. taken N m (stream_at P i p)) same)))))
         (λ (d : j ≡ i → ⊥).
         ⊎_elim
         (λ (q : j ≡ i). absurd (d q))
@@ -263,8 +283,8 @@ module _ (old new : NetState) (i budget left left' : ℕ) (pause : Pause) (made 
         told_none : c.told ≡ pause
         told_none = ⊎_elim (λ (q : c.told ≡ pause). q) (λ (q : IsFedBySelf P i × (0 < made) × (c.told ≡ Fuel)). let z = q.1 in absurd (omega arith)) c.is_told.cases
 
-    rest_woken : (later later' : List ℕ) → ((x : ℕ) → IsIn x later → IsIn x later') → ((p : ℕ) → AreWoken P i p later') → (j : ℕ) → j < length P.instances.items → (j ≡ i) ⊎ (IsAtRest old budget j ⊎ IsIn j later) → IsAtRest new budget j ⊎ IsIn j later'
-    rest_woken later later' kept woken j l h =
+    rest_woken : (later later' : List ℕ) → (IsIn i later') ⊎ Passes → ((x : ℕ) → IsIn x later → IsIn x later') → ((p : ℕ) → AreWoken P i p later') → (j : ℕ) → j < length P.instances.items → (j ≡ i) ⊎ (IsAtRest old budget j ⊎ IsIn j later) → IsAtRest new budget j ⊎ IsIn j later'
+    rest_woken later later' again kept woken j l h =
         ⊎_elim
         (λ (n : IsIn j later'). inr n)
         (λ (no : IsIn j later' → ⊥).
@@ -272,7 +292,7 @@ module _ (old new : NetState) (i budget left left' : ℕ) (pause : Pause) (made 
         (λ (q : j ≡ i).
         let no' : IsIn i later' → ⊥ = subst (λ z. IsIn z later' → ⊥) q no in
         inl (subst (IsAtRest new budget) (sym q)
-        (rest_own (λ stopped.
+        (rest_own (⊎_elim (λ (n : IsIn i later'). absurd (no' n)) (λ (q : Passes). q) again) (λ stopped.
         quiet_own stopped
         (⊎_elim (λ (q : c.told ≡ pause). q)
         (λ (o : IsFedBySelf P i × (0 < made) × (c.told ≡ Fuel)).
@@ -306,12 +326,12 @@ module _ (old new : NetState) (i budget left left' : ℕ) (pause : Pause) (made 
       progress = λ h. inl h;
     }
 
-    pub visited_woken : 0 < made → (later later' : List ℕ) → ((x : ℕ) → IsIn x later → IsIn x later') → ((p : ℕ) → AreWoken new.program i p later') → Visited old new i budget left' later later' true
-    visited_woken m later later' kept woken = record {
+    pub visited_woken : 0 < made → (later later' : List ℕ) → (IsIn i later') ⊎ Passes → ((x : ℕ) → IsIn x later → IsIn x later') → ((p : ℕ) → AreWoken new.program i p later') → Visited old new i budget left' later later' true
+    visited_woken m later later' again kept woken = record {
       given = c.given;
       within = within_after;
       limit = λ x. absurd (cc);
-      rest = λ x. rest_woken later later' kept (subst (λ (g : Program × Input). (q : ℕ) → AreWoken g.0 i q later') c.given woken);
+      rest = λ x. rest_woken later later' again kept (subst (λ (g : Program × Input). (q : ℕ) → AreWoken g.0 i q later') c.given woken);
       less = less;
       progress = λ h. inr (fewer m);
     }

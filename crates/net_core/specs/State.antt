@@ -79,10 +79,17 @@ pub record IsWithin (net : NetState) (budget left : ℕ) : Type 0 where
   pub capped : IsCapped (network net) budget (count net)
   pub joined : joined_total net + left ≡ budget
 
--- an instance was resumed with what is left to it: a joined one with what is left to all joined ones, a detached one with
--- what is left to itself
+-- an instance was resumed with something of what is left to it, where anything is: to a joined one what is left to all joined ones, to a
+-- detached one what is left to itself
 pub record HasResumedWithin (old new : NetState) (i budget left left' : ℕ) (pause : Pause) (made : ℕ) : Type 0 where
   pub fuel : ℕ
   pub resumed : HasResumed old new i fuel pause made
-  pub joined : (network old).detached i ≡ false → (fuel ≡ left) × (left' + made ≡ left)
-  pub detached : (network old).detached i ≡ true → (count old i + fuel ≡ budget) × (left' ≡ left)
+  pub joined : (network old).detached i ≡ false → (fuel ≤ left) × (left' + made ≡ left) × (fuel ≡ 0 → left ≡ 0)
+  pub detached : (network old).detached i ≡ true → (count old i + fuel ≤ budget) × (left' ≡ left) × (fuel ≡ 0 → count old i ≡ budget)
+
+-- the last answer of instance j holds at the net's count
+abbrev pub IsAnswered : NetState → ℕ → Type 0
+IsAnswered net j = (x : Pause) × (slice_get net.pauses j ≡ Some (Some x)) × HoldsPause (network net) (count net) j (stream_at net.program j) x
+
+abbrev pub AreAnswered : NetState → Type 0
+AreAnswered net = (j : ℕ) → j < length net.program.instances.items → IsAnswered net j

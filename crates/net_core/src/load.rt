@@ -1,6 +1,6 @@
 // The ports of an instance, loaded from the streams before a call and read after it.
 
-ghost use Rattle.std.specs.Prelude.{ℕ, ◌≡◌, ◌<◌, ◌≤◌, ◌-◌, ◌++◌, length, drop, replicate, slice_get, slice_index, Some, false, IfOk, is_ok, if◌then◌else◌};
+ghost use Rattle.std.specs.Prelude.{ℕ, ◌≡◌, ◌<◌, ◌≤◌, ◌-◌, ◌++◌, length, drop, replicate, slice_get, slice_index, Some, false, true, IfOk, is_ok, if◌then◌else◌};
 ghost use Rattle.net_core.specs.declared.ports.Ports.{Ports};
 ghost use Rattle.net_core.specs.Ports.{IsReloaded, ends_in, carried_of, waiting_of, room_of, port_count, kind_at};
 ghost use Rattle.net_core.specs.Bindings.{IsConnected, arity, ends_at, stream_at, Reads, Writes, producer_of, consumer_of, depth_of};
@@ -275,6 +275,27 @@ fn enlist(later: &mut Vec<usize>, listed: &mut Vec<bool>, j: usize) -> Result<()
     if !listed[j] {
         later.push(j)?;
         listed[j] = true;
+    }
+    Ok(())
+}
+
+/// Puts an instance on a list, where it is to be and is not there.
+pub fn enlist_if(
+    wanted: bool,
+    later: &mut Vec<usize>,
+    listed: &mut Vec<bool>,
+    j: usize,
+) -> Result<(), OutOfMemory>
+    requires inside { j < length listed.old.items }
+    requires listed { AreListed listed.old.items later.old.items }
+    ensures listed { AreListed listed.new.items later.new.items }
+    ensures listed_len { length listed.new.items ≡ length listed.old.items }
+    ensures kept { (x : ℕ) → IsIn x later.old.items → IsIn x later.new.items }
+    ensures below { (m : ℕ) → AreBelow m later.old.items → j < m → AreBelow m later.new.items }
+    ensures there { IfOk result (λ _. wanted ≡ true → IsIn j later.new.items) }
+{
+    if wanted {
+        enlist(later, listed, j)?;
     }
     Ok(())
 }

@@ -1,5 +1,5 @@
 // What an instance may still make within a budget.
-ghost use Rattle.std.specs.Prelude.{ℕ, ◌≡◌, ◌<◌, ◌≤◌, ◌+◌, length, true, IfOk, MatchBool};
+ghost use Rattle.std.specs.Prelude.{◌≡◌, ◌<◌, ◌≤◌, ◌+◌, length, false, true, IfOk, MatchBool};
 ghost use Rattle.net_core.specs.State.{network, count, given, IsWithin, HasResumedWithin};
 ghost use Rattle.net_core.specs.Bindings.{arity};
 ghost use Rattle.net_core.specs.Ties.{AreTies};
@@ -13,17 +13,24 @@ use crate::ties::Tie;
 use std::alloc::Global;
 use tapa_base::OutOfMemory;
 
-// How many ticks of the budget an instance has not made.
-fn own_left<B: Body>(net: &Net<B>, i: usize, budget: u64) -> u64
+// The most ticks of one visit, some fifty microseconds: so an instance that never ends holds up no other one, and an end is seen soon.
+const SLICE: u64 = 16_384;
+
+// How many ticks are left to an instance: to a joined one what is left to all joined ones, to a detached one what is left to itself.
+fn left_to<B: Body>(net: &Net<B>, i: usize, budget: u64, left: u64) -> u64
     requires instance { i < length net.now.program.instances.items }
     requires within { count net.now i ≤ budget }
-    ensures { count net.now i + result ≡ budget }
+    ensures detached { (network net.now).detached i ≡ true → count net.now i + result ≡ budget }
+    ensures joined { IsJoined (network net.now) i → result ≡ left }
 {
-    budget - net.counts[i]
+    if net.is_detached(i) {
+        budget - net.counts[i]
+    } else {
+        left
+    }
 }
 
-/// Resumes an instance with what is left to it: a joined one with what is left to all joined ones, a detached one with what
-/// is left to itself.
+/// Resumes an instance with what is left to it, or with as much of it as one visit makes.
 pub fn resume_within<B: Body>(
     alloc: Global,
     net: &mut Net<B>,
@@ -40,23 +47,33 @@ pub fn resume_within<B: Body>(
     ensures given { given net.new ≡ given net.old }
     ensures resumed { IfOk result (λ r. HasResumedWithin net.old net.new i budget left.old left.new r.0 r.1) }
 {
-    if net.is_detached(i) {
-        let fuel = own_left(net, i, budget);
-        let answer = resume_instance(alloc, net, ties, i, fuel)?;
-        return Ok(answer);
+    let detached = net.is_detached(i);
+    let fuel = left_to(net, i, budget, *left).min(SLICE);
+    let (pause, made) = resume_instance(alloc, net, ties, i, fuel)?;
+    if !detached {
+        *left -= made;
     }
-    let (pause, made) = resume_instance(alloc, net, ties, i, *left)?;
-    *left -= made;
     Ok((pause, made))
 }
 
-/// Whether an instance that answered so is a joined one that may go on.
-pub fn goes_past<B: Body>(net: &Net<B>, i: usize, pause: Pause) -> bool
+/// Whether an instance that answered so is a joined one that may go on, while nothing is left to the joined ones.
+pub fn goes_past<B: Body>(net: &Net<B>, i: usize, pause: Pause, left: u64) -> bool
     requires { i < length net.now.program.instances.items }
-    ensures { MatchBool result ((pause ≡ Fuel) × IsJoined (network net.now) i) (pause ≡ Fuel → (network net.now).detached i ≡ true) }
+    ensures { MatchBool result ((pause ≡ Fuel) × IsJoined (network net.now) i × (left ≡ 0)) (pause ≡ Fuel → IsJoined (network net.now) i → 0 < left) }
 {
     match pause {
-        Pause::Fuel => !net.is_detached(i),
+        Pause::Fuel => left == 0 && !net.is_detached(i),
+        _ => false,
+    }
+}
+
+/// Whether an instance that answered so, and does not go past the budget, may go on within it.
+pub fn goes_again<B: Body>(net: &Net<B>, i: usize, pause: Pause, budget: u64) -> bool
+    requires { i < length net.now.program.instances.items }
+    ensures { MatchBool result (pause ≡ Fuel) (pause ≡ Fuel → ((network net.now).detached i ≡ true) × (budget ≤ count net.now i)) }
+{
+    match pause {
+        Pause::Fuel => !net.is_detached(i) || net.counts[i] < budget,
         _ => false,
     }
 }

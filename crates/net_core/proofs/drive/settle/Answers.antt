@@ -5,8 +5,8 @@ use Rattle.net_core.specs.State.{network}
 use Rattle.net_core.proofs.Constructed.{zero_joined}
 use Rattle.net_core.proofs.drive.settle.Goals as goal
 
-pub settle_rounds-outcome-requires-clause-new : goal.settle_rounds-outcome-requires-clause-new
-settle_rounds-outcome-requires-clause-new g c =
+pub settle_on-driven-requires-clause-within : goal.settle_on-driven-requires-clause-within
+settle_on-driven-requires-clause-within g c =
     let net = network c.args.net.now in
     let none = ap (joined_ticks net) (fun_ext c.requires.new.none_made) ∙ zero_joined net in
     record {

@@ -1,18 +1,25 @@
 use Rattle.std.proofs.Common.{refl, arith}
 use Rattle.net_core.proofs.share.resume_within.Goals as goal
 
-pub returns-then-is_detached-clause-resumed : goal.returns-then-is_detached-clause-resumed
-returns-then-is_detached-clause-resumed g c = record {
-  fuel = c.own_left-fuel.result;
-  resumed = c.in_ok-answer.ensures.resumed;
-  joined = λ j. let e = c.is_detached.ensures in let f = c.if-is_detached.true in absurd (cc);
-  detached = λ d. (c.own_left-fuel.ensures, refl);
+pub returns-then-not-detached-clause-resumed : goal.returns-then-not-detached-clause-resumed
+returns-then-not-detached-clause-resumed g c = record {
+  fuel = c.min-fuel.result;
+  resumed = c.in_ok-pause.ensures.resumed;
+  joined = λ j.
+      let m = c.min-fuel.ensures in
+      let l = c.left_to.ensures.joined j in
+      let w = c.in_ok-pause.ensures.resumed.within in
+      (grind arith, grind arith, λ z. grind arith);
+  detached = λ d. let e = c.is_detached-detached.ensures in let f = c.if-not-detached.true in absurd (cc);
 }
 
-pub returns-clause-resumed : goal.returns-clause-resumed
-returns-clause-resumed g c = record {
-  fuel = c.args.left.now;
+pub returns-else-not-detached-clause-resumed : goal.returns-else-not-detached-clause-resumed
+returns-else-not-detached-clause-resumed g c = record {
+  fuel = c.min-fuel.result;
   resumed = c.in_ok-pause.ensures.resumed;
-  joined = λ j. (refl, let w = c.in_ok-pause.ensures.resumed.within in omega arith);
-  detached = λ d. let e = c.is_detached.ensures in let f = c.if-is_detached.false in absurd (cc);
+  joined = λ j. let e = c.is_detached-detached.ensures in let f = c.if-not-detached.false in absurd (cc);
+  detached = λ d.
+      let m = c.min-fuel.ensures in
+      let l = c.left_to.ensures.detached d in
+      (grind arith, refl, λ z. grind arith);
 }

@@ -9,9 +9,9 @@ use Rattle.net_core.specs.declared.net_state.NetState.{NetState}
 use Rattle.net_core.specs.Bindings.{IsConnected, IsWriter, producer_of}
 use Rattle.net_core.specs.Load.{IsIn, AreBelow, AreListed}
 use Rattle.net_core.specs.Ties.{AreAllTies}
-use Rattle.net_core.specs.Settle.{IsAtRest, AreJoinedEnded, IsSomeJoinedLeft, IsSomeWithFuel, AreNoneWithFuel}
-use Rattle.net_core.proofs.Settled.{limit_ends, done_ends, spent_ends, stopped_ends, told_joined, told_all}
-use Rattle.net_core.proofs.drive.settle_rounds.Goals as goal
+use Rattle.net_core.specs.Settle.{IsAtRest, AreJoinedEnded, IsSomeJoinedLeft}
+use Rattle.net_core.proofs.Settled.{limit_ends, done_ends, told_joined}
+use Rattle.net_core.proofs.drive.settle_on.Goals as goal
 
 -- where no instance is left on the list, each is at rest
 rest_all : (net : NetState) (budget : ℕ) (now : List ℕ) → length now ≡ 0 → ((j : ℕ) → j < length net.program.instances.items → IsAtRest net budget j ⊎ IsIn j now) → (j : ℕ) → j < length net.program.instances.items → IsAtRest net budget j
@@ -52,18 +52,18 @@ rounds-init g c =
     let here : c.len.result ≡ length c.args.net.now.program.instances.items = omega arith in
     record {
       given = refl;
-      within = c.requires.new;
+      within = c.requires.within;
       listed_len = omega arith;
       listed = λ x e. let w = slice_get_within c.in_ok-listed.listed.items x true e in c.in_ok-now.ensures.all x (omega arith);
       below = subst (λ m. AreBelow m c.in_ok-now.now.items) here c.in_ok-now.ensures.below;
       rest = λ j l. inr (c.in_ok-now.ensures.all j (omega arith));
     }
 
-pub returns-then-not-branch-clause-outcome : goal.returns-then-not-branch-clause-outcome
-returns-then-not-branch-clause-outcome g c =
+pub returns-then-not-branch-clause-ended : goal.returns-then-not-branch-clause-ended
+returns-then-not-branch-clause-ended g c =
     let e = c.in_ok-pass.ensures in
     let l = rw c.if-not-branch.true at e.passed in
-    limit_ends c.pass.new.net c.valid-then-not-branch.ensures c.args.budget c.pass.new.left e.within l
+    (limit_ends c.pass.new.net c.valid-then-not-branch.ensures c.args.budget c.pass.new.left e.within l, tt)
 
 pub rounds-preserved : goal.rounds-preserved
 rounds-preserved g c =
@@ -81,38 +81,34 @@ rounds-preserved g c =
       rest = λ j l. subst (λ (v : Vec ℕ Global). IsAtRest c.pass.new.net c.args.budget j ⊎ IsIn j v.items) x (p.rest j (omega arith) (inv.rest j (omega arith)));
     }
 
-pub returns-then-is_done-clause-outcome : goal.returns-then-is_done-clause-outcome
-returns-then-is_done-clause-outcome g c =
-    done_ends c.rounds.net c.valid.ensures c.args.budget c.rounds.left c.rounds.invariant.within c.if-is_done.ensures
+pub returns-then-is_done-clause-ended : goal.returns-then-is_done-clause-ended
+returns-then-is_done-clause-ended g c = (
+  done_ends c.rounds.net c.valid.ensures c.args.budget c.rounds.left c.rounds.invariant.within c.if-is_done.ensures,
+  told_joined c.rounds.net c.valid.ensures c.args.budget c.rounds.left c.rounds.invariant.within c.if-is_done.ensures,
+)
 
-pub returns-then-is_done-clause-pauses : goal.returns-then-is_done-clause-pauses
-returns-then-is_done-clause-pauses g c =
-    told_joined c.rounds.net c.valid.ensures c.args.budget c.rounds.left c.rounds.invariant.within c.if-is_done.ensures
+pub answer_all-requires-clause-ties_len : goal.answer_all-requires-clause-ties_len
+answer_all-requires-clause-ties_len g c =
+    let same : c.deref.result.now ≡ c.args.net.now.program = c.deref.ensures ∙ ap (λ (z : NetState). z.program) c.net.view_is in
+    c.in_ok-ties.ensures.len ∙ ap (λ (p : Program). length p.instances.items) same ∙ ap (λ (z : Program × Input). length z.0.instances.items) (sym c.rounds.invariant.given)
 
-pub returns-then-is_done-2-clause-outcome : goal.returns-then-is_done-2-clause-outcome
-returns-then-is_done-2-clause-outcome g c =
-    done_ends c.rounds.net c.valid-2.ensures c.args.budget c.rounds.left c.rounds.invariant.within c.if-is_done-2.ensures
+pub answer_all-requires-clause-ties : goal.answer_all-requires-clause-ties
+answer_all-requires-clause-ties g c =
+    let same : c.deref.result.now ≡ c.args.net.now.program = c.deref.ensures ∙ ap (λ (z : NetState). z.program) c.net.view_is in
+    subst (λ (z : Program × Input). AreAllTies z.0 c.in_ok-ties.ties.items) (sym c.rounds.invariant.given) (subst (λ (p : Program). AreAllTies p c.in_ok-ties.ties.items) same c.in_ok-ties.ensures.each)
 
-pub returns-then-is_done-2-clause-pauses : goal.returns-then-is_done-2-clause-pauses
-returns-then-is_done-2-clause-pauses g c =
-    told_joined c.rounds.net c.valid-2.ensures c.args.budget c.rounds.left c.rounds.invariant.within c.if-is_done-2.ensures
+pub answer_all-requires-clause-few : goal.answer_all-requires-clause-few
+answer_all-requires-clause-few g c = λ j. let a = c.rounds.invariant.within.capped j in let b = c.requires.budget in omega arith
 
-pub returns-then-goes_on-clause-outcome : goal.returns-then-goes_on-clause-outcome
-returns-then-goes_on-clause-outcome g c =
+pub returns-then-has_grown-clause-ended : goal.returns-then-has_grown-clause-ended
+returns-then-has_grown-clause-ended g c = (
+  c.if-while_small.true,
+  c.in_ok-answer_all.ensures.within c.args.budget c.rounds.left c.rounds.invariant.within,
+  c.in_ok-answer_all.ensures.answered,
+)
+
+pub at_rest-requires-clause-rest : goal.at_rest-requires-clause-rest
+at_rest-requires-clause-rest g c =
     let inv = c.rounds.invariant in
     let none : length c.rounds.now.items ≡ 0 = let t = c.rounds-test.ensures in let o = c.rounds.now.ok.0 in grind (arith, nat_tests) in
-    let rest = rest_all c.rounds.net c.args.budget c.rounds.now.items none inv.rest in
-    spent_ends c.rounds.net c.valid-2.ensures c.args.budget c.rounds.left inv.within rest c.if-is_done-2.ensures (subst (λ (z : NetState). IsSomeWithFuel z.pauses) c.net-2.view_is c.if-goes_on.ensures)
-
-pub returns-clause-outcome : goal.returns-clause-outcome
-returns-clause-outcome g c =
-    let inv = c.rounds.invariant in
-    let none : length c.rounds.now.items ≡ 0 = let t = c.rounds-test.ensures in let o = c.rounds.now.ok.0 in grind (arith, nat_tests) in
-    let rest = rest_all c.rounds.net c.args.budget c.rounds.now.items none inv.rest in
-    stopped_ends c.rounds.net c.valid-2.ensures c.args.budget c.rounds.left inv.within rest c.if-is_done-2.ensures (subst (λ (z : NetState). AreNoneWithFuel z.pauses) c.net-2.view_is c.if-goes_on.ensures)
-
-pub returns-clause-pauses : goal.returns-clause-pauses
-returns-clause-pauses g c =
-    let inv = c.rounds.invariant in
-    let none : length c.rounds.now.items ≡ 0 = let t = c.rounds-test.ensures in let o = c.rounds.now.ok.0 in grind (arith, nat_tests) in
-    told_all c.rounds.net c.valid-2.ensures c.args.budget c.rounds.left inv.within (rest_all c.rounds.net c.args.budget c.rounds.now.items none inv.rest) (subst (λ (z : NetState). AreNoneWithFuel z.pauses) c.net-2.view_is c.if-goes_on.ensures)
+    rest_all c.rounds.net c.args.budget c.rounds.now.items none inv.rest
