@@ -73,7 +73,8 @@ IsBodyAt Stands program input counts i =
     IsStanding (Stands (instance_job program input i)) (network_on program input) (count_of counts) i (instance_job program input i).behavior (stream_at program i)
 
 -- a net stands at its count
-pub record IsNetAt {B : Type 0} (Stands : B → Job → List Tick → Type 0) (program : Program) (input : Input) (bodies : List B) (ports : List Ports) (writers offered taken_list : List ℕ) (fed_by_self : List Bool) (counts : List ℕ) (pauses : List (Option Pause)) : Type 0 where
+pub record IsNetAt {B : Type 0} (Stands : B → Job → List Tick → Type 0) (program : Program) (input : Input) (bodies : List B) (ports : List Ports)
+    (writers offered taken_list : List ℕ) (fed_by_self : List Bool) (counts : List ℕ) (pauses : List (Option Pause)) : Type 0 where
   pub connected : IsConnected program
   pub network : IsNetworkOf program input
   pub well_formed : IsWellFormed program

@@ -56,6 +56,7 @@ IsReady (Still (Await p how k)) ports = (t : Token) × (v : ℕ) × (slice_get (
 abbrev pub IsLook : Rest → Ports → Pause → Type 0
 IsLook rest ports HasEnded = rest ≡ Over
 IsLook rest ports (WantsRead p) = (how : StreamOperation) × (k : ℕ → Behavior) × (rest ≡ Still (Await p how k)) × (waiting ports p ≡ [])
-IsLook rest ports (BadToken p) = (how : StreamOperation) × (k : ℕ → Behavior) × (t : Token) × (rest ≡ Still (Await p how k)) × (slice_get (waiting ports p) 0 ≡ Some t) × (judge_token how t ≡ WrongToken)
+IsLook rest ports (BadToken p) = (how : StreamOperation) × (k : ℕ → Behavior) × (t : Token) × (rest ≡ Still (Await p how k))
+    × (slice_get (waiting ports p) 0 ≡ Some t) × (judge_token how t ≡ WrongToken)
 IsLook rest ports (WantsWrite p) = (t : Token) × (r : Behavior) × (rest ≡ Still (Act (Put p t) r)) × (room_at ports p ≡ 0)
 IsLook rest ports Fuel = IsReady rest ports

@@ -26,7 +26,8 @@ queue_at program all writers taken_list s = drop (slice_index taken_list s) (lis
 
 -- each reader's port holds what it was offered of its stream and has not taken
 pub record AreQueued (program : Program) (all : List Ports) (lists : ℕ → List Token) (offered taken_list : List ℕ) : Type 0 where
-  pub waits : (i p : ℕ) → i < length program.instances.items → Reads program i p → waiting_of all i p ≡ drop (slice_index taken_list (stream_at program i p)) (take (slice_index offered (stream_at program i p)) (lists (stream_at program i p)))
+  pub waits : (i p : ℕ) → i < length program.instances.items → Reads program i p
+      → waiting_of all i p ≡ drop (slice_index taken_list (stream_at program i p)) (take (slice_index offered (stream_at program i p)) (lists (stream_at program i p)))
   pub offered_within : (s : ℕ) → s < length program.streams.items → slice_index offered s ≤ length (lists s)
   pub taken_within : (s : ℕ) → s < length program.streams.items → slice_index taken_list s ≤ slice_index offered s
 
@@ -49,7 +50,8 @@ pub record AreKept (before : List Ports) (offered : List ℕ) (after : List Port
 
 -- what a port of instance i holds then is what its stream offers, and is told as offered
 pub record IsOffered (program : Program) (i p : ℕ) (before : List Ports) (writers taken_list offered : List ℕ) (after : List Ports) (offered' : List ℕ) : Type 0 where
-  pub waits : waiting_of after i p ≡ drop (slice_index taken_list (stream_at program i p)) (take (slice_index offered' (stream_at program i p)) (list_at program before writers (stream_at program i p)))
+  pub waits : waiting_of after i p ≡ drop (slice_index taken_list (stream_at program i p))
+      (take (slice_index offered' (stream_at program i p)) (list_at program before writers (stream_at program i p)))
   pub within : slice_index offered' (stream_at program i p) ≤ length (list_at program before writers (stream_at program i p))
   pub more : slice_index offered (stream_at program i p) ≤ slice_index offered' (stream_at program i p)
 

@@ -70,9 +70,15 @@ pub record HasResumed (old new : NetState) (i fuel : ℕ) (pause : Pause) (made 
   pub written_else : (s : ℕ) → ((p : ℕ) → Writes old.program i p → stream_at old.program i p ≡ s → ⊥) → written (network old) (count new) s ≡ written (network old) (count old) s
   pub taken_else : (s : ℕ) → ((p : ℕ) → Reads old.program i p → stream_at old.program i p ≡ s → ⊥) → taken (network old) (count new) s ≡ taken (network old) (count old) s
   pub own :
-      (pause ≡ Fuel → ⊥) → ((p : ℕ) → Reads old.program i p → written (network old) (count new) (stream_at old.program i p) ≡ written (network old) (count old) (stream_at old.program i p)) → ((p : ℕ) → Writes old.program i p → taken (network old) (count new) (stream_at old.program i p) ≡ taken (network old) (count old) (stream_at old.program i p)) → HoldsPause (network old) (count new) i (stream_at old.program i) pause
+      (pause ≡ Fuel → ⊥) → ((p : ℕ) → Reads old.program i p
+      → written (network old) (count new) (stream_at old.program i p) ≡ written (network old) (count old) (stream_at old.program i p))
+      → ((p : ℕ) → Writes old.program i p → taken (network old) (count new) (stream_at old.program i p) ≡ taken (network old) (count old)
+      (stream_at old.program i p)) → HoldsPause (network old) (count new) i (stream_at old.program i) pause
   pub others :
-      (j : ℕ) (x : Pause) → (j ≡ i → ⊥) → j < length old.program.instances.items → ((s : ℕ) → consumer_of old.program s ≡ j → written (network old) (count new) s ≡ written (network old) (count old) s) → ((s : ℕ) → producer_of old.program s ≡ j → taken (network old) (count new) s ≡ taken (network old) (count old) s) → (x ≡ Fuel → ⊥) → HoldsPause (network old) (count old) j (stream_at old.program j) x → HoldsPause (network old) (count new) j (stream_at old.program j) x
+      (j : ℕ) (x : Pause) → (j ≡ i → ⊥) → j < length old.program.instances.items
+      → ((s : ℕ) → consumer_of old.program s ≡ j → written (network old) (count new) s ≡ written (network old) (count old) s)
+      → ((s : ℕ) → producer_of old.program s ≡ j → taken (network old) (count new) s ≡ taken (network old) (count old) s) → (x ≡ Fuel → ⊥)
+      → HoldsPause (network old) (count old) j (stream_at old.program j) x → HoldsPause (network old) (count new) j (stream_at old.program j) x
 
 -- no instance has made more ticks than the budget, nor have the joined ones together, to which so many are left
 pub record IsWithin (net : NetState) (budget left : ℕ) : Type 0 where

@@ -24,7 +24,8 @@ pub trait Body {
     /// Makes the job's next ticks, as many as its ports allow and at most `fuel`. A tick that is not made changes nothing.
     fn resume(&mut self, ports: &mut Ports, fuel: u64) -> Pause
         requires { CanResume (stands self.old) ports.old fuel }
-        ensures { (job : Job) (ts : List Tick) → stands self.old job ts → ends_of ports.old ≡ job.ends → Agrees job.behavior ts ports.old → Resumed (stands self.new job) job.behavior ts ports.old fuel result ports.new };
+        ensures { (job : Job) (ts : List Tick) → stands self.old job ts → ends_of ports.old ≡ job.ends → Agrees job.behavior ts ports.old
+            → Resumed (stands self.new job) job.behavior ts ports.old fuel result ports.new };
 
     /// How many ticks were made.
     fn ticks(&self) -> u64

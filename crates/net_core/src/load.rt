@@ -126,7 +126,8 @@ fn load_writer(
     requires instance { i < length program.now.instances.items }
     requires writes { Writes program.now i p }
     ensures reloaded { IsReloaded all.old.items i p all.new.items }
-    ensures room { IfOk result (λ _. room_of all.new.items i p ≡ depth_of program.now (stream_at program.now i p) - (length (carried_of all.old.items i p) - slice_index taken.now.items (stream_at program.now i p))) }
+    ensures room { IfOk result (λ _. room_of all.new.items i p ≡ depth_of program.now (stream_at program.now i p) -
+        (length (carried_of all.old.items i p) - slice_index taken.now.items (stream_at program.now i p))) }
 {
     let len = all[i].carried(p).len();
     let queue = len.saturating_sub(taken[tie.stream]);
@@ -237,7 +238,8 @@ pub fn count_taken(
     requires taken_len { length taken.old.items ≡ length program.now.streams.items }
     requires enough { (p : ℕ) → Reads program.now i p → length (waiting_of all.now.items i p) ≤ slice_index offered.now.items (stream_at program.now i p) }
     ensures len { length taken.new.items ≡ length taken.old.items }
-    ensures took { (p : ℕ) → Reads program.now i p → slice_index taken.new.items (stream_at program.now i p) ≡ slice_index offered.now.items (stream_at program.now i p) - length (waiting_of all.now.items i p) }
+    ensures took { (p : ℕ) → Reads program.now i p → slice_index taken.new.items (stream_at program.now i p) ≡ slice_index offered.now.items (stream_at program.now i p) - length
+        (waiting_of all.now.items i p) }
     ensures others { (s : ℕ) → ((p : ℕ) → Reads program.now i p → stream_at program.now i p ≡ s → ⊥) → slice_index taken.new.items s ≡ slice_index taken.old.items s }
 {
     for p in 0..ties.len() {

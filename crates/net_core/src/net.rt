@@ -38,5 +38,6 @@ impl<B: Body> Model for Net<B> {
 
     ghost view = { λ n. record { program = arc_value n.program; input = arc_value n.input; counts = n.counts.items; pauses = n.pauses.items } };
 
-    ghost invariant = { λ n. IsNetAt B.stands (arc_value n.program) (arc_value n.input) n.bodies.items n.ports.items n.writers.items n.offered.items n.taken.items n.fed_by_self.items n.counts.items n.pauses.items };
+    ghost invariant = { λ n. IsNetAt B.stands (arc_value n.program)
+        (arc_value n.input) n.bodies.items n.ports.items n.writers.items n.offered.items n.taken.items n.fed_by_self.items n.counts.items n.pauses.items };
 }

@@ -20,7 +20,8 @@ use tapa_base::OutOfMemory;
 /// Resumes a body, and counts the ticks that it makes.
 pub fn resume_body<B: Body>(body: &mut B, ports: &mut Ports, fuel: u64) -> (Pause, u64)
     requires { CanResume (B.stands body.old) ports.old fuel }
-    ensures { (job : Job) (ts : List Tick) → B.stands body.old job ts → ends_of ports.old ≡ job.ends → Agrees job.behavior ts ports.old → (h : Resumed (B.stands body.new job) job.behavior ts ports.old fuel result.0 ports.new) × (length h.made ≡ result.1) }
+    ensures { (job : Job) (ts : List Tick) → B.stands body.old job ts → ends_of ports.old ≡ job.ends → Agrees job.behavior ts ports.old
+        → (h : Resumed (B.stands body.new job) job.behavior ts ports.old fuel result.0 ports.new) × (length h.made ≡ result.1) }
 {
     let before = body.ticks();
     let pause = body.resume(ports, fuel);
