@@ -1,4 +1,4 @@
-use Rattle.std.proofs.Common.{◌≡◌, ◌<◌, ◌^◌, ℕ}
+use Rattle.std.proofs.Common.{◌<◌, ◌^◌, ℕ}
 use Rattle.std.specs.Prelude.{slice_index}
 use Rattle.tapa_tests.proofs.calls.are_lists.Given as goal
 
