@@ -15,8 +15,7 @@ source_task = codes "void Src(tapa::ostream<uint64_t>& a, tapa::ostream<uint64_t
 
 -- one that writes the sums of what it reads
 abbrev pub middle_task : List ℕ
-middle_task = codes "void Mid(tapa::istream<uint64_t>& x, tapa::istream<uint64_t>& y, tapa::ostream<uint64_t>& a, tapa::ostream<uint64_t>& b) {\n  for
-    (uint64_t i = 0; i < 100; ++i) { uint64_t t = x.read() + y.read(); a << t; b << t; } }\n"
+middle_task = codes "void Mid(tapa::istream<uint64_t>& x, tapa::istream<uint64_t>& y, tapa::ostream<uint64_t>& a, tapa::ostream<uint64_t>& b) {\n  for (uint64_t i = 0; i < 100; ++i) { uint64_t t = x.read() + y.read(); a << t; b << t; } }\n"
 
 -- one that reads
 abbrev pub sink_task : List ℕ
@@ -52,8 +51,7 @@ row_of part layer = each_below 4 (line_of part layer)
 -- the network of n layers
 abbrev pub network_text : ℕ → List ℕ
 network_text n =
-    source_task ++ middle_task ++ sink_task ++ codes "void Gen() {\n" ++ each_below (n + 1)
-        (row_of Streams) ++ codes "  tapa::task()\n" ++ row_of Sources 0 ++ each_below n (row_of Middles) ++ row_of Sinks n
+    source_task ++ middle_task ++ sink_task ++ codes "void Gen() {\n" ++ each_below (n + 1) (row_of Streams) ++ codes "  tapa::task()\n" ++ row_of Sources 0 ++ each_below n (row_of Middles) ++ row_of Sinks n
     ++ codes "  ;\n}\n"
 
 -- the name of its top task
