@@ -1,26 +1,25 @@
 -- The readers of actions, declarations and attributes are steady.
-use Rattle.std.proofs.Common.{◌≡◌, ◌⊎◌, inl, inr, ℕ, ◌<◌, ◌≤◌, Bool, true, false, List, [], ◌∷◌, length, Option, Some, None, Ok, refl, ap, subst, ◌∙◌, arith}
+use Rattle.std.proofs.Common.{◌≡◌, inl, inr, ℕ, ◌<◌, Bool, true, false, [], ◌∷◌, length, Option, Some, None, Ok, refl, ap, subst, ◌∙◌, arith}
 use Rattle.tapa_base.specs.declared.kind.Kind.TheVariants as kind
 use Rattle.tapa_base.specs.declared.text.Place.{Place}
-use Rattle.tapa_base.specs.Spans.{◌⨾◌, ◌∣◌, Nothing, Maybe, When, Each, EachOfSome, Separated, SeparatedOrNone}
+use Rattle.tapa_base.specs.Spans.{◌⨾◌, ◌∣◌, Nothing, When, EachOfSome}
 use Rattle.tapa_syntax.specs.declared.terminal.Terminal.{Terminal}
 use Rattle.tapa_syntax.specs.declared.terminal.Terminal.TheVariants as terminal
 use Rattle.tapa_syntax.specs.declared.tree.Name.{Name}
 use Rattle.tapa_syntax.specs.declared.tree.StepOperator.{StepOperator}
 use Rattle.tapa_syntax.specs.declared.tree.StepOperator.TheVariants as step_operator
 use Rattle.tapa_syntax.specs.declared.tree.AssignmentOperator.{AssignmentOperator}
-use Rattle.tapa_syntax.specs.declared.tree.AttributeArgument.{AttributeArgument}
 use Rattle.tapa_syntax.specs.declared.tree.AttributeArgument.TheVariants as argument_form
-use Rattle.tapa_syntax.specs.Trees.{ExpressionTree, nullptr, PlaceTree, variable_place, element_place, ActionTree, call_action, write, read, assign, postfix, prefix_step, CountForm, literal_count, name_count, parenthesized_count, CountTree, DeclaratorTree, plain, initialized, array, DeclarationTree, AttributeTree}
-use Rattle.tapa_syntax.specs.Grammar.{Part, Takes, May, Means, IsName, IsPlainName, IsType, StandsAt, is_name, step_operator_of, assignment_operator_of, IsExpression, sum_level, expression_level, argument_level, IsPlace, IsAction, IsCountForm, IsCount, IsDeclarator, IsDeclaration, IsAttributeArgument, AreAttributeArguments, IsAttribute, IsStatement}
-use Rattle.tapa_parse_expression.specs.Readers.{Reader, and_then, next, first_place, no_place, sees, skip, expect, eat, here, name, plain_name, literal_value, known, pure, refuse, repeat, separated, separated_until, ◌>>=◌, ◌>>◌}
+use Rattle.tapa_syntax.specs.Trees.{PlaceTree, variable_place, element_place, ActionTree, call_action, write, read, assign, postfix, prefix_step, literal_count, name_count, parenthesized_count, CountTree, plain, initialized, array}
+use Rattle.tapa_syntax.specs.Grammar.{Part, Takes, May, Means, IsName, IsPlainName, IsType, is_name, step_operator_of, assignment_operator_of, IsExpression, sum_level, expression_level, argument_level, IsPlace, IsAction, IsCountForm, IsCount, IsDeclarator, IsDeclaration, IsAttributeArgument, AreAttributeArguments, IsAttribute, IsStatement}
+use Rattle.tapa_parse_expression.specs.Readers.{Reader, next, first_place, no_place, sees, skip, expect, here, name, known, pure, separated_until, ◌>>=◌, ◌>>◌}
 use Rattle.tapa_parse_expression.specs.Reading as spec
-use Rattle.tapa_parse_expression.specs.Reading.{Readers, argument, type_name, whole, place_from, place_with, call_arguments, written, targets, assigned_by, assigned, acted_by, acted, stepped, action_with, form_by, form, counted, declarator_by, declarator, declaration_with, attribute_argument_by, attribute_argument, listed_arguments, attribute_arguments, attribute, attributes, enter, open_level}
-use Rattle.tapa_parse_expression.proofs.Parts.{Symbols, is_end}
-use Rattle.tapa_parse_expression.proofs.Fronts.{Steady, Full, Any, Literal, MaySteady, full_of, full_then, full_takes, full_name, full_plain, mark, no_name, goes_at, steady_map, steady_then, then_steady, steady_value, steady_pure, steady_by, steady_at, steady_test, steady_sees, steady_refuse, steady_expect, steady_eat, steady_name, steady_plain, steady_literal, steady_skip, steady_skips, steady_enter, steady_open}
-use Rattle.tapa_parse_expression.proofs.SteadyLists.{Many, full_many, Longer, more_of, separated_of, listed_of, some_of, collect, steady_repeat, steady_repeat_some, steady_some, steady_separated, steady_separated_until, looks_sees}
-use Rattle.tapa_parse_expression.proofs.SteadyTypes.{steady_type, full_type}
-use Rattle.tapa_parse_expression.proofs.SteadyExpressions.{AnyExpression, AreSteady, full_expression, real_by, steady_argument, steady_in_parentheses, steady_in_brackets}
+use Rattle.tapa_parse_expression.specs.Reading.{Readers, argument, whole, place_from, place_with, call_arguments, assigned_by, assigned, acted_by, acted, stepped, action_with, form_by, form, counted, declarator_by, declarator, declaration_with, attribute_argument_by, attribute_argument, listed_arguments, attribute_arguments, attribute, attributes}
+use Rattle.tapa_parse_expression.proofs.Parts.{Symbols}
+use Rattle.tapa_parse_expression.proofs.Fronts.{Steady, Full, Any, Literal, MaySteady, full_then, full_takes, full_name, mark, no_name, goes_at, steady_map, steady_then, steady_value, steady_pure, steady_by, steady_at, steady_test, steady_sees, steady_refuse, steady_expect, steady_eat, steady_name, steady_plain, steady_literal, steady_skip, steady_skips, steady_enter, steady_open}
+use Rattle.tapa_parse_expression.proofs.SteadyLists.{Many, Longer, more_of, separated_of, listed_of, steady_repeat, steady_some, steady_separated, steady_separated_until, looks_sees}
+use Rattle.tapa_parse_expression.proofs.SteadyTypes.{steady_type}
+use Rattle.tapa_parse_expression.proofs.SteadyExpressions.{AnyExpression, AreSteady, real_by, steady_argument, steady_in_parentheses, steady_in_brackets}
 use Rattle.tapa_parse_expression.proofs.SteadyCasts.{steady_tighter, steady_expression}
 use Rattle.tapa_parse_expression.proofs.CompleteLevels.{expression_longer}
 use Rattle.tapa_parse.proofs.CompleteActions.{place_longer, form_longer, declarator_longer}

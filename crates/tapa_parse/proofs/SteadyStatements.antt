@@ -1,26 +1,24 @@
 -- The readers of statements are steady.
-use Rattle.std.proofs.Common.{◌≡◌, ◌⊎◌, inl, inr, ℕ, zero, suc, ◌<◌, Bool, true, false, cond, List, [], ◌∷◌, length, drop, Option, Some, None, Ok, refl, sym, ap, subst, ◌∙◌, arith}
+use Rattle.std.proofs.Common.{◌≡◌, ◌⊎◌, inl, inr, ℕ, zero, suc, Bool, true, false, List, [], ◌∷◌, drop, Option, Some, None, Ok, refl, sym, ap, subst, ◌∙◌, arith}
 use Rattle.std.specs.Prelude.{not, if◌then◌else◌}
 use Rattle.tapa_base.specs.declared.kind.Kind.{Kind}
 use Rattle.tapa_base.specs.declared.kind.Kind.TheVariants as kind
-use Rattle.tapa_base.specs.declared.text.Place.{Place}
 use Rattle.tapa_base.specs.Spans.{◌⨾◌, Nothing, Is, Maybe, Each}
 use Rattle.tapa_syntax.specs.declared.terminal.Terminal.{Terminal}
 use Rattle.tapa_syntax.specs.declared.terminal.Terminal.TheVariants as terminal
 use Rattle.tapa_syntax.specs.declared.tree.StepOperator.{StepOperator}
 use Rattle.tapa_syntax.specs.declared.tree.StepOperator.TheVariants as step_operator
 use Rattle.tapa_syntax.specs.Symbols.{Symbol}
-use Rattle.tapa_syntax.specs.Trees.{ExpressionTree, nullptr, variable_place, ActionTree, postfix, prefix_step, plain, DeclarationTree, StartTree, no_start, declare_start, act_start, HeadTree, StatementTree, attributed, empty, block, declare, act, if_only, if_else, while, for, while_not_eot, break, continue, Statements, no_statement, statement_then, statements}
-use Rattle.tapa_syntax.specs.Grammar.{Part, Takes, IsName, IsType, is_name, named, step_operator_of, IsExpression, expression_level, IsAction, IsDeclaration, IsAttribute, IsStart, IsHead, IsClosed, IsBare, IsStatement, AreStatements}
-use Rattle.tapa_parse_expression.specs.declared.fault.ParseCode.TheVariants.{P1, P2}
-use Rattle.tapa_parse_expression.specs.Readers.{Reader, and_then, next, first_place, same, sees, skip, expect, here, name, pure, refuse, ◌>>=◌, ◌>>◌}
-use Rattle.tapa_parse_expression.specs.Reading as spec
-use Rattle.tapa_parse_expression.specs.Reading.{Readers, one_kind, whole, enter, open_level, action_with, declaration_with, attribute, attributes, begins_action, begins_other, begins_statement, start, loop_test, step, head, jump, statement_with, statements_with, simple, braces, otherwise, choice, repetition, counting_loop, transaction_loop, bare_by, bare, inside_with, readers, below_levels}
-use Rattle.tapa_parse_expression.proofs.Parts.{Symbols, then_is, if_true, if_false, is_end, is_seen, sees_is}
+use Rattle.tapa_syntax.specs.Trees.{ExpressionTree, nullptr, variable_place, ActionTree, postfix, prefix_step, plain, DeclarationTree, StartTree, no_start, declare_start, act_start, HeadTree, StatementTree, attributed, empty, block, declare, act, if_only, if_else, while, for, while_not_eot, break, continue, no_statement, statement_then, statements}
+use Rattle.tapa_syntax.specs.Grammar.{Part, Takes, IsName, IsType, is_name, named, step_operator_of, IsExpression, expression_level, IsAction, IsDeclaration, IsAttribute, IsStart, IsClosed, IsBare, IsStatement, AreStatements}
+use Rattle.tapa_parse_expression.specs.declared.fault.ParseCode.TheVariants.{P1}
+use Rattle.tapa_parse_expression.specs.Readers.{Reader, next, first_place, same, sees, skip, expect, name, pure, refuse, ◌>>=◌, ◌>>◌}
+use Rattle.tapa_parse_expression.specs.Reading.{Readers, one_kind, whole, enter, action_with, declaration_with, attribute, attributes, begins_action, begins_other, begins_statement, start, loop_test, step, head, jump, statement_with, statements_with, simple, braces, otherwise, choice, repetition, counting_loop, transaction_loop, bare_by, bare, inside_with, readers, below_levels}
+use Rattle.tapa_parse_expression.proofs.Parts.{Symbols, if_true, if_false, is_end, is_seen, sees_is}
 use Rattle.tapa_parse_expression.proofs.SoundTypes.{is_word, takes_it}
 use Rattle.tapa_parse_expression.proofs.SoundExpressions.{MayBe}
 use Rattle.tapa_parse_expression.proofs.CompleteTypes.{takes_longer}
-use Rattle.tapa_parse_expression.proofs.Fronts.{Front, front_one, front_then, Steady, gives, refuses, SameGiven, carry, Full, Any, MaySteady, full_then, full_takes, full_name, mark, no_name, goes_at, steady_map, steady_where, steady_then, steady_value, steady_pure, steady_by, steady_at, steady_test, steady_sees, steady_refuse, steady_expect, steady_name, steady_skips, steady_enter, steady_open, goes_behind}
+use Rattle.tapa_parse_expression.proofs.Fronts.{Front, front_one, Steady, gives, SameGiven, by_given, after_given, goes_put, Full, Any, MaySteady, full_then, full_takes, full_name, mark, no_name, goes_at, steady_map, steady_where, steady_then, steady_value, steady_pure, steady_by, steady_at, steady_test, steady_sees, steady_refuse, steady_expect, steady_name, steady_skips, steady_enter, steady_open}
 use Rattle.tapa_parse_expression.proofs.SteadyLists.{Many, full_many, some_of, steady_repeat, steady_repeat_some, looks_sees}
 use Rattle.tapa_parse_expression.proofs.SteadyExpressions.{AnyExpression, full_expression}
 use Rattle.tapa_parse_expression.proofs.SteadyCasts.{are_steady}
@@ -28,27 +26,6 @@ use Rattle.tapa_parse.proofs.SoundLevels.{Sound, TakesNoElse}
 use Rattle.tapa_parse.proofs.SoundStatements.{statement_reads, levels_sound}
 use Rattle.tapa_parse.proofs.CompleteLengths.{attribute_longer, statement_longer}
 use Rattle.tapa_parse.proofs.SteadyActions.{AllSteady, expressions_below, full_map, any_longer, InParentheses, steady_place, steady_action, steady_declaration, steady_condition, steady_attribute}
-
--- ---- a reader whose answer is known, and what comes behind it
-
-module _ {A B : Type 0} (p : Reader A) (q : A → Reader B) (i : Symbols) where
-  by_given : (P R : Part) → ((i j : Symbols) → P i j → R i j) → Steady P p i
-      → ((a : A) (f : Front) (l : Symbols) → i ≡ f.put l → p i ≡ Ok (a, l) → SameGiven p f l a → ((j : Symbols) → P (f.put j) j) → Steady R (p >>= q) i) → Steady R (p >>= q) i
-  by_given P R g (gives a f l is e part same) k = k a f l is e same part
-  by_given P R g (refuses P1 f l is e goes same) k = refuses P1 f l is (ap (λ o. and_then o q) e) (goes.0, λ j. g (f.put (goes.0 j)) j (goes.1 j)) (λ x z other ends. ap (λ o. and_then o q) (same x z other ends))
-  by_given P R g (refuses P2 f [] is e goes same) k = absurd goes
-  by_given P R g (refuses P2 f (x ∷ l) is e goes same) k = refuses P2 f (x ∷ l) is (ap (λ o. and_then o q) e) (goes.0, λ j. g (f.put (x ∷ goes.0 j)) j (goes.1 j)) (λ x z other ends. ap (λ o. and_then o q) (same x z other ends))
-
-  after : (a : A) (f : Front) (l : Symbols) → i ≡ f.put l → p i ≡ Ok (a, l) → SameGiven p f l a → (Q R : Part) → ((m j : Symbols) → Q m j → R (f.put m) j) → Steady Q (q a) l → Steady R (p >>= q) i
-  after a f l is e same Q R join (gives b g m behind given part same') =
-      gives b (front_then f g) m (is ∙ ap f.put behind) (then_is q a l e given) (λ j. join (g.put j) j (part j)) (λ x z other ends. then_is q a (g.put (x ∷ other)) (carry p a f g l m x z other same behind ends) (same' x z other ends))
-  after a f l is e same Q R join (refuses P1 g m behind refused goes same') =
-      refuses P1 (front_then f g) m (is ∙ ap f.put behind) (then_is q a l e refused) (goes.0, λ j. join (g.put (goes.0 j)) j (goes.1 j))
-      (λ x z other ends. then_is q a (g.put (x ∷ other)) (carry p a f g l m x z other same behind ends) (same' x z other ends))
-  after a f l is e same Q R join (refuses P2 g [] behind refused goes same') = absurd goes
-  after a f l is e same Q R join (refuses P2 g (y ∷ m) behind refused goes same') =
-      refuses P2 (front_then f g) (y ∷ m) (is ∙ ap f.put behind) (then_is q a l e refused) (goes.0, λ j. join (g.put (y ∷ goes.0 j)) j (goes.1 j))
-      (λ x z other ends. then_is q a (g.put (x ∷ other)) (carry p a f g l (y ∷ m) x z other same behind ends) (same' x z other ends))
 
 -- some values, where a reader's are not known
 some_action : ActionTree
@@ -364,7 +341,7 @@ module _ (limit levels : ℕ) (inner : Option Readers) (sound : MayBe (Sound lim
   -- what is behind the first side of an if
   steady_sides : (c : ExpressionTree) (i : Symbols) → Steady Sides (statement_with limit inner >>= otherwise limit inner c) i
   unfolding otherwise
-  steady_sides c i = by_given (statement_with limit inner) (otherwise limit inner c) i Statement Sides (λ j r p. (p.0, inl p.1)) (steady_statement i) (λ s f l is e same part. pick s f l is e same part (sees terminal.Else l) refl)
+  steady_sides c i = by_given (statement_with limit inner) (otherwise limit inner c) i Statement Sides (λ f. goes_put Statement Sides f f (λ m j p. (p.0, inl p.1))) (steady_statement i) (λ s f l is e same part. pick s f l is e same part (sees terminal.Else l) refl)
     where
       read : (s : StatementTree) (k l : Symbols) → statement_with limit inner k ≡ Ok (s, l) → sees terminal.Else l ≡ true → IsStatement s k l × IsClosed s
       read s k l e seen = let w = (statement_reads limit levels inner sound k).on s l e in (w.spelled.0, closed w.spelled.1)
@@ -382,11 +359,11 @@ module _ (limit levels : ℕ) (inner : Option Readers) (sound : MayBe (Sound lim
       pick : (s : StatementTree) (f : Front) (l : Symbols) → i ≡ f.put l → statement_with limit inner i ≡ Ok (s, l) → SameGiven (statement_with limit inner) f l s → ((j : Symbols) → Statement (f.put j) j) → (b : Bool) → sees terminal.Else l ≡ b
           → Steady Sides (statement_with limit inner >>= otherwise limit inner c) i
       pick s f l is e same part false none =
-          after (statement_with limit inner) (otherwise limit inner c) i s f l is e same Nothing Sides (λ m j eq. subst (λ k. Sides (f.put m) k) eq ((part m).0, inl (part m).1))
+          after_given (statement_with limit inner) (otherwise limit inner c) i s f l is e same Nothing Sides (λ m j eq. subst (λ k. Sides (f.put m) k) eq ((part m).0, inl (part m).1))
           (steady_where (pure (if_only c s)) (otherwise limit inner c s) l (λ k n. if_false _ (sees_next k l terminal.Else n ∙ none) refl) (steady_pure (if_only c s) l))
       pick s f [] is e same part true some = absurd (let at = sees_is terminal.Else [] some in cc)
       pick s f (x ∷ z) is e same part true some =
-          after (statement_with limit inner) (otherwise limit inner c) i s f (x ∷ z) is e same (Is (λ y. y ≡ x) ⨾ Statement) Sides (λ m j p. sides s f x z m j (sees_is terminal.Else (x ∷ z) some) same p)
+          after_given (statement_with limit inner) (otherwise limit inner c) i s f (x ∷ z) is e same (Is (λ y. y ≡ x) ⨾ Statement) Sides (λ m j p. sides s f x z m j (sees_is terminal.Else (x ∷ z) some) same p)
           (steady_where (skip >> (statement_with limit inner >>= (λ t. pure (if_else c s t)))) (otherwise limit inner c s) (x ∷ z) (λ k n. if_true _ (sees_next k (x ∷ z) terminal.Else n ∙ some) refl)
           (steady_then tt (steady_pass x z) (λ _ j. steady_value (λ t. if_else c s t) (steady_statement j))))
 

@@ -1,5 +1,5 @@
 -- The readers of tasks and files are steady.
-use Rattle.std.proofs.Common.{◌≡◌, ◌⊎◌, inl, inr, ℕ, zero, suc, ◌<◌, ◌≤◌, Bool, true, false, cond, List, [], ◌∷◌, ◌++◌, length, drop, Option, Some, None, Ok, Err, refl, sym, ap, subst, ◌∙◌, arith}
+use Rattle.std.proofs.Common.{◌≡◌, inl, inr, ℕ, zero, suc, ◌<◌, ◌≤◌, Bool, true, false, cond, List, [], ◌∷◌, ◌++◌, length, drop, Option, Some, None, Ok, Err, refl, sym, subst, ◌∙◌, arith}
 use Rattle.std.specs.Prelude.{◌||◌, if◌then◌else◌}
 use Rattle.tapa_base.specs.declared.kind.Kind.TheVariants as kind
 use Rattle.tapa_base.specs.declared.text.Place.{Place}
@@ -9,24 +9,23 @@ use Rattle.tapa_syntax.specs.declared.terminal.Terminal.TheVariants as terminal
 use Rattle.tapa_syntax.specs.declared.tree.Name.{Name}
 use Rattle.tapa_syntax.specs.declared.tree.Parameter.{Parameter}
 use Rattle.tapa_syntax.specs.declared.tree.Parameter.TheVariants as parameter_form
-use Rattle.tapa_syntax.specs.Symbols.{Symbol}
-use Rattle.tapa_syntax.specs.Trees.{CountTree, AttributeTree, StreamTree, ArgumentTree, InvocationTree, BodyTree, leaf, upper, TaskTree, ItemTree, constant, task, nullptr, no_statement, statements}
-use Rattle.tapa_syntax.specs.Grammar.{Part, Takes, May, IsName, IsPlainName, IsType, expression_level, IsCount, IsAttribute, AreStatements, IsParameter, MayBeLabelled, IsStream, IsArgument, IsMode, IsInvocation, IsBody, IsItem}
+use Rattle.tapa_syntax.specs.Trees.{CountTree, AttributeTree, StreamTree, InvocationTree, BodyTree, leaf, upper, TaskTree, constant, task, nullptr, no_statement, statements}
+use Rattle.tapa_syntax.specs.Grammar.{Part, Takes, May, IsName, IsPlainName, IsType, expression_level, IsCount, IsAttribute, IsParameter, MayBeLabelled, IsStream, IsArgument, IsMode, IsInvocation, IsBody, IsItem}
 use Rattle.tapa_parse_expression.specs.declared.fault.ParseCode.TheVariants.{P1}
-use Rattle.tapa_parse_expression.specs.Readers.{Outcome, Reader, and_then, next, first_place, same, sees, skip, expect, eat, here, name, plain_name, pure, refuse, is_left, ended, repeat_from, repeat_behind, separated, ◌>>=◌, ◌>>◌}
-use Rattle.tapa_parse_expression.specs.Reading.{Readers, type_name, whole, whole_expression, attributes, counted, statements_with, open_level, below_levels}
-use Rattle.tapa_parse.specs.Reading.{stream_kind, port_by, port, scalar, parameter, parameters, stream_name, mode, invocation_argument, invocation_arguments, constant_word, depth, stream, invocation, chained, invocations, streams, body, task_behind, constant_behind, item, items, file}
+use Rattle.tapa_parse_expression.specs.Readers.{Outcome, Reader, and_then, next, first_place, same, sees, skip, expect, name, plain_name, pure, refuse, is_left, ended, repeat_from, repeat_behind, separated, ◌>>=◌, ◌>>◌}
+use Rattle.tapa_parse_expression.specs.Reading.{Readers, type_name, whole, attributes, counted, statements_with, below_levels}
+use Rattle.tapa_parse.specs.Reading.{stream_kind, port_by, port, scalar, parameter, parameters, stream_name, mode, invocation_argument, invocation_arguments, constant_word, depth, stream, invocation, chained, invocations, streams, body, task_behind, constant_behind, item, file}
 use Rattle.tapa_parse_expression.proofs.Parts.{Symbols, is_end, if_true, if_false, sees_is}
 use Rattle.tapa_parse_expression.proofs.SoundExpressions.{MayBe}
 use Rattle.tapa_parse_expression.proofs.CompleteTypes.{takes_longer, type_longer}
-use Rattle.tapa_parse_expression.proofs.Fronts.{Steady, gives, refuses, Full, Any, MaySteady, front_none, full_of, full_then, full_takes, full_name, mark, no_name, steady_map, steady_as, steady_then, then_steady, steady_value, steady_pure, steady_by, steady_at, steady_test, steady_sees, steady_refuse, steady_expect, steady_eat, steady_name, steady_plain, steady_skip, steady_skips, steady_open, spelled_of}
+use Rattle.tapa_parse_expression.proofs.Fronts.{Steady, gives, refuses, Full, Any, MaySteady, front_none, full_of, full_then, full_takes, full_name, no_name, steady_map, steady_as, steady_then, then_steady, steady_value, steady_pure, steady_by, steady_at, steady_test, steady_sees, steady_refuse, steady_expect, steady_eat, steady_name, steady_plain, steady_skips, steady_open, spelled_of}
 use Rattle.tapa_parse_expression.proofs.SteadyLists.{Many, full_many, IsLoop, Longer, loop_steady, and_then_again, all_read, collect, more_of, separated_of, listed_of, some_of, steady_repeat, steady_more, steady_separated, steady_separated_until, looks_sees}
 use Rattle.tapa_parse_expression.proofs.SteadyTypes.{steady_type, full_type}
 use Rattle.tapa_parse_expression.proofs.SteadyExpressions.{AnyExpression}
 use Rattle.tapa_parse.proofs.SoundLevels.{Sound}
 use Rattle.tapa_parse.proofs.SoundStatements.{levels_sound}
 use Rattle.tapa_parse.proofs.SoundTasks.{starts}
-use Rattle.tapa_parse.proofs.CompleteLengths.{maybe_longer, behind_longer, separated_longer, attribute_longer}
+use Rattle.tapa_parse.proofs.CompleteLengths.{maybe_longer, behind_longer, separated_longer}
 use Rattle.tapa_parse.proofs.CompleteTasks.{parameter_longer, stream_name_longer, count_longer, argument_longer, invocation_longer}
 use Rattle.tapa_parse.proofs.CompleteFiles.{item_longer}
 use Rattle.tapa_parse.proofs.SteadyActions.{AllSteady, full_map, any_longer, may_when, steady_whole, steady_counted, steady_attributes}
@@ -168,7 +167,7 @@ two_less [] = refl
 two_less (x ∷ []) = refl
 two_less (x ∷ y ∷ i) = refl
 
--- what they read are the symbols behind two
+-- a reader behind `tapa ::` reads the symbols behind two
 marked_on : {A : Type 0} (p q : Reader A) (i : Symbols) → p (drop 2 i) ≡ q (drop 2 i) → marked p i ≡ marked q i
 unfolding expect
 marked_on {A} p q i e = first (sees terminal.Tapa i)
