@@ -27,7 +27,7 @@ from runner.trial import Said, Trial  # noqa: E402
 
 # One line of each command over the files of runner/faults.py, and large ones.
 LINES = [["run", "r.cpp", "T", "d.json", "--workers=2"], ["build", "r.cpp", "T"], ["build", "r.cpp", "T", "--device", "v.json"], ["plan", "r.cpp", "T", "v.json"], ["plan", "r.cpp", "T", "v.json", "--plan", "exact"],
-         ["plan", "r.cpp", "T", "v.json", "--plan", "split"], ["cosim", "x.v", "d.json"]]
+         ["plan", "r.cpp", "T", "v.json", "--plan", "split"], ["cosim", "x.v", "d.json"], ["gen", "1"]]
 LARGE = [["run", "l.cpp", "T", "l.json"], ["build", "l.cpp", "T"], ["build", "l.cpp", "T", "--device", "l_device.json"], ["plan", "l.cpp", "T", "l_device.json"], ["cosim", "l.v", "l.json"]]
 SECONDS = 30
 LIMITS = (signal.SIGPIPE, signal.SIGXFSZ)

@@ -7,7 +7,7 @@ ghost use Rattle.tapa_syntax.specs.WellFormed.{IsWellFormed};
 ghost use Rattle.net_core.specs.Bounded.{scalars_of, memories_of};
 ghost use Rattle.net_case.specs.State.{AreAllHome};
 
-use crate::gates::{APART, Meeting, Slow};
+use crate::gates::{APART, Closed, Meeting, Slow};
 use command_source::{read_input, read_program};
 use coro_machine::Coro;
 use coro_threads::{Board, finish, run_free, run_rounds};
@@ -34,6 +34,13 @@ const CROSSED: &str =
     "void A(tapa::ostream<int>& s1, tapa::ostream<int>& s2) { s1 << 1; s1 << 2; s2 << 3; }
 void B(tapa::istream<int>& s1, tapa::istream<int>& s2) { s2.read(); s1.read(); s1.read(); }
 void T() { tapa::stream<int, 1> s1; tapa::stream<int, 1> s2; tapa::task().invoke(A, s1, s2).invoke(B, s1, s2); }
+";
+
+// Twenty-four pairs of tasks, each of which hands over tokens.
+const PAIRS: &str =
+    "void A(tapa::ostream<int>& q) { int x = 1; for (int i = 0; i < 30; ++i) { x = x * 5 + i; q << x; } }
+void B(tapa::istream<int>& q) { int sum = 0; for (int i = 0; i < 30; ++i) { sum = sum + q.read(); } }
+void T() { tapa::streams<int, 24, 2> q; tapa::task().invoke<tapa::join, 24>(A, q).invoke<tapa::join, 24>(B, q); }
 ";
 
 // A program, and the input of an empty object.
@@ -137,16 +144,18 @@ fn two_workers_meet_in_a_round(rt: HostRuntime) -> Result<(), Fail> {
     Ok(())
 }
 
-// How a case ends that two workers drive at a board, and whether one of them was short.
+// How a case ends that so many workers drive at a board, and whether one of them was short.
 fn at_a_board<R: Threads + Wait + Sync, G: Gate>(
     rt: &R,
     alloc: Global,
     case: Case<Coro>,
+    seats: u32,
     gate: &G,
 ) -> Result<(Outcome, bool), Fail>
-    requires { AreAllHome case }
+    requires seats { (0 < seats) × (seats ≤ 64) }
+    requires home { AreAllHome case }
 {
-    let Ok((board, mut workers)) = Board::new(alloc, case, 2) else {
+    let Ok((board, mut workers)) = Board::new(alloc, case, seats) else {
         return Err(OutOfMemory.into());
     };
     run_free(rt, &board, workers.as_mut_slice(), gate);
@@ -164,7 +173,7 @@ fn two_workers_meet_at_a_board(rt: HostRuntime) -> Result<(), Fail> {
     let (program, input) = given(rt.alloc(), SHIFTS)?;
     let case = new_case(rt.alloc(), &program, &input, 20)?;
     let gate = Meeting::new();
-    let end = at_a_board(&rt, rt.alloc(), case, &gate)?;
+    let end = at_a_board(&rt, rt.alloc(), case, 2, &gate)?;
     assert!(rt; matches!(end, (Outcome::Done { ticks: 20 }, false)));
     assert_eq!(rt; gate.met.load(Ordering::SeqCst), 2);
     Ok(())
@@ -176,17 +185,53 @@ fn the_others_go_on_at_a_board(rt: HostRuntime) -> Result<(), Fail> {
     let (program, input) = given(rt.alloc(), APART)?;
     let case = new_case(rt.alloc(), &program, &input, 100)?;
     let gate = Slow::new();
-    let end = at_a_board(&rt, rt.alloc(), case, &gate)?;
+    let end = at_a_board(&rt, rt.alloc(), case, 2, &gate)?;
     assert!(rt; matches!(end, (Outcome::Done { ticks: 10 }, false)));
     assert_eq!(rt; gate.seen.load(Ordering::SeqCst), 1);
     Ok(())
 }
 
+// How a new network ends that so many workers drive at a board, each of whom passes a gate that is not open.
+fn behind_a_gate<R: Threads + Wait + Sync>(
+    rt: &R,
+    alloc: Global,
+    source: &str,
+    budget: u64,
+    workers: u32,
+) -> Result<(Outcome, bool), Fail>
+    requires budget { budget ≤ 1000000000000 }
+    requires workers { (0 < workers) × (workers ≤ 64) }
+{
+    let (program, input) = given(alloc, source)?;
+    let case = new_case(alloc, &program, &input, budget)?;
+    at_a_board(rt, alloc, case, workers, &Closed)
+}
+
+// Behind a gate that is not open a network may stop, and may go past its budget.
+#[test]
+fn a_network_stops_behind_a_gate(rt: HostRuntime) -> Result<(), Fail> {
+    let stopped = behind_a_gate(&rt, rt.alloc(), CROSSED, 100, 2)?;
+    assert!(rt; matches!(stopped, (Outcome::Stopped { ticks: 1 }, false)));
+    let limit = behind_a_gate(&rt, rt.alloc(), SHIFTS, 19, 2)?;
+    assert!(rt; matches!(limit, (Outcome::Limit, false)));
+    Ok(())
+}
+
+// Sixty-four workers behind a gate that is not open come to the end that one thread comes to.
+#[test]
+fn sixty_four_workers_behind_a_gate(rt: HostRuntime) -> Result<(), Fail> {
+    let (whole, apart) = ends(rt.alloc(), PAIRS, 1_000_000)?;
+    let by_many = behind_a_gate(&rt, rt.alloc(), PAIRS, 1_000_000, 64)?;
+    assert_eq!(rt; (whole, false), by_many);
+    assert_eq!(rt; whole, apart);
+    Ok(())
+}
+
 // How a new network ends by one thread within a budget, whole and taken apart.
-fn ends(alloc: Global, budget: u64) -> Result<(Outcome, Outcome), Fail>
+fn ends(alloc: Global, source: &str, budget: u64) -> Result<(Outcome, Outcome), Fail>
     requires { budget ≤ 1000000000000 }
 {
-    let (program, input) = given(alloc, SHIFTS)?;
+    let (program, input) = given(alloc, source)?;
     let mut net = network(alloc, &program, &input)?;
     let whole = settle(alloc, &mut net, budget)?;
     let apart = finish(new_case(alloc, &program, &input, budget)?).end?;
@@ -196,14 +241,27 @@ fn ends(alloc: Global, budget: u64) -> Result<(Outcome, Outcome), Fail>
 // A budget of as many ticks as there are is enough, and one of a tick less is not.
 #[test]
 fn a_budget_of_all_ticks_is_enough(rt: HostRuntime) -> Result<(), Fail> {
-    let enough = ends(rt.alloc(), 20)?;
+    let enough = ends(rt.alloc(), SHIFTS, 20)?;
     assert!(rt;
         matches!(
             enough,
             (Outcome::Done { ticks: 20 }, Outcome::Done { ticks: 20 })
         )
     );
-    let short = ends(rt.alloc(), 19)?;
+    let short = ends(rt.alloc(), SHIFTS, 19)?;
     assert!(rt; matches!(short, (Outcome::Limit, Outcome::Limit)));
+    Ok(())
+}
+
+// Two tasks of which each waits for the other stop, whole and taken apart.
+#[test]
+fn a_network_stops(rt: HostRuntime) -> Result<(), Fail> {
+    let crossed = ends(rt.alloc(), CROSSED, 100)?;
+    assert!(rt;
+        matches!(
+            crossed,
+            (Outcome::Stopped { ticks: 1 }, Outcome::Stopped { ticks: 1 })
+        )
+    );
     Ok(())
 }

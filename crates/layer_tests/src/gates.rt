@@ -13,6 +13,16 @@ void C(tapa::istream<int>& q) { q.read(); q.read(); q.read(); }
 void T() { tapa::stream<int, 1> q; tapa::task().invoke(A).invoke(B, q).invoke(C, q); }
 ";
 
+/// A gate that lets everyone through, and does not say so.
+#[derive(Drop)]
+pub struct Closed;
+
+impl Gate for Closed {
+    fn pass(&self, instance: u32) {
+        let _ = instance;
+    }
+}
+
 /// A gate at which each of the first two instances waits, the first time, until the other one is there, or it has looked too
 /// often.
 #[derive(Drop)]

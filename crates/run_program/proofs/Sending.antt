@@ -18,7 +18,7 @@ use Rattle.flat_code.specs.contracts.code.Act as Act
 use Rattle.flat_code.specs.contracts.code.Branch as Branch
 use Rattle.flat_code.specs.contracts.code.Count as Count
 use Rattle.flat_code.specs.contracts.code.Transfer as Transfer
-use Rattle.flat_code.specs.contracts.code.Place as Place
+use Rattle.flat_code.specs.contracts.code.StateCode as StateCode
 use Rattle.coro_machine.specs.contracts.coro.Coro as Coro
 use Rattle.coro_machine.specs.contracts.machine.Machine as Machine
 use Rattle.coro_machine.proofs.run.MachineRun.TheSendSync as run
@@ -113,10 +113,10 @@ transfer_send = search (sendable, crosses) depth 60
 transfer_sync : IsSync Transfer.the_field.row
 transfer_sync = search (sendable, crosses) depth 60
 
-place_send : IsSend Place.the_row
+place_send : IsSend StateCode.the_row
 place_send = search (request_send, instruction_send, count_send, transfer_send, act_send, sendable, crosses) depth 60
 
-place_sync : IsSync Place.the_row
+place_sync : IsSync StateCode.the_row
 place_sync = search (request_sync, instruction_sync, count_sync, transfer_sync, act_sync, sendable, crosses) depth 60
 
 fsm_field_send : IsSend Fsm.the_field.row
