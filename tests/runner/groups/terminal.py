@@ -20,7 +20,8 @@ class Shown:
         self.number, self.ours = pty.fork()
         if self.number == 0:
             os.chdir(folder)
-            signal.signal(signal.SIGINT, signal.SIG_DFL)  # as a shell gives it to a command in front; who runs these tests may ignore it
+            for number in (signal.SIGINT, signal.SIGHUP):
+                signal.signal(number, signal.SIG_DFL)  # as a shell gives them to a command in front; who runs these tests may ignore them
             os.execvp(words[0], words)
         self.text = b""
 
