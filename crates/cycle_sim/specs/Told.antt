@@ -1,5 +1,5 @@
 -- What a simulator tells in a cycle of a design.
-use Rattle.std.specs.Prelude.{◌≡◌, ℕ, ◌+◌, ◌<◌, List, [], Some, slice_get, slice_index_or, false, IsTrue}
+use Rattle.std.specs.Prelude.{◌≡◌, ℕ, ◌<◌, List, [], Some, slice_get, slice_index_or, false, IsTrue}
 use Rattle.tapa_base.specs.declared.shape.Port.{Port}
 use Rattle.vlog_tree.specs.declared.tree.Item.TheVariants.{Memory}
 use Rattle.vlog_tree.specs.Form.{ModuleTree}
@@ -7,7 +7,7 @@ use Rattle.tapa_base.specs.Lists.{Has}
 use Rattle.vlog_tree.specs.Refused.{IsDesign}
 use Rattle.vlog_tree.specs.Table.{Name, is_clk, declared, net_kind_of, net_kind_is_read}
 use Rattle.vlog_tree.specs.Cycle.{Cycle, Path, module_at}
-use Rattle.vlog_tree.specs.Environment.{Environment, shape_of, cells_at, RunsIn}
+use Rattle.vlog_tree.specs.Environment.{Environment, shape_of, cells_at}
 use Rattle.vlog_run_laws.specs.runs.OneRun.{IsRunFrom}
 use Rattle.vlog_run_laws.specs.runs.Filled.{IsFilled}
 
@@ -42,8 +42,3 @@ abbrev pub ToldIsOne : Type 0
 ToldIsOne =
     (ms : List ModuleTree) (place : ℕ) (top : ModuleTree) (env : Environment) (fill : ℕ) (s t : TellTree)
     → IsDesign ms place → slice_get ms place ≡ Some top → IsTold ms top env fill s → IsTold ms top env fill t → s.cycle ≡ t.cycle → IsSameTold ms top s t
-
--- what is told in the next cycle, of each run of which this one tells
-pub record IsNextTold (ms : List ModuleTree) (top : ModuleTree) (now next : TellTree) : Type 0 where
-  pub cycle : next.cycle ≡ now.cycle + 1
-  pub tells : (env : Environment) (nets : ℕ → Path → Cycle) → RunsIn ms top env nets → IsToldOf ms top env nets now → IsToldOf ms top env nets next

@@ -187,7 +187,7 @@ child_is (Memory w x n ∷ elements) k i ls (inr h) low = child_is elements k i 
 child_is (Block b ∷ elements) k i ls (inl s) low = cc
 child_is (Block b ∷ elements) k i ls (inr h) low = child_is elements k i ls h (fewer (Block b) elements i low)
 
-abbrev joins : Name → Connection → Bool
+abbrev pub joins : Name → Connection → Bool
 joins x l = bytes_eq l.port x
 
 abbrev net_at : List Connection → Name → Name
@@ -208,13 +208,13 @@ joined_of : (c : Connection) (ls : List Connection) (x : Name) (b : Bool) → by
 joined_of c ls x true e ih h = (c, inl refl, (bytes_decides c.port x).0 e)
 joined_of c ls x false e ih h = let r = ih (omega arith) in (r.0, inr r.1, r.2)
 
-joined : (ls : List Connection) (x : Name) → 1 ≤ count_by (joins x) ls → (l : Connection) × Has ls l × (l.port ≡ x)
+pub joined : (ls : List Connection) (x : Name) → 1 ≤ count_by (joins x) ls → (l : Connection) × Has ls l × (l.port ≡ x)
 joined [] x h = absurd (omega arith)
 joined (c ∷ ls) x h =
     let k : count_by (joins x) (c ∷ ls) ≡ one_if (bytes_eq c.port x) + count_by (joins x) ls = count_cons (joins x) c ls in
     joined_of c ls x (bytes_eq c.port x) refl (joined ls x) (omega arith)
 
-joined_once : (ports : List Declaration) (ls : List Connection) → all_connected ports ls ≡ true → (x : Name) → is_known (net_kind_of ports x) ≡ true → count_by (joins x) ls ≡ 1
+pub joined_once : (ports : List Declaration) (ls : List Connection) → all_connected ports ls ≡ true → (x : Name) → is_known (net_kind_of ports x) ≡ true → count_by (joins x) ls ≡ 1
 joined_once ports ls h x k =
     let r = known ports x k in
     subst (λ y. count_by (joins y) ls ≡ 1) r.1

@@ -41,6 +41,21 @@ pub place_some : (t : List Declaration) (x : Name) → 1 ≤ times t x → 0 < p
 place_some [] x h = absurd (omega arith)
 place_some (d ∷ t) x h = some_of d t x (bytes_eq d.name x) refl (place_some t x) (sym (count_cons (λ (z : Declaration). bytes_eq z.name x) d t)) h
 
+above_low : (t : List Declaration) (x : Name) → suc (length t) ≡ place_in t x → ⊥
+above_low t x e = let low : place_in t x ≤ length t = place_low t x in omega (arith, e, low)
+
+one_of : (d : Declaration) (t : List Declaration) (x y : Name) (a b : Bool) → bytes_eq d.name x ≡ a → bytes_eq d.name y ≡ b → (0 < place_in t x → place_in t x ≡ place_in t y → x ≡ y)
+    → 0 < cond a (suc (length t)) (place_in t x) → cond a (suc (length t)) (place_in t x) ≡ cond b (suc (length t)) (place_in t y) → x ≡ y
+one_of d t x y true true f g ih some same = sym ((bytes_decides d.name x).0 f) ∙ (bytes_decides d.name y).0 g
+one_of d t x y true false f g ih some same = absurd (above_low t y same)
+one_of d t x y false true f g ih some same = absurd (above_low t x (sym same))
+one_of d t x y false false f g ih some same = ih some same
+
+-- names with one place are one name
+pub one_place : (t : List Declaration) (x y : Name) → 0 < place_in t x → place_in t x ≡ place_in t y → x ≡ y
+one_place [] x y some e = absurd (omega (arith, some))
+one_place (d ∷ t) x y some e = one_of d t x y (bytes_eq d.name x) (bytes_eq d.name y) refl refl (one_place t x y) some e
+
 new_is_other : (d : Declaration) (t : List Declaration) (x : Name) (b : Bool) → bytes_eq d.name x ≡ b → is_new t d.name ≡ true → 1 ≤ times t x → b ≡ false
 new_is_other d t x true e new h = let none : times t x ≡ 0 = subst (λ y. times t y ≡ 0) ((bytes_decides d.name x).0 e) (new_is_none t d.name new) in absurd (omega arith)
 new_is_other d t x false e new h = refl

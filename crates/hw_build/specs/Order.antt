@@ -96,18 +96,25 @@ output_names (Memory w x n) = []
 output_names (Block b) = []
 output_names (Instance k i connections) = []
 
--- a free net rests on no input
+-- an output of an instance that drives a free net rests on no input of its module
+abbrev pub FreeOutputsRestOnNoInput : List ModuleTree → (Name → Bool) → (Name → Bool) → List Element → Type 0
+FreeOutputsRestOnNoInput ms is_top free elements =
+    (kn i : Name) (connections : List Connection) (k : ModuleTree) (out : Connection) (y : Name) → Has elements (Instance kn i connections) → module_named ms kn ≡ Some k
+    → Has connections out → free out.net ≡ true → net_kind_of (map port_declared k.ports) out.port ≡ OutputNet → net_kind_of (map port_declared k.ports) y ≡ InputNet
+    → Rests ms is_top k out.port y → ⊥
+
+-- then a free net rests on no input, at the top neither
 abbrev pub FreeNetsRestOnNoInput : Type 0
 FreeNetsRestOnNoInput =
     (ms : List ModuleTree) (is_top : Name → Bool) (name : Name) (elements : List Element) (free : Name → Bool) → AreFitting ms elements → list_all is_element elements ≡ true
-    → is_top name ≡ false → ChildrenRestOnNoInput ms is_top elements → is_closed free elements ≡ true
+    → FreeOutputsRestOnNoInput ms is_top free elements → is_closed free elements ≡ true
     → (x y : Name) → net_kind_of (map port_declared (built name elements).ports) x ≡ OutputNet → free x ≡ true → net_kind_of (map port_declared (built name elements).ports) y ≡ InputNet
     → Rests ms is_top (built name elements) x y → ⊥
 
 abbrev pub FreeModulesRestOnNoInput : Type 0
 FreeModulesRestOnNoInput =
     (ms : List ModuleTree) (is_top : Name → Bool) (name : Name) (elements : List Element) (free : Name → Bool) → AreFitting ms elements → list_all is_element elements ≡ true
-    → is_top name ≡ false → ChildrenRestOnNoInput ms is_top elements → is_closed free elements ≡ true → list_all free (flat_map output_names elements) ≡ true
+    → FreeOutputsRestOnNoInput ms is_top free elements → is_closed free elements ≡ true → list_all free (flat_map output_names elements) ≡ true
     → RestsOnNoInput ms is_top (built name elements)
 
 -- modules that contain modules of lower level, and in none of which a net rests on itself, have no loop

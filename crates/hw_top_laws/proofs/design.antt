@@ -13,3 +13,4 @@ pub mod Clocks
 pub mod Ports
 pub mod Fits
 pub mod Whole
+pub mod Inputs

@@ -10,7 +10,9 @@ mod names;
 mod runs;
 
 pub use circuit::law_designs_carry_streams;
-pub use design::{law_designs_are_legal, law_designs_are_loopless, law_top_outside};
+pub use design::{
+    law_designs_are_legal, law_designs_are_loopless, law_designs_rest_on_no_input, law_top_outside,
+};
 pub use form::law_top_is_right;
 pub use joins::{law_fit_together, law_stand_in_parts};
 pub use kahn::{law_carrying_excludes, law_circuits_carry_streams};

@@ -1,12 +1,12 @@
 -- The lines with which a dump may go on.
-use Rattle.std.specs.Prelude.{◌≡◌, ◌⊎◌, ℕ, ◌^◌, ◌<◌, ◌≤◌, Bool, true, not, ◌==◌, List, ◌++◌, length, codes, slice_get, Option, Some, None}
+use Rattle.std.specs.Prelude.{◌≡◌, ◌⊎◌, ℕ, ◌^◌, ◌<◌, ◌≤◌, Bool, true, not, ◌==◌, List, ◌++◌, codes, slice_get, Option, Some, None}
 use Rattle.tapa_base.specs.Gaps.{Bytes}
 use Rattle.tapa_base.specs.declared.shape.Port.{Port}
 use Rattle.vlog_tree.specs.Names.{IsName}
 use Rattle.vcd_text.specs.Nets.{Net}
 use Rattle.vcd_text.specs.declared.line.Found.{Found}
 use Rattle.vcd_text.specs.declared.line.Found.TheVariants.{Cycle, Change}
-use Rattle.vcd_text.specs.Dump.{var_line, cycle_line, change_line}
+use Rattle.vcd_text.specs.Dump.{cycle_line, change_line}
 
 -- a net that may follow others
 pub record MayFollow (nets : List Net) (x : Net) : Type 0 where
@@ -18,10 +18,6 @@ pub record MayFollow (nets : List Net) (x : Net) : Type 0 where
 -- what stands behind the last net, with the line of cycle 0
 abbrev pub head_end : Bytes
 head_end = codes "$upscope $end\n$enddefinitions $end\n#0\n"
-
--- behind so many nets: one more, or the end of the head
-abbrev pub IsHeadLine : List Net → Bytes → Type 0
-IsHeadLine nets w = (w ≡ head_end) ⊎ ((x : Net) × MayFollow nets x × (w ≡ var_line (length nets) x))
 
 -- a value is written where it is another than the one before, or the first
 abbrev pub is_new : Option ℕ → ℕ → Bool

@@ -10,7 +10,7 @@ use Rattle.vlog_tree.specs.Table.{Name, port_declared, find_name, net_kind_of}
 use Rattle.tapa_base.proofs.Lists.{has_split, of_map}
 use Rattle.hw_build.specs.Elements.{empty, built}
 use Rattle.hw_build.proofs.Tables.{is_known, known}
-use Rattle.hw_build.proofs.Free.{free_rests_on_no_input}
+use Rattle.hw_build.proofs.Free.{free_outputs, free_rests_on_no_input}
 use Rattle.hw_build.specs.Scope.{each}
 use Rattle.hw_build.proofs.Parts.{of_each}
 use Rattle.hw_lines.specs.declared.nets.Net.{Net}
@@ -118,5 +118,6 @@ only_takes_rest leaf machine is_leaf lowered c ms is_top title inner x y out int
     let f = tasks_fit leaf machine is_leaf lowered c in
     ⊎_elim
     (λ free.
-    absurd (free_rests_on_no_input ms is_top title (task_elements S) is_free (tasks_are_fitting leaf machine is_leaf lowered c ms) (in_form S c f) inner (childless ms is_top (task_elements S) f.order) (elements_closed S) x y out free into rests))
+    absurd (free_rests_on_no_input ms is_top title (task_elements S) is_free (tasks_are_fitting leaf machine is_leaf lowered c ms) (in_form S c f)
+    (free_outputs ms is_top (task_elements S) is_free (childless ms is_top (task_elements S) f.order)) (elements_closed S) x y out free into rests))
     (λ t. t) (output_sorted S title x out)

@@ -130,6 +130,14 @@ module _ (program : Program) (machines : List Fsm) (added : List ℕ) (ready : I
         let c = joined_to (name (Taken s)) (s_take (stream_label program (slice_index x.streams.items s))) in
         ap (λ (z : Connection). z.net) (same_connection ends out c h (take_end s l e) p (joined_once out.port))
 
+    -- what rests on an input drives the wire that says that a token is taken
+    pub takes_a_token : (out : Connection) (y : Name) → Has ends out → net_kind_of (map port_declared k.ports) out.port ≡ OutputNet → net_kind_of (map port_declared k.ports) y ≡ InputNet
+        → Rests lower is_top k out.port y → (l : Name) × (out.net ≡ s_take l)
+    takes_a_token out y ho o n r =
+        let promise = kept x.body leaf part.machine part.got_leaf part.got_machine (used program machines added ready kept i x leaf part) in
+        let t = promise.rests lower is_top no_top out.port y o n r in
+        (stream_label program (slice_index x.streams.items t.0), taken_net t.0 t.1 t.2 out ho t.3)
+
     task_order : (out into : Connection) → Has ends out → Has ends into → net_kind_of (map port_declared k.ports) out.port ≡ OutputNet → net_kind_of (map port_declared k.ports) into.port ≡ InputNet
         → Rests lower is_top k out.port into.port → StandsBefore top into.net out.net
     task_order out into ho hi o n r =
@@ -146,7 +154,7 @@ module _ (program : Program) (machines : List Fsm) (added : List ℕ) (ready : I
         subst (λ (z : Name). StandsBefore top into.net z) (sym net) (subst (λ (l : List Element). StandsBefore l into.net (s_take at.at.stream.label)) (sym (top_is program added)) before)
 
   module _ (s : ℕ) (r : Stream) (got : slice_get program.streams.items s ≡ Some r) where
-    channel_clear : (k : ModuleTree) → module_named lower (channel_name (token_bits r.kind) r.depth (slice_index added s)) ≡ Some k → (x y : Name)
+    pub channel_clear : (k : ModuleTree) → module_named lower (channel_name (token_bits r.kind) r.depth (slice_index added s)) ≡ Some k → (x y : Name)
         → net_kind_of (map port_declared k.ports) x ≡ OutputNet → net_kind_of (map port_declared k.ports) y ≡ InputNet → Rests lower is_top k x y → ⊥
     channel_clear k named x y o n rests =
         let z = sizes program ready.well_formed added ready.short s r got in

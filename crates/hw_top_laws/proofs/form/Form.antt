@@ -50,7 +50,7 @@ use Rattle.hw_top_laws.proofs.form.Tasks.{part_at, task_joined}
 sized : (w : ℕ) (x : Name) → IsTrue (is_width w) → is_name x ≡ true → (nat_le 1 w && is_name x) ≡ true
 sized w x h n = yes_and (nat_le 1 w) (is_name x) (both_true (nat_le 1 w) (nat_le w 128) h).0 n
 
-all_each : {A : Type 0} (p : A → Bool) (f : ℕ → List A) (n : ℕ) → ((k : ℕ) → k < n → list_all p (f k) ≡ true) → list_all p (each f n) ≡ true
+pub all_each : {A : Type 0} (p : A → Bool) (f : ℕ → List A) (n : ℕ) → ((k : ℕ) → k < n → list_all p (f k) ≡ true) → list_all p (each f n) ≡ true
 all_each p f zero h = refl
 all_each p f (suc n) h = all_append p (each f n) (f n) (all_each p f n (λ k l. h k (omega arith))) (h n (omega arith))
 

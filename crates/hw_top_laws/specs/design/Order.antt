@@ -4,7 +4,8 @@ use Rattle.vlog_tree.specs.Form.{ModuleTree}
 use Rattle.tapa_base.specs.Lists.{Has}
 use Rattle.vlog_tree.specs.Loops.{Rests, IsLoopless}
 use Rattle.vlog_tree.specs.Table.{Name}
-use Rattle.hw_build.specs.Order.{InstancesKeepOrder, AnswersKeepOrder}
+use Rattle.vlog_tree.specs.V6.{is_top}
+use Rattle.hw_build.specs.Order.{InstancesKeepOrder, AnswersKeepOrder, RestsOnNoInput}
 use Rattle.hw_lines.specs.Texts.{task_name}
 use Rattle.hw_top_lines.specs.Designs.{design_tree}
 use Rattle.hw_top_lines.specs.Texts.{top_elements, top_tree}
@@ -36,3 +37,7 @@ TopsHaveNoLoop =
 abbrev pub DesignsAreLoopless : Type 0
 DesignsAreLoopless =
     OfReady (λ program machines added. (is_top : Name → Bool) → AreBelow is_top (lower_modules program machines added) → IsLoopless (design_tree program machines added) is_top)
+
+-- no output of the circuit rests on an input of it within a cycle, so what stands around it may answer in the same cycle
+abbrev pub DesignsRestOnNoInput : Type 0
+DesignsRestOnNoInput = OfReady (λ program machines added. RestsOnNoInput (design_tree program machines added) (is_top (design_tree program machines added)) (top_tree program added))

@@ -1,7 +1,7 @@
 // Laws on whole circuits.
 
 ghost use Rattle.hw_top_laws.specs.design.Outside.{TopsHaveMemories, TopsHaveScalars, TopsHaveStreams};
-ghost use Rattle.hw_top_laws.specs.design.Order.{DesignsAreLoopless, TopsHaveNoLoop, TopsKeepAnswers, TopsKeepOrder};
+ghost use Rattle.hw_top_laws.specs.design.Order.{DesignsAreLoopless, DesignsRestOnNoInput, TopsHaveNoLoop, TopsKeepAnswers, TopsKeepOrder};
 ghost use Rattle.hw_top_laws.specs.design.Design.{DesignsAreLegal, DesignsAreSound, OutsidesAreRight, TopsAreRoots};
 
 /// The top of a circuit has the program's scalars, memories and streams, with their labels and widths, in order.
@@ -19,6 +19,12 @@ pub fn law_designs_are_loopless()
     ensures answers { TopsKeepAnswers }
     ensures top { TopsHaveNoLoop }
     ensures designs { DesignsAreLoopless }
+{}
+
+/// No output of a circuit rests on an input of it within a cycle: a memory around it may answer by what it is asked in the same
+/// cycle.
+pub fn law_designs_rest_on_no_input()
+    ensures { DesignsRestOnNoInput }
 {}
 
 /// The modules of a circuit break no rule on names, widths and drivers. The top alone stands in no other module, its ports are
