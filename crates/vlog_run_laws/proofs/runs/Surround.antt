@@ -1,4 +1,5 @@
--- A design has one run from each power-up beside memories whose acks, and what they show of the cell that is asked for, are given.
+-- A design has one run from each power-up beside memories whose acks, and what they show of the cell that is asked for, are given, and
+-- so it has one in each environment.
 use Rattle.std.proofs.Common.{◌≡◌, ℕ, zero, suc, arith, ◌<◌, Bool, true, false, cond, ◌&&◌, List, [], ◌∷◌, Option, Some, None, length, get_or, inl, inr, refl, sym, ap, subst, ◌∙◌, map}
 use Rattle.std.specs.Prelude.{◌⊎◌, ◌==◌, bytes_eq, if◌then◌else◌, slice_get, unwrap_or, count_by}
 use Rattle.std.specs.List.{filter}
@@ -19,11 +20,11 @@ use Rattle.vlog_tree.specs.Table.{Name, bits_of, clk, is_clk, declared, port_dec
 use Rattle.vlog_tree.specs.Labels.{rst, scalar, m_ack, m_rdata, m_addr, m_wdata, m_we, scalar_of, ack_of, rdata_of, read_of}
 use Rattle.vlog_tree.specs.V2.{v2_uses}
 use Rattle.vlog_tree.specs.V6.{v6_uses, is_top, has_all_five, has_port}
-use Rattle.vlog_tree.specs.Environment.{Environment, shape_of, scalar_label, memory_label, set_cell, cells_at}
+use Rattle.vlog_tree.specs.Environment.{Environment, shape_of, scalar_label, memory_label, ready_at, set_cell, cells_at}
 use Rattle.vlog_tree.specs.Flattened.{FlatNet, parts}
 use Rattle.vlog_tree.specs.Refused.{IsDesign}
 use Rattle.tapa_base.proofs.Lists.{has_flat, of_flat, has_map, has_left, has_got}
-use Rattle.vlog_run_laws.specs.runs.OneRun.{FitsPowerUp, BeginsWith, IsOnly}
+use Rattle.vlog_run_laws.specs.runs.OneRun.{FitsPowerUp, BeginsWith, IsRunFrom, IsOnly}
 use Rattle.vlog_run_laws.proofs.runs.Alone.{same_name, declared_once, below_two}
 use Rattle.vlog_run_laws.proofs.runs.Drivers.{count_map}
 use Rattle.vlog_run_laws.proofs.runs.Equations.{first_number}
@@ -379,3 +380,49 @@ module _ (ms : List ModuleTree) (place : ℕ) (m : ModuleTree) (d : IsDesign ms 
         same_from ms m d.sound.names d.sound.drivers d.outside tree.has tree.is_top settled Outside outside_world (decided ms m d.sound.names d.outside tree.has tree.is_top env acks shows) the_run other (in_world the_run is_run) (in_world other r)
         contents is_run.begins r.begins;
   }
+
+-- where one run has a property, and another property says the same, one run has that
+pub only_of : (ms : List ModuleTree) (m : ModuleTree) (P Q : (ℕ → Path → Cycle) → Type 0)
+    → ((nets : ℕ → Path → Cycle) → P nets → Q nets) → ((nets : ℕ → Path → Cycle) → Q nets → P nets) → IsOnly ms m P → IsOnly ms m Q
+only_of ms m P Q there back o = record { run = o.run; is = there o.run o.is; only = λ other q. o.only other (back other q) }
+
+module _ (ms : List ModuleTree) (m : ModuleTree) (env : Environment) (contents : Path → Cycle) where
+  -- the memories of an environment show the cell in every cycle
+  abbrev env_acks : ℕ → ℕ → ℕ
+  env_acks i n = ready_at (get_or env.ready i []) n
+
+  abbrev AroundEnv : (ℕ → Path → Cycle) → Type 0
+  AroundEnv nets = IsRunAround ms m env env_acks (λ i n cell. cell) contents nets
+
+  env_there : (nets : ℕ → Path → Cycle) → AroundEnv nets → IsRunFrom ms m env contents nets
+  env_there nets r = record {
+    runs_in = record {
+      runs = r.runs;
+      stands = record {
+        reset = r.stands.reset;
+        runs = r.stands.runs;
+        scalars = r.stands.scalars;
+        memories = λ i l got. record { ack = λ n. r.stands.ack n i l got; rdata = λ n. r.stands.rdata n i l got };
+      };
+    };
+    begins = r.begins;
+  }
+
+  env_back : (nets : ℕ → Path → Cycle) → IsRunFrom ms m env contents nets → AroundEnv nets
+  env_back nets r = record {
+    runs = r.runs_in.runs;
+    stands = record {
+      reset = r.runs_in.stands.reset;
+      runs = r.runs_in.stands.runs;
+      scalars = r.runs_in.stands.scalars;
+      ack = λ n i l got. (r.runs_in.stands.memories i l got).ack n;
+      rdata = λ n i l got. (r.runs_in.stands.memories i l got).rdata n;
+    };
+    begins = r.begins;
+  }
+
+pub one_run_from : (ms : List ModuleTree) (place : ℕ) (m : ModuleTree) → IsDesign ms place → slice_get ms place ≡ Some m → (env : Environment) (contents : Path → Cycle) → FitsPowerUp ms m contents
+    → IsOnly ms m (IsRunFrom ms m env contents)
+one_run_from ms place m d at env contents power_up =
+    only_of ms m (AroundEnv ms m env contents) (IsRunFrom ms m env contents) (env_there ms m env contents) (env_back ms m env contents)
+    (one_run_around ms place m d at env (env_acks ms m env contents) (λ i n cell. cell) contents power_up)

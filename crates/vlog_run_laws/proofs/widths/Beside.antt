@@ -1,5 +1,5 @@
 -- Each run in an environment is one beside memories that show a cell where they answer, and so is one beside memories that show given numbers else.
-use Rattle.std.proofs.Common.{◌≡◌, ℕ, zero, suc, ◌^◌, ◌<◌, Bool, true, false, cond, List, [], get_or, Some, refl, sym, ap, ◌∙◌}
+use Rattle.std.proofs.Common.{◌≡◌, ℕ, zero, suc, ◌^◌, ◌<◌, Bool, true, false, cond, List, [], get_or, Some, refl, ap, ◌∙◌}
 use Rattle.std.specs.Prelude.{◌==◌, if◌then◌else◌, slice_get, unwrap_or}
 use Rattle.tapa_base.specs.declared.shape.Port.{Port}
 use Rattle.vlog_run_laws.specs.Beside.{RunsBeside, answers_in}
