@@ -22,6 +22,7 @@ pub mod Labelled
 pub mod Lookups
 pub mod Ports
 pub mod Surround
+pub mod Among
 pub mod Filled
 pub mod Ascii
 pub mod Short

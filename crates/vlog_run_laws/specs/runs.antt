@@ -1,3 +1,4 @@
 pub mod OneRun
+pub mod Among
 pub mod Filled
 pub mod Readable

@@ -1,4 +1,5 @@
--- A design has one run from each power-up in each environment.
+-- A design has one run from each power-up beside memories whose acks, and what they show of the cell that is asked for, are given, and
+-- so it has one in each environment.
 use Rattle.std.proofs.Common.{◌≡◌, ℕ, zero, suc, arith, ◌<◌, Bool, true, false, cond, ◌&&◌, List, [], ◌∷◌, Option, Some, None, length, get_or, inl, inr, refl, sym, ap, subst, ◌∙◌, map}
 use Rattle.std.specs.Prelude.{◌⊎◌, ◌==◌, bytes_eq, if◌then◌else◌, slice_get, unwrap_or, count_by}
 use Rattle.std.specs.List.{filter}
@@ -14,16 +15,16 @@ use Rattle.vlog_tree.specs.declared.table.NetKind.TheVariants.{Input, Output}
 use Rattle.vlog_tree.specs.Form.{ModuleTree, is_input}
 use Rattle.vlog_tree.specs.Grounded.{IsGrounded}
 use Rattle.tapa_base.specs.Lists.{Has}
-use Rattle.vlog_tree.specs.Cycle.{Cycle, Path}
+use Rattle.vlog_tree.specs.Cycle.{Cycle, Path, Runs}
 use Rattle.vlog_tree.specs.Table.{Name, bits_of, clk, is_clk, declared, port_declared, items_declared, net_kind_of, net_kind_is_read, net_kind_is_input, first_violation, one_if}
 use Rattle.vlog_tree.specs.Labels.{rst, scalar, m_ack, m_rdata, m_addr, m_wdata, m_we, scalar_of, ack_of, rdata_of, read_of}
 use Rattle.vlog_tree.specs.V2.{v2_uses}
 use Rattle.vlog_tree.specs.V6.{v6_uses, is_top, has_all_five, has_port}
-use Rattle.vlog_tree.specs.Environment.{Environment, shape_of, scalar_label, memory_label, Answers, ready_at, set_cell, cells_at, Stands}
+use Rattle.vlog_tree.specs.Environment.{Environment, shape_of, scalar_label, memory_label, ready_at, set_cell, cells_at}
 use Rattle.vlog_tree.specs.Flattened.{FlatNet, parts}
 use Rattle.vlog_tree.specs.Refused.{IsDesign}
 use Rattle.tapa_base.proofs.Lists.{has_flat, of_flat, has_map, has_left, has_got}
-use Rattle.vlog_run_laws.specs.runs.OneRun.{FitsPowerUp, IsRunFrom, IsOnly}
+use Rattle.vlog_run_laws.specs.runs.OneRun.{FitsPowerUp, BeginsWith, IsRunFrom, IsOnly}
 use Rattle.vlog_run_laws.proofs.runs.Alone.{same_name, declared_once, below_two}
 use Rattle.vlog_run_laws.proofs.runs.Drivers.{count_map}
 use Rattle.vlog_run_laws.proofs.runs.Equations.{first_number}
@@ -40,6 +41,26 @@ use Rattle.vlog_run_laws.proofs.runs.Same.{IsRunIn, IsDecided, same_from}
 pub record Outside : Type 0 where
   pub cycle : ℕ
   pub cells : Name → List ℕ
+
+-- the cell at an address, or 0 past the end
+abbrev pub cell_at : List ℕ → ℕ → ℕ
+cell_at cells asked = unwrap_or (slice_get cells asked) 0
+
+-- the top's inputs: reset in cycle 0 alone, the scalars of an environment, and beside memories that begin with its cells their acks, by
+-- number and cycle, and what they show, by number, cycle and the cell that is asked for
+pub record StandsAround (top : ModuleTree) (env : Environment) (acks : ℕ → ℕ → ℕ) (shows : ℕ → ℕ → ℕ → ℕ) (run : ℕ → Cycle) : Type 0 where
+  pub reset : (run 0).net rst ≡ 1
+  pub runs : (n : ℕ) → (run (suc n)).net rst ≡ 0
+  pub scalars : (n i : ℕ) (l : Port) → slice_get (shape_of top).scalars i ≡ Some l → (run n).net (scalar l.name) ≡ get_or env.scalars i 0
+  pub ack : (n i : ℕ) (l : Port) → slice_get (shape_of top).memories i ≡ Some l → (run n).net (m_ack l.name) ≡ acks i n
+  pub rdata : (n i : ℕ) (l : Port) → slice_get (shape_of top).memories i ≡ Some l
+      → (run n).net (m_rdata l.name) ≡ shows i n (cell_at (cells_at run l.name (get_or env.memories i []) n) ((run n).net (m_addr l.name)))
+
+-- such a run of a design from these contents
+pub record IsRunAround (ms : List ModuleTree) (top : ModuleTree) (env : Environment) (acks : ℕ → ℕ → ℕ) (shows : ℕ → ℕ → ℕ → ℕ) (contents : Path → Cycle) (nets : ℕ → Path → Cycle) : Type 0 where
+  pub runs : Runs ms top nets
+  pub stands : StandsAround top env acks shows (λ n. nets n [])
+  pub begins : BeginsWith ms top contents nets
 
 abbrev stored : Cycle → Name → List ℕ → List ℕ
 stored c l cells = if (c.net (m_ack l) == 1) && (c.net (m_we l) == 1) then set_cell cells (c.net (m_addr l)) (c.net (m_wdata l)) else cells
@@ -66,7 +87,8 @@ stored_same : (a a' w w' p p' d d' : ℕ) (cells : List ℕ) → a ≡ a' → w 
     → cond ((a == 1) && (w == 1)) (set_cell cells p d) cells ≡ cond ((a' == 1) && (w' == 1)) (set_cell cells p' d') cells
 stored_same a a' w w' p p' d d' cells e f g h = rw (e, f, g, h) refl
 
-module _ (ms : List ModuleTree) (m : ModuleTree) (names : first_violation (v2_uses ms) ≡ None) (tops : first_violation (v6_uses ms) ≡ None) (in_ms : Has ms m) (top : is_top ms m.name ≡ true) (env : Environment) where
+module _ (ms : List ModuleTree) (m : ModuleTree) (names : first_violation (v2_uses ms) ≡ None) (tops : first_violation (v6_uses ms) ≡ None) (in_ms : Has ms m) (top : is_top ms m.name ≡ true)
+    (env : Environment) (acks : ℕ → ℕ → ℕ) (shows : ℕ → ℕ → ℕ → ℕ) where
   abbrev ports : List Declaration
   ports = map port_declared m.ports
 
@@ -76,11 +98,14 @@ module _ (ms : List ModuleTree) (m : ModuleTree) (names : first_violation (v2_us
   abbrev memories : List Port
   memories = (shape_of m).memories
 
-  abbrev give_memory : Outside → Name → ℕ → ℕ
-  give_memory w x asked = option_map_or (λ l. ready_at (lookup [] memories env.ready l) w.cycle) (ack_of x) (option_map_or (λ l. unwrap_or (slice_get (w.cells l) asked) 0) (rdata_of x) 0)
+  abbrev give_data : Outside → Option Name → ℕ → ℕ
+  give_data w o asked = option_map_or (λ l. shows (place memories l) w.cycle (cell_at (w.cells l) asked)) o 0
+
+  abbrev give_memory : Outside → Option Name → Option Name → ℕ → ℕ
+  give_memory w ao ro asked = option_map_or (λ l. acks (place memories l) w.cycle) ao (give_data w ro asked)
 
   abbrev give_label : Outside → Name → ℕ → ℕ
-  give_label w x asked = option_map_or (λ l. lookup 0 scalars env.scalars l) (scalar_of x) (give_memory w x asked)
+  give_label w x asked = option_map_or (λ l. lookup 0 scalars env.scalars l) (scalar_of x) (give_memory w (ack_of x) (rdata_of x) asked)
 
   -- reset in cycle 0, the scalars, and what the memories answer
   abbrev give_input : Outside → Name → ℕ → ℕ
@@ -182,20 +207,20 @@ module _ (ms : List ModuleTree) (m : ModuleTree) (names : first_violation (v2_us
   give_scalar : (w : Outside) (l : Name) (asked : ℕ) → scalar_of (scalar l) ≡ Some l → give_input w (scalar l) asked ≡ lookup 0 scalars env.scalars l
   give_scalar w l asked e =
       ap (λ b. cond b (cond (w.cycle == 0) 1 0) (give_label w (scalar l) asked)) (scalar_is_no_reset l)
-      ∙ ap (λ o. option_map_or (λ l. lookup 0 scalars env.scalars l) o (give_memory w (scalar l) asked)) e
+      ∙ ap (λ o. option_map_or (λ l. lookup 0 scalars env.scalars l) o (give_memory w (ack_of (scalar l)) (rdata_of (scalar l)) asked)) e
 
-  give_ack : (w : Outside) (l : Name) (asked : ℕ) → 0 < length l → give_input w (m_ack l) asked ≡ ready_at (lookup [] memories env.ready l) w.cycle
+  give_ack : (w : Outside) (l : Name) (asked : ℕ) → 0 < length l → give_input w (m_ack l) asked ≡ acks (place memories l) w.cycle
   give_ack w l asked some =
       ap (λ b. cond b (cond (w.cycle == 0) 1 0) (give_label w (m_ack l) asked)) (ack_is_no_reset l)
-      ∙ ap (λ o. option_map_or (λ l. lookup 0 scalars env.scalars l) o (give_memory w (m_ack l) asked)) (ack_is_no_scalar l)
-      ∙ ap (λ o. option_map_or (λ l. ready_at (lookup [] memories env.ready l) w.cycle) o (option_map_or (λ l. unwrap_or (slice_get (w.cells l) asked) 0) (rdata_of (m_ack l)) 0)) (ack_of_label l some)
+      ∙ ap (λ o. option_map_or (λ l. lookup 0 scalars env.scalars l) o (give_memory w (ack_of (m_ack l)) (rdata_of (m_ack l)) asked)) (ack_is_no_scalar l)
+      ∙ ap (λ o. give_memory w o (rdata_of (m_ack l)) asked) (ack_of_label l some)
 
-  give_rdata : (w : Outside) (l : Name) (asked : ℕ) → 0 < length l → give_input w (m_rdata l) asked ≡ unwrap_or (slice_get (w.cells l) asked) 0
+  give_rdata : (w : Outside) (l : Name) (asked : ℕ) → 0 < length l → give_input w (m_rdata l) asked ≡ shows (place memories l) w.cycle (cell_at (w.cells l) asked)
   give_rdata w l asked some =
       ap (λ b. cond b (cond (w.cycle == 0) 1 0) (give_label w (m_rdata l) asked)) (rdata_is_no_reset l)
-      ∙ ap (λ o. option_map_or (λ l. lookup 0 scalars env.scalars l) o (give_memory w (m_rdata l) asked)) (rdata_is_no_scalar l)
-      ∙ ap (λ o. option_map_or (λ l. ready_at (lookup [] memories env.ready l) w.cycle) o (option_map_or (λ l. unwrap_or (slice_get (w.cells l) asked) 0) (rdata_of (m_rdata l)) 0)) (rdata_is_no_ack l)
-      ∙ ap (λ o. option_map_or (λ l. unwrap_or (slice_get (w.cells l) asked) 0) o 0) (rdata_of_label l some)
+      ∙ ap (λ o. option_map_or (λ l. lookup 0 scalars env.scalars l) o (give_memory w (ack_of (m_rdata l)) (rdata_of (m_rdata l)) asked)) (rdata_is_no_scalar l)
+      ∙ ap (λ o. give_memory w o (rdata_of (m_rdata l)) asked) (rdata_is_no_ack l)
+      ∙ ap (λ o. give_data w o asked) (rdata_of_label l some)
 
   asked_is : (nets : Path → Cycle) (l : Name) → 0 < length l → net_kind_of (declared m) (m_rdata l) ≡ Input → has_all_five ports l ≡ true → asked_at m nets (m_rdata l) ≡ (nets []).net (m_addr l)
   asked_is nets l some input five =
@@ -211,7 +236,7 @@ module _ (ms : List ModuleTree) (m : ModuleTree) (names : first_violation (v2_us
     abbrev world : ℕ → Outside
     world n = worlds Outside around nets n
 
-    -- a run whose inputs are given stands in the environment
+    -- around a run whose inputs are given they stand
     module _ (given : (n : ℕ) (x : Name) → net_kind_of (declared m) x ≡ Input → (nets n []).net x ≡ give_input (world n) x (asked_at m (nets n) x)) where
       port_given : (n : ℕ) (p : PortDecl) → Has m.ports p → is_input p.direction ≡ true → (x : Name) → p.name ≡ x → (nets n []).net x ≡ give_input (world n) x (asked_at m (nets n) x)
       port_given n p h i x e = given n x (subst (λ z. net_kind_of (declared m) z ≡ Input) e (input_net_kind ms names tops m in_ms top p h i))
@@ -229,8 +254,20 @@ module _ (ms : List ModuleTree) (m : ModuleTree) (names : first_violation (v2_us
           let r = label_of_scalar q.0.name l.name q.2 in
           port_given n q.0 q.1 (scalar_input ports f.0 q.0 f.1 l.name q.2) (scalar l.name) r.0 ∙ give_scalar (world n) l.name (asked_at m (nets n) (scalar l.name)) r.1
 
-      memory_given : (l : Port) → Has memories l → (c : List ℕ) (r : List Bool) → lookup [] memories env.memories l.name ≡ c → lookup [] memories env.ready l.name ≡ r → Answers (run_of nets) l.name c r
-      memory_given l h c r ec er =
+      -- what memory l shows in cycle n, were it the one of this number
+      abbrev shown : ℕ → Port → ℕ → ℕ
+      shown n l i = shows i n (cell_at (cells_at (run_of nets) l.name (get_or env.memories i []) n) ((nets n []).net (m_addr l.name)))
+
+      ack_given : (n : ℕ) (l : Port) → Has memories l → (nets n []).net (m_ack l.name) ≡ acks (place memories l.name) n
+      ack_given n l h =
+          let q = memory_port l h in
+          let f = fits ms names tops m in_ms top q.0 q.1 in
+          let a = ack_label q.0.name l.name q.2 in
+          let i = ack_input ports f.0 q.0 f.1 l.name q.2 in
+          port_given n q.0 q.1 i.0 (m_ack l.name) a.0 ∙ give_ack (world n) l.name (asked_at m (nets n) (m_ack l.name)) a.1 ∙ ap (λ k. acks (place memories l.name) k) (cycle_is nets n)
+
+      rdata_given : (n : ℕ) (l : Port) → Has memories l → (nets n []).net (m_rdata l.name) ≡ shown n l (place memories l.name)
+      rdata_given n l h =
           let q = memory_port l h in
           let f = fits ms names tops m in_ms top q.0 q.1 in
           let a = ack_label q.0.name l.name q.2 in
@@ -238,41 +275,42 @@ module _ (ms : List ModuleTree) (m : ModuleTree) (names : first_violation (v2_us
           let d = named_port ms names tops m in_ms top (m_rdata l.name) (five_rdata ms tops m in_ms l.name i.1) in
           let g = fits ms names tops m in_ms top d.0 d.1 in
           let j = rdata_input ports g.0 d.0 g.1 l.name (ap rdata_of d.2 ∙ rdata_of_label l.name a.1) in
-          record {
-            ack = λ n. port_given n q.0 q.1 i.0 (m_ack l.name) a.0 ∙ give_ack (world n) l.name (asked_at m (nets n) (m_ack l.name)) a.1 ∙ ap (λ b. ready_at b (world n).cycle) er ∙ ap (λ k. ready_at r k) (cycle_is nets n);
-            rdata = λ n.
-                port_given n d.0 d.1 j.0 (m_rdata l.name) d.2 ∙ give_rdata (world n) l.name (asked_at m (nets n) (m_rdata l.name)) a.1
-                ∙ ap (λ k. unwrap_or (slice_get ((world n).cells l.name) k) 0) (asked_is (nets n) l.name a.1 (subst (λ z. net_kind_of (declared m) z ≡ Input) d.2 (input_net_kind ms names tops m in_ms top d.0 d.1 j.0)) i.1)
-                ∙ ap (λ cells. unwrap_or (slice_get cells ((nets n []).net (m_addr l.name))) 0) (cells_are nets l.name i.1 n)
-                ∙ ap (λ first. unwrap_or (slice_get (cells_at (run_of nets) l.name first n) ((nets n []).net (m_addr l.name))) 0) ec;
-          }
+          let p = place memories l.name in
+          port_given n d.0 d.1 j.0 (m_rdata l.name) d.2 ∙ give_rdata (world n) l.name (asked_at m (nets n) (m_rdata l.name)) a.1
+          ∙ ap (λ k. shows p (world n).cycle (cell_at ((world n).cells l.name) k)) (asked_is (nets n) l.name a.1 (subst (λ z. net_kind_of (declared m) z ≡ Input) d.2 (input_net_kind ms names tops m in_ms top d.0 d.1 j.0)) i.1)
+          ∙ ap (λ cells. shows p (world n).cycle (cell_at cells ((nets n []).net (m_addr l.name)))) (cells_are nets l.name i.1 n)
+          ∙ ap (λ k. shows p k (cell_at (cells_at (run_of nets) l.name (get_or env.memories p []) n) ((nets n []).net (m_addr l.name)))) (cycle_is nets n)
 
-      pub stands : Stands m env (run_of nets)
+      pub stands : StandsAround m env acks shows (run_of nets)
       stands = record {
         reset = reset_given 0;
         runs = λ n. reset_given (suc n) ∙ later_reset n;
         scalars = λ n i l e. scalar_given n l (has_got scalars i l e) ∙ ap (λ j. get_or env.scalars j 0) (place_got scalars scalars_distinct i l e);
-        memories = λ i l e.
-            let there = place_got memories memories_distinct i l e in
-            memory_given l (has_got memories i l e) (get_or env.memories i []) (get_or env.ready i []) (ap (λ j. get_or env.memories j []) there) (ap (λ j. get_or env.ready j []) there);
+        ack = λ n i l e. ack_given n l (has_got memories i l e) ∙ ap (λ j. acks j n) (place_got memories memories_distinct i l e);
+        rdata = λ n i l e. rdata_given n l (has_got memories i l e) ∙ ap (shown n l) (place_got memories memories_distinct i l e);
       }
 
-    -- a run that stands in the environment has the inputs that are given
-    module _ (s : Stands m env (run_of nets)) where
+    -- a run around which they stand has the inputs that are given
+    module _ (s : StandsAround m env acks shows (run_of nets)) where
       scalar_at : (n : ℕ) (x : Name) (k : Port) → Has scalars k → k.name ≡ x → (nets n []).net (scalar x) ≡ lookup 0 scalars env.scalars x
       scalar_at n x k h e = let g = got_place scalars x k h e in ap (λ z. (nets n []).net (scalar z)) (sym g.2) ∙ s.scalars n (place scalars x) g.0 g.1
 
-      answers_at : (x : Name) (k : Port) → Has memories k → k.name ≡ x → Answers (run_of nets) x (lookup [] memories env.memories x) (lookup [] memories env.ready x)
-      answers_at x k h e =
+      ack_at : (n : ℕ) (x : Name) (k : Port) → Has memories k → k.name ≡ x → (nets n []).net (m_ack x) ≡ acks (place memories x) n
+      ack_at n x k h e = let g = got_place memories x k h e in ap (λ z. (nets n []).net (m_ack z)) (sym g.2) ∙ s.ack n (place memories x) g.0 g.1
+
+      rdata_at : (n : ℕ) (x : Name) (k : Port) → Has memories k → k.name ≡ x
+          → (nets n []).net (m_rdata x) ≡ shows (place memories x) n (cell_at (cells_at (run_of nets) x (lookup [] memories env.memories x) n) ((nets n []).net (m_addr x)))
+      rdata_at n x k h e =
           let g = got_place memories x k h e in
-          subst (λ z. Answers (run_of nets) z (lookup [] memories env.memories x) (lookup [] memories env.ready x)) g.2 (s.memories (place memories x) g.0 g.1)
+          subst (λ z. (nets n []).net (m_rdata z) ≡ shows (place memories x) n (cell_at (cells_at (run_of nets) z (lookup [] memories env.memories x) n) ((nets n []).net (m_addr z)))) g.2
+          (s.rdata n (place memories x) g.0 g.1)
 
       reset_is : (n : ℕ) → (nets n []).net rst ≡ cond (n == 0) 1 0
       reset_is zero = s.reset
       reset_is (suc n) = s.runs n ∙ sym (later_reset n)
 
       label_is : (n : ℕ) (p : PortDecl) → Has m.ports p → is_input p.direction ≡ true → is_clk p.name ≡ false → bytes_eq p.name rst ≡ false → (so ao ro : Option Name) → scalar_of p.name ≡ so → ack_of p.name ≡ ao → rdata_of p.name ≡ ro
-          → (nets n []).net p.name ≡ option_map_or (λ l. lookup 0 scalars env.scalars l) so (option_map_or (λ l. ready_at (lookup [] memories env.ready l) (world n).cycle) ao (option_map_or (λ l. unwrap_or (slice_get ((world n).cells l) (asked_at m (nets n) p.name)) 0) ro 0))
+          → (nets n []).net p.name ≡ option_map_or (λ l. lookup 0 scalars env.scalars l) so (give_memory (world n) ao ro (asked_at m (nets n) p.name))
       label_is n p h i nc nr (Some l) ao ro es ea er =
           let t = scalar_there p h l es in
           let r = label_of_scalar p.name l es in
@@ -280,16 +318,19 @@ module _ (ms : List ModuleTree) (m : ModuleTree) (names : first_violation (v2_us
       label_is n p h i nc nr None (Some l) ro es ea er =
           let t = memory_there p h l ea in
           let a = ack_label p.name l ea in
-          ap (λ z. (nets n []).net z) a.0 ∙ (answers_at l t.0 t.1 t.2).ack n ∙ ap (λ k. ready_at (lookup [] memories env.ready l) k) (sym (cycle_is nets n))
+          ap (λ z. (nets n []).net z) a.0 ∙ ack_at n l t.0 t.1 t.2 ∙ ap (λ k. acks (place memories l) k) (sym (cycle_is nets n))
       label_is n p h i nc nr None None (Some l) es ea er =
           let f = fits ms names tops m in_ms top p h in
           let j = rdata_input ports f.0 p f.1 l er in
           let a = rdata_label p.name l er in
           let q = named_port ms names tops m in_ms top (m_ack l) (five_of ms tops m in_ms l j.1).0 in
           let t = memory_there q.0 q.1 l (ap ack_of q.2 ∙ ack_of_label l a.1) in
-          ap (λ z. (nets n []).net z) a.0 ∙ (answers_at l t.0 t.1 t.2).rdata n
-          ∙ ap (λ cells. unwrap_or (slice_get cells ((nets n []).net (m_addr l))) 0) (sym (cells_are nets l j.1 n))
-          ∙ ap (λ k. unwrap_or (slice_get ((world n).cells l) k) 0) (sym (ap (λ z. asked_at m (nets n) z) a.0 ∙ asked_is (nets n) l a.1 (subst (λ z. net_kind_of (declared m) z ≡ Input) a.0 (input_net_kind ms names tops m in_ms top p h i)) j.1))
+          let v = place memories l in
+          ap (λ z. (nets n []).net z) a.0 ∙ rdata_at n l t.0 t.1 t.2
+          ∙ ap (λ k. shows v k (cell_at (cells_at (run_of nets) l (get_or env.memories v []) n) ((nets n []).net (m_addr l)))) (sym (cycle_is nets n))
+          ∙ ap (λ cells. shows v (world n).cycle (cell_at cells ((nets n []).net (m_addr l)))) (sym (cells_are nets l j.1 n))
+          ∙ ap (λ k. shows v (world n).cycle (cell_at ((world n).cells l) k))
+          (sym (ap (λ z. asked_at m (nets n) z) a.0 ∙ asked_is (nets n) l a.1 (subst (λ z. net_kind_of (declared m) z ≡ Input) a.0 (input_net_kind ms names tops m in_ms top p h i)) j.1))
       label_is n p h i nc nr None None None es ea er = let f = fits ms names tops m in_ms top p h in absurd (input_has_label ports f.0 p f.1 i nc nr es ea er)
 
       by_reset : (n : ℕ) (p : PortDecl) → Has m.ports p → is_input p.direction ≡ true → is_clk p.name ≡ false → (b : Bool) → bytes_eq p.name rst ≡ b
@@ -306,7 +347,8 @@ module _ (ms : List ModuleTree) (m : ModuleTree) (names : first_violation (v2_us
             of_input true h = refl
             of_input false h = cc
 
-module _ (ms : List ModuleTree) (place : ℕ) (m : ModuleTree) (d : IsDesign ms place) (at : slice_get ms place ≡ Some m) (env : Environment) (contents : Path → Cycle) (fits_power_up : FitsPowerUp ms m contents) where
+module _ (ms : List ModuleTree) (place : ℕ) (m : ModuleTree) (d : IsDesign ms place) (at : slice_get ms place ≡ Some m)
+    (env : Environment) (acks : ℕ → ℕ → ℕ) (shows : ℕ → ℕ → ℕ → ℕ) (contents : Path → Cycle) (fits_power_up : FitsPowerUp ms m contents) where
   settled : (n : FlatNet) → IsGrounded (parts ms m true) n
   settled = design_settles ms place d m at
 
@@ -314,29 +356,73 @@ module _ (ms : List ModuleTree) (place : ℕ) (m : ModuleTree) (d : IsDesign ms 
   tree = top_tree ms place d m at
 
   abbrev outside_world : World Outside
-  outside_world = around ms m d.sound.names d.outside tree.has tree.is_top env
+  outside_world = around ms m d.sound.names d.outside tree.has tree.is_top env acks shows
 
   the_run : ℕ → Path → Cycle
   the_run = run ms m d.sound.names d.sound.drivers tree.has settled Outside outside_world contents
 
-  is_run : IsRunFrom ms m env contents the_run
+  is_run : IsRunAround ms m env acks shows contents the_run
   unfolding the_run
   is_run = record {
-    runs_in = record {
-      runs = runs ms m d.sound.names d.sound.drivers tree.has settled Outside outside_world contents fits_power_up;
-      stands = stands ms m d.sound.names d.outside tree.has tree.is_top env the_run (inputs ms m d.sound.names d.sound.drivers tree.has settled Outside outside_world contents);
-    };
+    runs = runs ms m d.sound.names d.sound.drivers tree.has settled Outside outside_world contents fits_power_up;
+    stands = stands ms m d.sound.names d.outside tree.has tree.is_top env acks shows the_run (inputs ms m d.sound.names d.sound.drivers tree.has settled Outside outside_world contents);
     begins = begins ms m d.sound.names d.sound.drivers tree.has settled Outside outside_world contents;
   }
 
-  in_world : (nets : ℕ → Path → Cycle) → IsRunFrom ms m env contents nets → IsRunIn ms m Outside outside_world nets
-  in_world nets r = record { runs = r.runs_in.runs; inputs = inputs_stand ms m d.sound.names d.outside tree.has tree.is_top env nets r.runs_in.stands }
+  in_world : (nets : ℕ → Path → Cycle) → IsRunAround ms m env acks shows contents nets → IsRunIn ms m Outside outside_world nets
+  in_world nets r = record { runs = r.runs; inputs = inputs_stand ms m d.sound.names d.outside tree.has tree.is_top env acks shows nets r.stands }
 
-  pub one_run_from : IsOnly ms m (IsRunFrom ms m env contents)
-  one_run_from = record {
+  pub one_run_around : IsOnly ms m (IsRunAround ms m env acks shows contents)
+  one_run_around = record {
     run = the_run;
     is = is_run;
     only = λ other r.
-        same_from ms m d.sound.names d.sound.drivers d.outside tree.has tree.is_top settled Outside outside_world (decided ms m d.sound.names d.outside tree.has tree.is_top env) the_run other (in_world the_run is_run) (in_world other r)
+        same_from ms m d.sound.names d.sound.drivers d.outside tree.has tree.is_top settled Outside outside_world (decided ms m d.sound.names d.outside tree.has tree.is_top env acks shows) the_run other (in_world the_run is_run) (in_world other r)
         contents is_run.begins r.begins;
   }
+
+-- where one run has a property, and another property says the same, one run has that
+pub only_of : (ms : List ModuleTree) (m : ModuleTree) (P Q : (ℕ → Path → Cycle) → Type 0)
+    → ((nets : ℕ → Path → Cycle) → P nets → Q nets) → ((nets : ℕ → Path → Cycle) → Q nets → P nets) → IsOnly ms m P → IsOnly ms m Q
+only_of ms m P Q there back o = record { run = o.run; is = there o.run o.is; only = λ other q. o.only other (back other q) }
+
+module _ (ms : List ModuleTree) (m : ModuleTree) (env : Environment) (contents : Path → Cycle) where
+  -- the memories of an environment show the cell in every cycle
+  abbrev env_acks : ℕ → ℕ → ℕ
+  env_acks i n = ready_at (get_or env.ready i []) n
+
+  abbrev AroundEnv : (ℕ → Path → Cycle) → Type 0
+  AroundEnv nets = IsRunAround ms m env env_acks (λ i n cell. cell) contents nets
+
+  env_there : (nets : ℕ → Path → Cycle) → AroundEnv nets → IsRunFrom ms m env contents nets
+  env_there nets r = record {
+    runs_in = record {
+      runs = r.runs;
+      stands = record {
+        reset = r.stands.reset;
+        runs = r.stands.runs;
+        scalars = r.stands.scalars;
+        memories = λ i l got. record { ack = λ n. r.stands.ack n i l got; rdata = λ n. r.stands.rdata n i l got };
+      };
+    };
+    begins = r.begins;
+  }
+
+  env_back : (nets : ℕ → Path → Cycle) → IsRunFrom ms m env contents nets → AroundEnv nets
+  env_back nets r = record {
+    runs = r.runs_in.runs;
+    stands = record {
+      reset = r.runs_in.stands.reset;
+      runs = r.runs_in.stands.runs;
+      scalars = r.runs_in.stands.scalars;
+      ack = λ n i l got. (r.runs_in.stands.memories i l got).ack n;
+      rdata = λ n i l got. (r.runs_in.stands.memories i l got).rdata n;
+    };
+    begins = r.begins;
+  }
+
+pub one_run_from : (ms : List ModuleTree) (place : ℕ) (m : ModuleTree) → IsDesign ms place → slice_get ms place ≡ Some m → (env : Environment) (contents : Path → Cycle) → FitsPowerUp ms m contents
+    → IsOnly ms m (IsRunFrom ms m env contents)
+one_run_from ms place m d at env contents power_up =
+    only_of ms m (AroundEnv ms m env contents) (IsRunFrom ms m env contents) (env_there ms m env contents) (env_back ms m env contents)
+    (one_run_around ms place m d at env (env_acks ms m env contents) (λ i n cell. cell) contents power_up)

@@ -7,6 +7,8 @@ use Rattle.vlog_tree.specs.declared.table.NetKind.TheVariants.{Register}
 use Rattle.vlog_tree.specs.Form.{ModuleTree}
 use Rattle.tapa_base.specs.Lists.{Has}
 use Rattle.vlog_run_laws.specs.Beside.{RunsBeside}
+use Rattle.vlog_run_laws.specs.runs.Among.{StandsAmong}
+use Rattle.tapa_base.specs.declared.shape.Port.{Port}
 use Rattle.vlog_tree.specs.Cycle.{Cycle, Path, Holds, PowersUp, Takes, Runs, driven, run_items, module_at}
 use Rattle.vlog_tree.specs.Table.{declared, net_kind_of, bits_of, net_kind_is_read, net_kind_is_driven}
 use Rattle.vlog_tree.specs.Environment.{Environment, FitsShape, shape_of, RunsIn}
@@ -22,7 +24,7 @@ use Rattle.vlog_run_laws.proofs.widths.Bits.{value_operates}
 use Rattle.vlog_run_laws.proofs.widths.Ruled.{assign_width, assign_clock, net_width, step_fits}
 use Rattle.vlog_run_laws.proofs.widths.Steps.{register_bits, items_fit}
 use Rattle.vlog_run_laws.proofs.widths.Nets.{cycle_fits}
-use Rattle.vlog_run_laws.proofs.widths.Given.{GivesTop, stands_give, beside_gives, input_below, outside_next, mapped_got, listed}
+use Rattle.vlog_run_laws.proofs.widths.Given.{GivesTop, stands_give, beside_gives, among_gives, input_below, outside_next, mapped_got, listed}
 
 module _ (ms : List ModuleTree) (place : ℕ) (root : ModuleTree) (d : IsDesign ms place) (at_place : slice_get ms place ≡ Some root) (env : Environment) (env_fits : FitsShape env (shape_of root)) (nets : ℕ → Path → Cycle) (runs : Runs ms root nets) (given : GivesTop root env (λ n. nets n [])) where
   tree : IsTopTree ms root
@@ -99,6 +101,10 @@ module _ (ms : List ModuleTree) (place : ℕ) (root : ModuleTree) (d : IsDesign 
 
   pub run_fits_beside : (acks : ℕ → ℕ → Bool) (nets : ℕ → Path → Cycle) → RunsBeside ms root env acks nets → RunFits ms root env nets
   run_fits_beside acks nets r = all_fit ms place root d at_place env env_fits nets r.runs (beside_gives root env acks (λ n. nets n []) r.stands)
+
+  pub run_fits_among : (acks : ℕ → ℕ → Bool) (others : ℕ → ℕ → ℕ) → ((i n : ℕ) (l : Port) → slice_get (shape_of root).memories i ≡ Some l → others i n < 2 ^ l.bits)
+      → (nets : ℕ → Path → Cycle) → Runs ms root nets → StandsAmong root env acks others (λ n. nets n []) → RunFits ms root env nets
+  run_fits_among acks others low nets runs s = all_fit ms place root d at_place env env_fits nets runs (among_gives root env acks others low (λ n. nets n []) s)
 
   pub drivers_fit : (nets : ℕ → Path → Cycle) → RunsIn ms root env nets → (n : ℕ) (path : Path) (m : ModuleTree) → module_at ms root path ≡ Some m → DriversFit m (nets n path)
   drivers_fit nets r n path m at = each_driver_fits ms place root d at_place env env_fits nets r.runs (stands_give root env (λ n. nets n []) r.stands) n path m at

@@ -19,6 +19,7 @@ use Rattle.vlog_tree.specs.V6.{v6_uses, fixed_fits, ack_fits, has_all_five, is_i
 use Rattle.vlog_tree.specs.Cycle.{Cycle}
 use Rattle.vlog_tree.specs.Environment.{Environment, FitsShape, widths, shape_of, scalar_label, memory_label, Stands, ready_at, set_cell, cells_at}
 use Rattle.vlog_run_laws.specs.Beside.{StandsBeside}
+use Rattle.vlog_run_laws.specs.runs.Among.{StandsAmong}
 use Rattle.tapa_base.proofs.Lists.{has_flat, of_flat, got_has, has_got}
 use Rattle.vlog_run_laws.proofs.runs.Sound.{both_true}
 use Rattle.vlog_run_laws.proofs.runs.Cycles.{port_stands}
@@ -93,6 +94,23 @@ beside_gives m env acks run s = record {
   scalars = λ n i l got. s.scalars n i l got;
   ack = λ n i l got. subst (λ v. v < 2 ^ 1) (sym ((s.memories i l got).ack n)) (bit_of (acks i n));
   rdata = λ n i l got cells. (s.memories i l got).width n;
+}
+
+chosen_below : (w : ℕ) (b : Bool) (u v : ℕ) → u < 2 ^ w → v < 2 ^ w → cond b u v < 2 ^ w
+chosen_below w true u v f g = f
+chosen_below w false u v f g = g
+
+-- and so do those that show given numbers of their width where they do not
+pub among_gives : (m : ModuleTree) (env : Environment) (acks : ℕ → ℕ → Bool) (others : ℕ → ℕ → ℕ) → ((i n : ℕ) (l : Port) → slice_get (shape_of m).memories i ≡ Some l → others i n < 2 ^ l.bits)
+    → (run : ℕ → Cycle) → StandsAmong m env acks others run → GivesTop m env run
+among_gives m env acks others low run s = record {
+  reset = reset_bit run s.reset s.runs;
+  scalars = λ n i l got. s.scalars n i l got;
+  ack = λ n i l got. subst (λ v. v < 2 ^ 1) (sym (s.ack n i l got)) (bit_of (acks i n));
+  rdata = λ n i l got cells.
+      let asked : ℕ = (run n).net (m_addr l.name) in
+      let now : List ℕ = cells_at run l.name (get_or env.memories i []) n in
+      subst (λ v. v < 2 ^ l.bits) (sym (s.rdata n i l got)) (chosen_below l.bits (acks i n) (unwrap_or (slice_get now asked) 0) (others i n) (got_below l.bits now asked cells) (low i n l got));
 }
 
 module _ (ports : List Declaration) (before : List PortDecl) (p : PortDecl) (f : PortFits ports before p) where

@@ -7,6 +7,7 @@ ghost use Rattle.vlog_tree.specs.Flattened.{FlatNet, parts};
 ghost use Rattle.vlog_tree.specs.Refused.{IsDesign};
 ghost use Rattle.vlog_tree.specs.Table.{Name};
 ghost use Rattle.vlog_tree.specs.Cycle.{Cycle, Path};
+ghost use Rattle.vlog_run_laws.specs.runs.Among.{OneRunAmong, AmongIsBeside, BesideIsAmong};
 ghost use Rattle.vlog_run_laws.specs.runs.Filled.{FillFits, FilledIsFilled};
 ghost use Rattle.vlog_run_laws.specs.runs.OneRun.{FitsPowerUp, IsRunOf, IsRunFrom, IsOnly};
 ghost use Rattle.vlog_tree.specs.Environment.{Environment};
@@ -28,6 +29,23 @@ pub fn law_one_run_of_inputs()
 pub fn law_one_run_in_environment()
     ensures { (ms : List ModuleTree) (top : ℕ) (m : ModuleTree) (env : Environment) (contents : Path → Cycle)
         → IsDesign ms top → slice_get ms top ≡ Some m → FitsPowerUp ms m contents → IsOnly ms m (IsRunFrom ms m env contents) }
+{}
+
+/// A design has exactly one run from each such contents beside memories that answer in any given cycles, show the cell that is asked
+/// for in those, and any given numbers in the others.
+pub fn law_one_run_beside()
+    ensures { OneRunAmong }
+{}
+
+/// Where no memory answers in reset and the given numbers are of their memories' widths, it is a run beside memories that show a cell
+/// in the cycles in which they answer, and any number of their width in others.
+pub fn law_among_is_beside()
+    ensures { AmongIsBeside }
+{}
+
+/// Each run beside such memories is the one from what it begins with, where the numbers given are those that the memories show.
+pub fn law_beside_is_among()
+    ensures { BesideIsAmong }
 {}
 
 /// One number, cut to the width of each register and each cell, is contents that power-up may leave.
