@@ -1,4 +1,4 @@
-"""How the crates are built: no crate without code but for laws and lines, small functions and files, few arguments, no body twice, no comment that leans on another.
+"""How the crates are built: no crate without code but for laws and lines, small functions and files, few arguments, no body twice, no definition that nothing names, no comment that leans on another.
 
 What does not hold yet stands in exceptions.txt, one line each; `tests/run.py house` prints what is found. A new exception is refused, and so is a line that holds no more."""
 import os
@@ -135,12 +135,34 @@ def blank_comments(text):
     return re.sub(r"//[^\n]*", "", text)
 
 
+HEAD = re.compile(r"(?:abbrev |unfoldable )?pub (?:abbrev |unfoldable |record |data )?(\w+)")
+
+
+def uncited(crates):
+    """The definitions that no line names but those that define them."""
+    defined, cited = {}, set()
+    for crate in crates:
+        for path, text in [*definitions(crate), *files(crate)]:
+            for line in text.splitlines():
+                words = set(re.findall(r"\w+", line))
+                head = HEAD.match(line) if "/specs/" in path else None
+                if head and head[1][0] != "_":
+                    defined.setdefault(head[1], path)
+                begun = head[1] if head else (re.match(r"\w*", line)[0])
+                cited |= words - {begun}
+    for name in ["README.md", *(os.path.join("docs", it) for it in os.listdir(os.path.join(ROOT, "docs")))]:
+        if name.endswith(".md"):
+            cited |= set(re.findall(r"\w+", read(name)))
+    return [f"uncited {name}" for name in defined if name not in cited]
+
+
 def found():
     """Every exception that there is, in order."""
     bodies, all_of_them = {}, []
-    for crate in sorted(os.listdir(os.path.join(ROOT, "crates"))):
-        if os.path.isdir(os.path.join(ROOT, "crates", crate, "src")):
-            all_of_them += found_in(crate, bodies)
+    crates = [it for it in sorted(os.listdir(os.path.join(ROOT, "crates"))) if os.path.isdir(os.path.join(ROOT, "crates", it, "src"))]
+    for crate in crates:
+        all_of_them += found_in(crate, bodies)
+    all_of_them += uncited(crates)
     for places in bodies.values():
         if len({crate for crate, _ in places}) > 1:
             all_of_them.append("twice " + " ".join(sorted({name for _, name in places})))
