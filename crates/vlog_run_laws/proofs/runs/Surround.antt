@@ -264,7 +264,8 @@ module _ (ms : List ModuleTree) (m : ModuleTree) (names : first_violation (v2_us
           let f = fits ms names tops m in_ms top q.0 q.1 in
           let a = ack_label q.0.name l.name q.2 in
           let i = ack_input ports f.0 q.0 f.1 l.name q.2 in
-          port_given n q.0 q.1 i.0 (m_ack l.name) a.0 ∙ give_ack (world n) l.name (asked_at m (nets n) (m_ack l.name)) a.1 ∙ ap (λ k. acks (place memories l.name) k) (cycle_is nets n)
+          port_given n q.0 q.1 i.0 (m_ack l.name) a.0 ∙ give_ack (world n) l.name (asked_at m (nets n) (m_ack l.name)) a.1
+          ∙ ap (λ k. acks (place memories l.name) k) (cycle_is nets n)
 
       rdata_given : (n : ℕ) (l : Port) → Has memories l → (nets n []).net (m_rdata l.name) ≡ shown n l (place memories l.name)
       rdata_given n l h =
@@ -277,7 +278,8 @@ module _ (ms : List ModuleTree) (m : ModuleTree) (names : first_violation (v2_us
           let j = rdata_input ports g.0 d.0 g.1 l.name (ap rdata_of d.2 ∙ rdata_of_label l.name a.1) in
           let p = place memories l.name in
           port_given n d.0 d.1 j.0 (m_rdata l.name) d.2 ∙ give_rdata (world n) l.name (asked_at m (nets n) (m_rdata l.name)) a.1
-          ∙ ap (λ k. shows p (world n).cycle (cell_at ((world n).cells l.name) k)) (asked_is (nets n) l.name a.1 (subst (λ z. net_kind_of (declared m) z ≡ Input) d.2 (input_net_kind ms names tops m in_ms top d.0 d.1 j.0)) i.1)
+          ∙ ap (λ k. shows p (world n).cycle (cell_at ((world n).cells l.name) k))
+          (asked_is (nets n) l.name a.1 (subst (λ z. net_kind_of (declared m) z ≡ Input) d.2 (input_net_kind ms names tops m in_ms top d.0 d.1 j.0)) i.1)
           ∙ ap (λ cells. shows p (world n).cycle (cell_at cells ((nets n []).net (m_addr l.name)))) (cells_are nets l.name i.1 n)
           ∙ ap (λ k. shows p k (cell_at (cells_at (run_of nets) l.name (get_or env.memories p []) n) ((nets n []).net (m_addr l.name)))) (cycle_is nets n)
 
@@ -377,8 +379,9 @@ module _ (ms : List ModuleTree) (place : ℕ) (m : ModuleTree) (d : IsDesign ms 
     run = the_run;
     is = is_run;
     only = λ other r.
-        same_from ms m d.sound.names d.sound.drivers d.outside tree.has tree.is_top settled Outside outside_world (decided ms m d.sound.names d.outside tree.has tree.is_top env acks shows) the_run other (in_world the_run is_run) (in_world other r)
-        contents is_run.begins r.begins;
+        same_from ms m d.sound.names d.sound.drivers d.outside tree.has tree.is_top settled Outside outside_world
+        (decided ms m d.sound.names d.outside tree.has tree.is_top env acks shows) the_run other
+        (in_world the_run is_run) (in_world other r) contents is_run.begins r.begins;
   }
 
 -- where one run has a property, and another property says the same, one run has that
@@ -421,8 +424,8 @@ module _ (ms : List ModuleTree) (m : ModuleTree) (env : Environment) (contents :
     begins = r.begins;
   }
 
-pub one_run_from : (ms : List ModuleTree) (place : ℕ) (m : ModuleTree) → IsDesign ms place → slice_get ms place ≡ Some m → (env : Environment) (contents : Path → Cycle) → FitsPowerUp ms m contents
-    → IsOnly ms m (IsRunFrom ms m env contents)
+pub one_run_from : (ms : List ModuleTree) (place : ℕ) (m : ModuleTree) → IsDesign ms place → slice_get ms place ≡ Some m → (env : Environment) (contents : Path → Cycle)
+    → FitsPowerUp ms m contents → IsOnly ms m (IsRunFrom ms m env contents)
 one_run_from ms place m d at env contents power_up =
     only_of ms m (AroundEnv ms m env contents) (IsRunFrom ms m env contents) (env_there ms m env contents) (env_back ms m env contents)
     (one_run_around ms place m d at env (env_acks ms m env contents) (λ i n cell. cell) contents power_up)

@@ -43,8 +43,9 @@ runs_beside ms place root d at env env_fits nets r =
       };
     }
 
-module _ (ms : List ModuleTree) (place : ℕ) (root : ModuleTree) (d : IsDesign ms place) (at : slice_get ms place ≡ Some root) (env : Environment) (env_fits : FitsShape env (shape_of root))
-    (answers : ℕ → ℕ → Bool) (others : ℕ → ℕ → ℕ) (quiet : (i : ℕ) → answers i 0 ≡ false) (low : (i n : ℕ) (l : Port) → slice_get (shape_of root).memories i ≡ Some l → others i n < 2 ^ l.bits) where
+module _ (ms : List ModuleTree) (place : ℕ) (root : ModuleTree) (d : IsDesign ms place) (at : slice_get ms place ≡ Some root)
+    (env : Environment) (env_fits : FitsShape env (shape_of root)) (answers : ℕ → ℕ → Bool) (others : ℕ → ℕ → ℕ) (quiet : (i : ℕ) → answers i 0 ≡ false)
+    (low : (i n : ℕ) (l : Port) → slice_get (shape_of root).memories i ≡ Some l → others i n < 2 ^ l.bits) where
   pub among_is_beside : (contents : Path → Cycle) (nets : ℕ → Path → Cycle) → IsRunAmong ms root env answers others contents nets → RunsBeside ms root env answers nets
   among_is_beside contents nets r =
       let run : ℕ → Cycle = λ n. nets n [] in
@@ -60,7 +61,9 @@ module _ (ms : List ModuleTree) (place : ℕ) (root : ModuleTree) (d : IsDesign 
             quiet = quiet i;
             ack = λ n. r.stands.ack n i l got;
             width = λ n. given.rdata n i l got (fits.outside n i l got);
-            rdata = λ n ok. r.stands.rdata n i l got ∙ ap (λ b. cond b (cell_at (cells_at run l.name (get_or env.memories i []) n) ((run n).net (m_addr l.name))) (others i n)) ok;
+            rdata = λ n ok.
+                r.stands.rdata n i l got
+                ∙ ap (λ b. cond b (cell_at (cells_at run l.name (get_or env.memories i []) n) ((run n).net (m_addr l.name))) (others i n)) ok;
           };
         };
       }

@@ -101,8 +101,8 @@ chosen_below w true u v f g = f
 chosen_below w false u v f g = g
 
 -- and so do those that show given numbers of their width where they do not
-pub among_gives : (m : ModuleTree) (env : Environment) (acks : ℕ → ℕ → Bool) (others : ℕ → ℕ → ℕ) → ((i n : ℕ) (l : Port) → slice_get (shape_of m).memories i ≡ Some l → others i n < 2 ^ l.bits)
-    → (run : ℕ → Cycle) → StandsAmong m env acks others run → GivesTop m env run
+pub among_gives : (m : ModuleTree) (env : Environment) (acks : ℕ → ℕ → Bool) (others : ℕ → ℕ → ℕ)
+    → ((i n : ℕ) (l : Port) → slice_get (shape_of m).memories i ≡ Some l → others i n < 2 ^ l.bits) → (run : ℕ → Cycle) → StandsAmong m env acks others run → GivesTop m env run
 among_gives m env acks others low run s = record {
   reset = reset_bit run s.reset s.runs;
   scalars = λ n i l got. s.scalars n i l got;
@@ -110,7 +110,8 @@ among_gives m env acks others low run s = record {
   rdata = λ n i l got cells.
       let asked : ℕ = (run n).net (m_addr l.name) in
       let now : List ℕ = cells_at run l.name (get_or env.memories i []) n in
-      subst (λ v. v < 2 ^ l.bits) (sym (s.rdata n i l got)) (chosen_below l.bits (acks i n) (unwrap_or (slice_get now asked) 0) (others i n) (got_below l.bits now asked cells) (low i n l got));
+      subst (λ v. v < 2 ^ l.bits) (sym (s.rdata n i l got))
+      (chosen_below l.bits (acks i n) (unwrap_or (slice_get now asked) 0) (others i n) (got_below l.bits now asked cells) (low i n l got));
 }
 
 module _ (ports : List Declaration) (before : List PortDecl) (p : PortDecl) (f : PortFits ports before p) where

@@ -19,7 +19,8 @@ pub record StandsAmong (top : ModuleTree) (env : Environment) (answers : ℕ →
   pub scalars : (n i : ℕ) (l : Port) → slice_get (shape_of top).scalars i ≡ Some l → (run n).net (scalar l.name) ≡ slice_index env.scalars i
   pub ack : (n i : ℕ) (l : Port) → slice_get (shape_of top).memories i ≡ Some l → (run n).net (m_ack l.name) ≡ (if answers i n then 1 else 0)
   pub rdata : (n i : ℕ) (l : Port) → slice_get (shape_of top).memories i ≡ Some l
-      → (run n).net (m_rdata l.name) ≡ (if answers i n then unwrap_or (slice_get (cells_at run l.name (slice_index_or env.memories i []) n) ((run n).net (m_addr l.name))) 0 else others i n)
+      → (run n).net (m_rdata l.name)
+      ≡ (if answers i n then unwrap_or (slice_get (cells_at run l.name (slice_index_or env.memories i []) n) ((run n).net (m_addr l.name))) 0 else others i n)
 
 -- a run of a design beside them from these contents
 pub record IsRunAmong (ms : List ModuleTree) (top : ModuleTree) (env : Environment) (answers : ℕ → ℕ → Bool) (others : ℕ → ℕ → ℕ) (contents : Path → Cycle) (nets : ℕ → Path → Cycle) : Type 0 where
