@@ -1,6 +1,6 @@
 -- No output of a circuit rests on an input of it: outputs rest on the nets that say which instances have ended and on what tasks
 -- ask of memories, and in a task these rest on no input.
-use Rattle.std.proofs.Common.{◌≡◌, ℕ, zero, suc, ◌+◌, ◌-◌, ◌*◌, Bool, true, false, eqb, ◌&&◌, ◌||◌, List, [], ◌∷◌, ◌++◌, length, map, Option, Some, None, refl, sym, ap, subst, ◌∙◌, append_assoc}
+use Rattle.std.proofs.Common.{◌≡◌, ℕ, zero, suc, ◌+◌, ◌-◌, ◌*◌, Bool, true, false, eqb, ◌&&◌, ◌||◌, List, [], ◌∷◌, ◌++◌, length, map, Option, Some, None, refl, sym, ap, subst, ◌∙◌}
 use Rattle.std.specs.Prelude.{codes, not, slice_get, slice_index, slice_index_or}
 use Rattle.std.specs.List.{list_all, flat_map}
 use Rattle.std.proofs.lemmas.Grind.{flat_map-append}
@@ -192,8 +192,8 @@ module _ (program : Program) where
       let n = length program.instances.items in
       let leaves = each (waiting program) n in
       let nodes = tree_nodes 1 waits n (n - 1) in
-      both_closed leaves (nodes ++ Output 1 done (none_waits n) ∷ []) (each_closed (waiting program) n waiting_closed)
-      (both_closed nodes (Output 1 done (none_waits n) ∷ []) (nodes_closed n (n - 1)) (last_closed n))
+      let last = Output 1 done (none_waits n) ∷ [] in
+      both_closed (leaves ++ nodes) last (both_closed leaves nodes (each_closed (waiting program) n waiting_closed) (nodes_closed n (n - 1))) (last_closed n)
 
   ports_closed : AreClosed (ports program)
   ports_closed =
@@ -207,10 +207,12 @@ module _ (program : Program) where
       let bounds = each (at_instance program (parameters program)) (length program.instances.items) in
       let ends = each ended_wire (length program.instances.items) in
       let takes = each (λ s. take_wire (slice_get program.streams.items s)) (length program.streams.items) in
-      both_closed streams (bounds ++ ends ++ takes) (each_closed (λ s. stream_wires (slice_get program.streams.items s)) (length program.streams.items) (λ k. stream_closed (slice_get program.streams.items k)))
-      (both_closed bounds (ends ++ takes) (each_closed (at_instance program (parameters program)) (length program.instances.items) (λ k. bounds_closed k (slice_get program.instances.items k)))
-      (both_closed ends takes (each_closed ended_wire (length program.instances.items) (λ k. refl))
-      (each_closed (λ s. take_wire (slice_get program.streams.items s)) (length program.streams.items) (λ k. take_closed (slice_get program.streams.items k)))))
+      both_closed (streams ++ bounds ++ ends) takes
+      (both_closed (streams ++ bounds) ends
+      (both_closed streams bounds (each_closed (λ s. stream_wires (slice_get program.streams.items s)) (length program.streams.items) (λ k. stream_closed (slice_get program.streams.items k)))
+      (each_closed (at_instance program (parameters program)) (length program.instances.items) (λ k. bounds_closed k (slice_get program.instances.items k))))
+      (each_closed ended_wire (length program.instances.items) (λ k. refl)))
+      (each_closed (λ s. take_wire (slice_get program.streams.items s)) (length program.streams.items) (λ k. take_closed (slice_get program.streams.items k)))
 
   task_closed : (i : ℕ) (x : Instance) (o : Option Leaf) → AreClosed (of_leaf (task_part program i) x o)
   task_closed i x None = refl
@@ -235,8 +237,8 @@ module _ (program : Program) where
       let clock : not (free clk) ≡ true = ap (λ k. not (is_free_sort k)) clk_sort in
       let reset : not (free rst) ≡ true = ap (λ k. not (is_free_sort k)) rst_sort in
       let all : AreClosed (top_elements program added) =
-      both_closed (ports program) (wires program ++ doneness program ++ instances program added) ports_closed
-      (both_closed (wires program) (doneness program ++ instances program added) wires_closed (both_closed (doneness program) (instances program added) done_closed (instances_closed added))) in
+      both_closed (ports program ++ wires program ++ doneness program) (instances program added)
+      (both_closed (ports program ++ wires program) (doneness program) (both_closed (ports program) (wires program) ports_closed wires_closed) done_closed) (instances_closed added) in
       yes_and (not (free clk) && not (free rst)) (list_all (is_closed_at free) (top_elements program added)) (yes_and (not (free clk)) (not (free rst)) clock reset) all
 
 -- ---- all outputs are free
@@ -275,14 +277,14 @@ module _ (program : Program) where
       let n = length program.instances.items in
       let leaves = each (waiting program) n ++ tree_nodes 1 waits n (n - 1) in
       let last = Output 1 done (none_waits n) ∷ [] in
-      subst AreFree (append_assoc (each (waiting program) n) (tree_nodes 1 waits n (n - 1)) last)
-      (both_free leaves last (none_free leaves (waits_none output_names (λ w x v. refl) program n (n - 1))) (yes_and (free done) true (ap is_free_sort done_sort) refl))
+      both_free leaves last (none_free leaves (waits_none output_names (λ w x v. refl) program n (n - 1))) (yes_and (free done) true (ap is_free_sort done_sort) refl)
 
   outputs_free : (added : List ℕ) → AreFree (top_elements program added)
   outputs_free added =
-      both_free (ports program) (wires program ++ doneness program ++ instances program added) ports_free
-      (both_free (wires program) (doneness program ++ instances program added) (none_free (wires program) (wires_none output_names (λ w x v. refl) (λ w x. refl) program))
-      (both_free (doneness program) (instances program added) done_free (none_free (instances program added) (instances_none output_names (λ k i ls. refl) program added))))
+      both_free (ports program ++ wires program ++ doneness program) (instances program added)
+      (both_free (ports program ++ wires program) (doneness program)
+      (both_free (ports program) (wires program) ports_free (none_free (wires program) (wires_none output_names (λ w x v. refl) (λ w x. refl) program))) done_free)
+      (none_free (instances program added) (instances_none output_names (λ k i ls. refl) program added))
 
 -- ---- what an instance drives of them rests on no input of its module
 
