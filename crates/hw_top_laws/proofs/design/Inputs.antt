@@ -42,7 +42,7 @@ use Rattle.hw_lines.specs.Texts.{task_name}
 use Rattle.hw_lines.proofs.Names.{spelled_tail}
 use Rattle.hw_task_laws.proofs.names.Empty.{GiveNone}
 use Rattle.hw_task_laws.proofs.names.Named.{flat_each}
-use Rattle.hw_top_lines.specs.Bounds.{scalar_kind, scalar_name, parameter_kind, converted_net, kind_before, conversion_step, bound_elements, parameters}
+use Rattle.hw_top_lines.specs.Bounds.{scalar_kind, scalar_name, parameter_kind, kind_before, conversion_step, bound_elements, parameters}
 use Rattle.hw_top_lines.specs.Designs.{design_tree}
 use Rattle.hw_top_lines.specs.Legal.{IsReady}
 use Rattle.hw_top_lines.specs.Names.{s_take, ended_net, waits, bound_net}
