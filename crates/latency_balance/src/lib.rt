@@ -6,6 +6,7 @@
 mod balance;
 mod cycle_test;
 mod exits;
+mod laws;
 mod moves;
 mod paths;
 mod search;
@@ -14,3 +15,4 @@ mod settling;
 mod walking;
 
 pub use balance::{Balance, balance_streams};
+pub use laws::law_balances_are_one;
