@@ -7,7 +7,7 @@ ghost use Rattle.tapa_syntax.specs.WellFormed.{IsWellFormed};
 ghost use Rattle.net_core.specs.Bounded.{scalars_of, memories_of};
 ghost use Rattle.net_case.specs.State.{AreAllHome};
 
-use crate::gates::{APART, Closed, Meeting, Slow};
+use crate::gates::{APART, Closed, Meeting, SHIFTS, Slow};
 use command_source::{read_input, read_program};
 use coro_machine::Coro;
 use coro_threads::{Board, finish, run_free, run_rounds};
@@ -21,13 +21,6 @@ use std::test::Fail;
 use std::thread::Threads;
 use tapa_base::OutOfMemory;
 use tapa_syntax::Program;
-
-// Two tasks of which each may begin at once. They make 20 ticks in all.
-const SHIFTS: &str =
-    "void P(tapa::ostream<int64_t>& a) { a << (1L << 40); a << (1 << 40); a << 0xFFFFFFFF + 1; a << 4294967295 + 1; }
-void C(tapa::istream<int64_t>& a) { for (int i = 0; i < 4; ++i) a.read(); }
-void T() { tapa::stream<int64_t> a; tapa::task().invoke(P, a).invoke(C, a); }
-";
 
 // Two tasks of which the first has room for one token.
 const CROSSED: &str =

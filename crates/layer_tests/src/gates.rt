@@ -6,6 +6,13 @@ use std::sync::atomic::{AtomicU64, Ordering};
 // So often a gate looks for another worker before it lets one through that none has come to meet.
 const LOOKS: u64 = 100_000_000;
 
+/// A program of two tasks of which each may begin at once. They make 20 ticks in all.
+pub const SHIFTS: &str =
+    "void P(tapa::ostream<int64_t>& a) { a << (1L << 40); a << (1 << 40); a << 0xFFFFFFFF + 1; a << 4294967295 + 1; }
+void C(tapa::istream<int64_t>& a) { for (int i = 0; i < 4; ++i) a.read(); }
+void T() { tapa::stream<int64_t> a; tapa::task().invoke(P, a).invoke(C, a); }
+";
+
 /// A program with a task that may be slow to begin, beside two that pass tokens on.
 pub const APART: &str = "void A() { int x = 1; }
 void B(tapa::ostream<int>& q) { q << 1; q << 2; q << 3; }

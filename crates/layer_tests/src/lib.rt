@@ -11,4 +11,4 @@ mod threads;
 #[cfg(test)]
 mod traces;
 
-pub use gates::{APART, Closed, Meeting, Slow};
+pub use gates::{APART, Closed, Meeting, SHIFTS, Slow};

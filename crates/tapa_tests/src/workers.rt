@@ -1,25 +1,19 @@
-use layer_tests::{APART, Meeting, Slow};
+use layer_tests::{APART, Meeting, SHIFTS, Slow};
 use std::alloc::Global;
 use std::sync::Wait;
 use std::sync::atomic::Ordering;
 use std::test::Fail;
 use std::thread::Threads;
-use tapa_drive::{Gate, tapa};
+use tapa_drive::{Gate, Status, tapa};
 use tapa_files::{MemShelf, MemSink};
 
-// Two tasks of which each may begin at once.
-pub const PAIR: &str = "void P(tapa::ostream<int>& q) { int x = 3; q << x; }
-void C(tapa::istream<int>& q) { int y = 4; y = q.read(); }
-void T() { tapa::stream<int> q; tapa::task().invoke(P, q).invoke(C, q); }
-";
-
-// What a run of a source by two workers writes, each of whom passes the gate.
+// How a run of a source by two workers ends, each of whom passes the gate, with what it writes to both outputs.
 fn run_by_two<R: Threads + Wait + Sync, G: Gate>(
     rt: &R,
     alloc: Global,
     source: &str,
     gate: &G,
-) -> Result<MemSink, Fail> {
+) -> Result<(Status, MemSink, MemSink), Fail> {
     let mut files = Vec::new(alloc);
     files.push((
         String::from_str(alloc, "r.cpp")?,
@@ -32,16 +26,21 @@ fn run_by_two<R: Threads + Wait + Sync, G: Gate>(
     let mut shelf = MemShelf::new(alloc, files, Vec::new(alloc));
     let mut out = MemSink::new(alloc, 4096, Vec::new(alloc))?;
     let mut err = MemSink::new(alloc, 4096, Vec::new(alloc))?;
-    let _status = tapa(rt, alloc, &words, &mut shelf, &mut out, &mut err, gate);
-    Ok(out)
+    let status = tapa(rt, alloc, &words, &mut shelf, &mut out, &mut err, gate);
+    Ok((status, out, err))
 }
 
 // With two workers two instances that may both begin are under way at once.
 #[test]
 fn two_workers_meet(rt: HostRuntime) -> Result<(), Fail> {
     let gate = Meeting::new();
-    let out = run_by_two(&rt, rt.alloc(), PAIR, &gate)?;
-    assert_eq!(rt; out.bytes(), b"stream q: 3\ndone 7\n".as_slice());
+    let (status, out, err) = run_by_two(&rt, rt.alloc(), SHIFTS, &gate)?;
+    assert!(rt; matches!(status, Status::Ok));
+    assert_eq!(rt;
+        out.bytes(),
+        b"stream a: 1099511627776 0 0 4294967296\ndone 20\n".as_slice()
+    );
+    assert_eq!(rt; err.bytes(), b"".as_slice());
     assert_eq!(rt; gate.met.load(Ordering::SeqCst), 2);
     Ok(())
 }
@@ -50,8 +49,10 @@ fn two_workers_meet(rt: HostRuntime) -> Result<(), Fail> {
 #[test]
 fn the_others_go_on(rt: HostRuntime) -> Result<(), Fail> {
     let gate = Slow::new();
-    let out = run_by_two(&rt, rt.alloc(), APART, &gate)?;
+    let (status, out, err) = run_by_two(&rt, rt.alloc(), APART, &gate)?;
+    assert!(rt; matches!(status, Status::Ok));
     assert_eq!(rt; out.bytes(), b"stream q: 1 2 3\ndone 10\n".as_slice());
+    assert_eq!(rt; err.bytes(), b"".as_slice());
     assert_eq!(rt; gate.seen.load(Ordering::SeqCst), 1);
     Ok(())
 }

@@ -28,8 +28,13 @@ def try_lists(trial):
         for name in crates:
             trial.check(f"the crate {name} begins with a sentence that says what it is", listed.what_it_is(name).endswith("."))
     rooms = [room.split(":")[0] for room, _ in listed.rooms()]
-    rows = re.findall(r"^\| ([\w ]+) \| .* \|$", read("README.md").partition("## What is proved, by room")[2].partition("\n\n**")[0], re.M)
+    table = read("README.md").partition("## What is proved, by room")[2].partition("\n\n**")[0]
+    rows = re.findall(r"^\| ([\w ]+) \| .* \|$", table, re.M)
     trial.check_equal("README.md has a row for each room that has code, in the order of crates.txt", [row for row in rows if row != "room"], [room for room in rooms if not room.startswith("tests")])
+    sections = re.findall(r"^## (.*)$", read("docs/PROMISES.md"), re.M)
+    for row in re.findall(r"^\| (?!room)\w.* \| (.*) \|$", table, re.M):
+        named = re.findall(r'"([^"]+)"', row)
+        trial.check(f"README.md: the sections {named} are those of docs/PROMISES.md", named and set(named) <= set(sections))
 
 
 def try_names(trial):
