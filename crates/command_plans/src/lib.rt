@@ -2,8 +2,10 @@
 #![tactic(auto)]
 
 mod building;
+mod laws;
 mod plan_text;
 mod planning;
 
 pub use building::{circuit_of, put_circuit};
+pub use laws::{law_build_adds_what_plan_prints, law_one_plan};
 pub use planning::{planned, put_aim, read_device_file};

@@ -2,6 +2,7 @@
 ghost use Rattle.std.specs.Prelude.{◌≡◌, ◌<◌, ℕ, List, length, IfOk, IfErr};
 ghost use Rattle.std.specs.Io.KnownBytes.{Appends};
 ghost use Rattle.latency_balance.specs.Moves.{AreLatencies};
+ghost use Rattle.latency_balance.specs.Result.{IsBalance};
 ghost use Rattle.plan_device.specs.Devices.{IsDevice};
 ghost use Rattle.plan_report.specs.Borders.{AreBorderLatencies};
 ghost use Rattle.plan_report.specs.Lines.{texts};
@@ -11,7 +12,8 @@ ghost use Rattle.command_plans.specs.Unwritten.{IsUnwritten};
 ghost use Rattle.command_plans.specs.Planned.{AreLinesOf, IsPlanText};
 
 use command_source::{Refusal, put_lines};
-use latency_balance::balance_streams;
+use flow_cert::{Verdict, check};
+use latency_balance::{Balance, balance_streams};
 use plan_device::Device;
 use plan_report::{latencies, plan_lines};
 use slot_plan::Plan;
@@ -19,6 +21,16 @@ use std::alloc::{AllocError, Global};
 use tapa_base::OutOfMemory;
 use tapa_files::Sink;
 use task_graph::Graph;
+
+// Looks at the certificate of a balance, whose check says yes.
+fn confirm(graph: &Graph, border: &[u32], balance: &Balance)
+    requires { IsBalance graph.now border.now balance.now }
+{
+    match check(graph, border, &balance.s, &balance.flow) {
+        Verdict::Yes => {}
+        _ => unreachable!(),
+    }
+}
 
 // The lines of a plan with its border latencies, and of their balance.
 fn lines_with(
@@ -35,6 +47,7 @@ fn lines_with(
     ensures { IfOk result (λ lines. AreLinesOf graph.now device.now plan.now (texts lines.items)) }
 {
     let balance = balance_streams(alloc, graph, border)?;
+    confirm(graph, border, &balance);
     let lines = plan_lines(alloc, graph, device, plan, border, &balance)?;
     Ok(lines)
 }

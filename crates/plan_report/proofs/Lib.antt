@@ -2,3 +2,4 @@ pub mod Grown
 pub mod Still
 pub mod Sums
 pub mod Below
+pub mod OneAdded

@@ -24,3 +24,9 @@ pub record AreAdded (g : Graph) (d : Device) (slots : List ℕ) (balanced : Bool
   pub lat : List ℕ
   pub borders : AreBorderLatencies g d slots lat
   pub adds : AddsTo g lat balanced added
+
+-- what is added, balanced, is one list: the border latencies with their balance
+abbrev pub OneAdded : Type 0
+OneAdded =
+    (g : Graph) (d : Device) (slots lat : List ℕ) (b : Balance) (added : List ℕ) → AreBorderLatencies g d slots lat → IsBalance g lat b → AreAdded g d slots true added
+    → (e : ℕ) → e < streams g → slice_index added e ≡ slice_index lat e + slice_index b.bal.items e

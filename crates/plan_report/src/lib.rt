@@ -4,9 +4,11 @@
 
 mod added;
 mod borders;
+mod laws;
 mod lines;
 mod report;
 
 pub use added::added_latencies;
 pub use borders::latencies;
+pub use laws::law_one_added;
 pub use report::plan_lines;
