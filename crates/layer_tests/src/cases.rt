@@ -11,7 +11,7 @@ use crate::gates::{APART, Closed, Meeting, Slow};
 use command_source::{read_input, read_program};
 use coro_machine::Coro;
 use coro_threads::{Board, finish, run_free, run_rounds};
-use net_case::{Case, Claimed, Gate};
+use net_case::{Case, Claimed, Gate, OpenGate};
 use net_core::{Input, Outcome, settle};
 use run_program::network;
 use std::alloc::Global;
@@ -41,6 +41,13 @@ const PAIRS: &str =
     "void A(tapa::ostream<int>& q) { int x = 1; for (int i = 0; i < 30; ++i) { x = x * 5 + i; q << x; } }
 void B(tapa::istream<int>& q) { int sum = 0; for (int i = 0; i < 30; ++i) { sum = sum + q.read(); } }
 void T() { tapa::streams<int, 24, 2> q; tapa::task().invoke<tapa::join, 24>(A, q).invoke<tapa::join, 24>(B, q); }
+";
+
+// Two tasks that hand a token to and fro.
+const TO_AND_FRO: &str =
+    "void A(tapa::istream<int>& p, tapa::ostream<int>& q) { for (int i = 0; i < 9000; ++i) { q << i; p.read(); } }
+void B(tapa::istream<int>& p, tapa::ostream<int>& q) { for (int i = 0; i < 9000; ++i) { q << p.read(); } }
+void T() { tapa::stream<int, 1> a; tapa::stream<int, 1> b; tapa::task().invoke(A, a, b).invoke(B, b, a); }
 ";
 
 // A program, and the input of an empty object.
@@ -224,6 +231,17 @@ fn sixty_four_workers_behind_a_gate(rt: HostRuntime) -> Result<(), Fail> {
     let by_many = behind_a_gate(&rt, rt.alloc(), PAIRS, 1_000_000, 64)?;
     assert_eq!(rt; (whole, false), by_many);
     assert_eq!(rt; whole, apart);
+    Ok(())
+}
+
+// Workers whose batches stay small give up, and one thread comes to the end.
+#[test]
+fn workers_with_small_batches_are_short(rt: HostRuntime) -> Result<(), Fail> {
+    let (program, input) = given(rt.alloc(), TO_AND_FRO)?;
+    let case = new_case(rt.alloc(), &program, &input, 1_000_000)?;
+    let (end, short) = at_a_board(&rt, rt.alloc(), case, 2, &OpenGate)?;
+    let (whole, _apart) = ends(rt.alloc(), TO_AND_FRO, 1_000_000)?;
+    assert_eq!(rt; (end, short), (whole, true));
     Ok(())
 }
 
