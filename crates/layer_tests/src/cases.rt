@@ -10,7 +10,7 @@ ghost use Rattle.net_case.specs.State.{AreAllHome};
 use crate::gates::{APART, Closed, Meeting, Slow};
 use command_source::{read_input, read_program};
 use coro_machine::Coro;
-use coro_threads::{Board, finish, run_free, run_rounds};
+use coro_threads::{Board, Crew, finish, run_by, run_free, run_rounds};
 use net_case::{Case, Claimed, Gate, OpenGate};
 use net_core::{Input, Outcome, settle};
 use run_program::network;
@@ -47,6 +47,13 @@ void T() { tapa::streams<int, 24, 2> q; tapa::task().invoke<tapa::join, 24>(A, q
 const TO_AND_FRO: &str =
     "void A(tapa::istream<int>& p, tapa::ostream<int>& q) { for (int i = 0; i < 9000; ++i) { q << i; p.read(); } }
 void B(tapa::istream<int>& p, tapa::ostream<int>& q) { for (int i = 0; i < 9000; ++i) { q << p.read(); } }
+void T() { tapa::stream<int, 1> a; tapa::stream<int, 1> b; tapa::task().invoke(A, a, b).invoke(B, b, a); }
+";
+
+// Two tasks that hand tokens to and fro, and then have much to do each by itself, twice.
+const PHASES: &str =
+    "void A(tapa::istream<int>& p, tapa::ostream<int>& q) { int x = 1; for (int n = 0; n < 2; ++n) { for (int i = 0; i < 4000; ++i) { q << x; x = x + p.read(); } for (int i = 0; i < 60000; ++i) { x = x * 5 + i; } } }
+void B(tapa::istream<int>& p, tapa::ostream<int>& q) { int x = 1; for (int n = 0; n < 2; ++n) { for (int i = 0; i < 4000; ++i) { x = x + p.read(); q << x; } for (int i = 0; i < 60000; ++i) { x = x * 5 + i; } } }
 void T() { tapa::stream<int, 1> a; tapa::stream<int, 1> b; tapa::task().invoke(A, a, b).invoke(B, b, a); }
 ";
 
@@ -242,6 +249,24 @@ fn workers_with_small_batches_are_short(rt: HostRuntime) -> Result<(), Fail> {
     let (end, short) = at_a_board(&rt, rt.alloc(), case, 2, &OpenGate)?;
     let (whole, _apart) = ends(rt.alloc(), TO_AND_FRO, 1_000_000)?;
     assert_eq!(rt; (end, short), (whole, true));
+    Ok(())
+}
+
+// Workers share a network while its batches are large, and leave it to one thread while they are small: it ends as by one worker.
+#[test]
+fn small_and_large_batches_by_turns(rt: HostRuntime) -> Result<(), Fail> {
+    let alloc = rt.alloc();
+    let (program, input) = given(alloc, PHASES)?;
+    let crew = Crew {
+        rt: &rt,
+        gate: &OpenGate,
+        workers: 2,
+    };
+    let net = network(alloc, &program, &input)?;
+    let run = run_by(&crew, alloc, net, 10_000_000);
+    let (whole, apart) = ends(alloc, PHASES, 10_000_000)?;
+    assert_eq!(rt; run.end?, whole);
+    assert_eq!(rt; whole, apart);
     Ok(())
 }
 
