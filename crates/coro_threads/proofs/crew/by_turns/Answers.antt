@@ -1,9 +1,7 @@
-use Rattle.std.proofs.Common.{◌≡◌, ap, sym, subst, ◌∙◌, arith}
-use Rattle.std.specs.Prelude.{IfOk}
-use Rattle.kahn_model.specs.Outcome.{IsCapped}
+use Rattle.std.proofs.Common.{◌≡◌, ◌+◌, ap, sym, subst, ◌∙◌, arith}
+use Rattle.kahn_model.specs.Outcome.{IsCapped, joined_ticks}
 use Rattle.net_core.specs.declared.net_state.NetState.{NetState}
 use Rattle.net_core.specs.State.{IsWithin}
-use Rattle.net_core.specs.Settle.{EndsAs}
 use Rattle.net_case.specs.State.{network, count}
 use Rattle.coro_threads.proofs.Turns.{same_run_refl}
 use Rattle.coro_threads.proofs.crew.by_turns.Goals as goal
@@ -23,9 +21,9 @@ pub drive_small-requires-clause-within : goal.drive_small-requires-clause-within
 drive_small-requires-clause-within g c =
     let shared = c.share-shared.result in
     let v = c.valid.ensures in
-    let joined = rw c.in-Some.is at c.left.ensures in
+    let joined : joined_ticks (network shared) (count shared) + c.in-Some-left.left ≡ shared.budget = c.in-Some-left.ensures in
     let e : c.args.budget ≡ shared.budget = c.requires.budget ∙ sym (c.share-shared.ensures.run.budget ∙ c.loop.invariant.run.budget) in
-    subst (λ (z : NetState). IsWithin z c.args.budget c.in-Some.left) (sym c.into_net.ensures)
+    subst (λ (z : NetState). IsWithin z c.args.budget c.in-Some-left.left) (sym c.into_net.ensures)
     (record { capped = subst (λ b. IsCapped (network shared) b (count shared)) (sym e) v.capped; joined = joined ∙ sym e })
 
 pub loop-preserved : goal.loop-preserved
