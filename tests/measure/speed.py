@@ -26,7 +26,7 @@ import tempfile
 import time
 
 sys.path.insert(0, os.path.dirname(os.path.dirname(os.path.abspath(__file__))))
-from runner.made.programs import apart, chain, hub  # noqa: E402
+from runner.made.programs import apart, by_phases, chain, hub  # noqa: E402
 
 HERE = os.path.dirname(os.path.abspath(__file__))
 REPEATS = 7
@@ -114,6 +114,7 @@ def cases():
     yield "a chain of ten whose tasks make 30 and 300 turns a token by turns, 20,000 tokens", uneven([30, 300] * 5, 20_000), "Top", {}
     yield "a chain of ten in which one task makes 3,000 turns a token and the others 30, 5,000 tokens", uneven([30] * 5 + [3_000] + [30] * 4, 5_000), "Top", {}
     yield "a busy task, 10,000,000 turns, beside a chain of five, 400,000 tokens", one_heavy(10_000_000, 5, 400_000), "Top", {}
+    yield "two tasks that hand over 40,000 tokens and make 1,000,000 turns each, five times", by_phases(20_000, 1_000_000, 5), "Top", {}
     for turns in (100_000, 400_000, 1_600_000):
         yield f"a ring of three, {turns:,} turns", source("ring"), "Top", {"scalars": {"n": turns}}
 

@@ -3,9 +3,9 @@
 
     tests/stress/threads.py PROGRAM [--runs N] [--seed S]     1,000 runs and seed 1, where nothing else is said
 
-The networks are twenty random ones of tests/runner/groups/workers.py that end in all ways, and some with much to do. Beside them two processes for each processor do
-nothing but use it, and four runs are made at once. Some of them have all of their threads put on one processor while they run, once the program has looked how many processors
-there are. A run that has not ended after 60 seconds is a hang. The last line is
+The networks are twenty: random ones of tests/runner/groups/workers.py that end in all ways, and some with much to do, of which one makes small batches and
+large ones by phases. Beside them two processes for each processor do nothing but use it, and four runs are made at once. Some of them have all of their
+threads put on one processor while they run, once the program has looked how many processors there are. A run that has not ended after 60 seconds is a hang. The last line is
 `N runs, M findings`.
 """
 import json
@@ -19,16 +19,17 @@ import time
 
 sys.path.insert(0, os.path.dirname(os.path.dirname(os.path.abspath(__file__))))
 from runner.groups.workers import Network  # noqa: E402
-from runner.made.programs import apart, hub  # noqa: E402
+from runner.made.programs import apart, by_phases, hub  # noqa: E402
 
 NETWORKS, SECONDS, AT_ONCE = 20, 60, 4
 
 
 def networks(seed):
     """Sources with their data and a limit: random ones, and some with much to do."""
-    found = [Network(f"{seed} {at}") for at in range(NETWORKS - 3)]
+    found = [Network(f"{seed} {at}") for at in range(NETWORKS - 4)]
     given = [(it.source, "T", it.data, it.limit) for it in found]
-    return given + [(apart(64, 3000), "Top", {}, "1000000"), (hub(12, 200), "Top", {}, "1000000"), (apart(3, 60_000), "Top", {}, "1000000")]
+    more = apart(64, 3000), hub(12, 200), apart(3, 60_000), by_phases(3_000, 20_000, 4)
+    return given + [(source, "Top", {}, "1000000") for source in more]
 
 
 def confine(process):

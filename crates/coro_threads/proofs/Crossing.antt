@@ -144,8 +144,11 @@ module _ (B : RattleType) (g : Ghosts B.Denot) (s : IsSend B) where
                             (
                               search (sendable, crosses) depth 30,
                               (
-                                search (s, sendable, crosses) depth 30,
-                                (search (ports_send, sendable, crosses) depth 30, tt),
+                                search (sendable, crosses) depth 30,
+                                (
+                                  search (s, sendable, crosses) depth 30,
+                                  (search (ports_send, sendable, crosses) depth 30, tt),
+                                ),
                               ),
                             ),
                           ),

@@ -8,7 +8,7 @@ use Rattle.net_case.specs.declared.lot.Lot.{Lot}
 use Rattle.net_core.specs.declared.body.Pause.{Pause}
 use Rattle.net_case.specs.Batch.{IsSameLot, Ran}
 use Rattle.net_case.specs.declared.case_state.CaseState.{CaseState}
-use Rattle.coro_threads.specs.Out.{AreOut, AreSameLots, AreReady, ticks_in}
+use Rattle.coro_threads.specs.Out.{AreOut, AreSameLots, AreReady}
 
 pub same_lot : (a : Lot) → IsSameLot a a
 same_lot a = record { program = refl; input = refl; budget = refl; instance = refl; at = refl; from = refl; fuel = refl }
@@ -70,20 +70,3 @@ module _ (xs ys : List Lot) (len : length ys ≡ length xs) (ran : (i : ℕ) (d 
 
 pub all_ready : (xs : List Lot) → AreReady (length xs) xs → (i : ℕ) (d : Lot) → i < length xs → (slice_index_or xs i d).ready ≡ true
 all_ready xs ready i d l = ready i (slice_index_or xs i d) l (slice_get-get_or xs i d l)
-
--- ---- their ticks
-
-pub ticks_more : (bs : List Lot) (k : ℕ) (b : Lot) → slice_get bs k ≡ Some b → ticks_in (take (k + 1) bs) ≡ ticks_in (take k bs) + b.made
-ticks_more [] k b e = absurd (cc)
-ticks_more (x ∷ bs) zero b e = let q : x ≡ b = cc in let m = ap (λ (z : Lot). z.made) q in omega arith
-ticks_more (x ∷ bs) (suc k) b e =
-    let h = ticks_more bs k b e in
-    let one : suc k + 1 ≡ suc (k + 1) = omega arith in
-    let more : ticks_in (take (suc k + 1) (x ∷ bs)) ≡ x.made + ticks_in (take (k + 1) bs) = ap (λ n. ticks_in (take n (x ∷ bs))) one in
-    omega arith
-
-pub ticks_front : (bs : List Lot) (k : ℕ) → ticks_in (take k bs) ≤ ticks_in bs
-ticks_front [] zero = omega arith
-ticks_front [] (suc k) = omega arith
-ticks_front (x ∷ bs) zero = omega arith
-ticks_front (x ∷ bs) (suc k) = let h = ticks_front bs k in omega arith

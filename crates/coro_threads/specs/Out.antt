@@ -38,11 +38,6 @@ pub record AreSameLots (old new : List Lot) : Type 0 where
 abbrev pub AreReady : ℕ → List Lot → Type 0
 AreReady m bs = (n : ℕ) (b : Lot) → n < m → slice_get bs n ≡ Some b → b.ready ≡ true
 
--- the ticks of all batches of a list
-abbrev pub ticks_in : List Lot → ℕ
-ticks_in [] = 0
-ticks_in (b ∷ bs) = b.made + ticks_in bs
-
 -- how many more ticks the instances of a case may make, each within the budget
 abbrev pub ahead : CaseState → ℕ
 ahead c = ticks_ahead (net_of c) c.budget

@@ -7,18 +7,17 @@ ghost use Rattle.net_case.specs.State.{AreAllHome};
 ghost use Rattle.coro_threads.specs.Out.{IsSameRun};
 ghost use Rattle.coro_threads.specs.Seats.{IsSeatOf, Finished, origin, view, workers_of};
 
-use crate::alone::finish;
+use crate::alone::{drive_new, drive_small, finish};
 use crate::deal::BoardFault;
 use crate::free::run_free;
 use crate::run::Run;
 use crate::seats::{Board, Worker};
 use net_case::{Case, CaseFault, Gate};
-use net_core::{Body, Net, settle};
+use net_core::{Body, Net};
 use std::alloc::Global;
 use std::sync::Wait;
 use std::thread;
 use std::thread::Threads;
-use tapa_base::OutOfMemory;
 
 /// Who runs a network: at most so many workers, 1 to 64, on a runtime that can start threads. Each passes the gate before it makes
 /// ticks; one worker alone, which waits for no other, passes none.
@@ -56,33 +55,64 @@ fn closed<B: Body + Drop>(board: Board<B>, workers: Vec<Worker<B>>) -> Case<B>
     board.close(workers)
 }
 
-// Drives a case to its end, by so many workers that share it on a board and, where there is no memory for a board or one of them
-// finds none for a batch, by this thread alone.
+// So many workers share a case on a board, until nothing is left to do, a worker finds no memory for a batch, or batches are small.
+// Without memory for a board the case stays as it is.
 fn share<R: Threads + Wait + Sync, B: Body + Send + Drop, G: Gate>(
     rt: &R,
     alloc: Global,
     case: Case<B>,
     workers: u32,
     gate: &G,
-) -> Run<B>
+) -> Case<B>
     requires workers { (0 < workers) × (workers ≤ 64) }
     requires home { AreAllHome case }
-    ensures program { result.net.program ≡ case.program }
-    ensures input { result.net.input ≡ case.input }
-    ensures reachable { IsReachable (network result.net) (count result.net) }
-    ensures outcome { IfOk result.end (EndsAs result.net case.budget) }
-    ensures pauses { IfOk result.end (IsSettled result.net) }
+    ensures run { IsSameRun case result }
+    ensures home { AreAllHome result }
 {
     match Board::new(alloc, case, workers) {
         Ok((board, mut crew)) => {
             run_free(rt, &board, crew.as_mut_slice(), gate);
-            finish(closed(board, crew))
+            closed(board, crew)
         }
-        Err(BoardFault { case }) => finish(case),
+        Err(BoardFault { case }) => case,
     }
 }
 
-/// Drives a new net to its end, by the workers of a crew: one alone as `settle` does, and more as they share a case.
+// The workers share a case as long as batches are large, and one thread drives its net while they are small, by turns.
+fn by_turns<R: Threads + Wait + Sync, B: Body + Send + Drop, G: Gate>(
+    rt: &R,
+    alloc: Global,
+    case: Case<B>,
+    workers: u32,
+    gate: &G,
+    budget: u64,
+) -> Run<B>
+    requires workers { (0 < workers) × (workers ≤ 64) }
+    requires home { AreAllHome case }
+    requires budget { budget ≡ case.budget }
+    ensures program { result.net.program ≡ case.program }
+    ensures input { result.net.input ≡ case.input }
+    ensures reachable { IsReachable (network result.net) (count result.net) }
+    ensures outcome { IfOk result.end (EndsAs result.net budget) }
+    ensures pauses { IfOk result.end (IsSettled result.net) }
+{
+    let mut case = case;
+    for _ in rt.forever() {
+        let shared = share(rt, alloc, case, workers, gate);
+        shared.valid();
+        let Some(left) = shared.left() else {
+            return finish(shared);
+        };
+        match drive_small(alloc, shared.into_net(), budget, left) {
+            Ok(grown) => case = grown,
+            Err(run) => return run,
+        }
+    }
+    unreachable!()
+}
+
+/// Drives a new net to its end, by the workers of a crew: one alone as `settle` does. More share a case of it while batches are large;
+/// while they are small, one thread drives it.
 pub fn run_by<R: Threads + Wait + Sync, B: Body + Send + Drop, G: Gate>(
     crew: &Crew<'_, R, G>,
     alloc: Global,
@@ -100,16 +130,10 @@ pub fn run_by<R: Threads + Wait + Sync, B: Body + Send + Drop, G: Gate>(
 {
     let workers = of_use(crew, net.counts.len());
     if workers == 1 {
-        let mut net = net;
-        let end = settle(alloc, &mut net, budget);
-        return Run { net, end };
+        return drive_new(alloc, net, budget);
     }
-    net.valid();
     match Case::new(alloc, net, budget) {
-        Ok(case) => share(crew.rt, alloc, case, workers, crew.gate),
-        Err(CaseFault { net }) => Run {
-            net,
-            end: Err(OutOfMemory),
-        },
+        Ok(case) => by_turns(crew.rt, alloc, case, workers, crew.gate, budget),
+        Err(CaseFault { net }) => drive_new(alloc, net, budget),
     }
 }

@@ -25,12 +25,12 @@ pub enum Turned<B: Body> {
     Left,
     /// Nothing: it was long enough.
     Again,
-    /// Nothing: there was no memory for a batch.
+    /// Nothing: there was no memory for a batch, or batches are small, so that one thread does better.
     Short,
 }
 
 // Claims batches, and as long as they are small, the gate is open and no other worker waits for the turn, runs and commits each at
-// once.
+// once. Where batches have been small for some time and none is out, all workers are to leave.
 fn turn<B: Body + Drop, G: Gate>(case: &mut Case<B>, signals: &Signals, gate: &G) -> Turned<B>
     ensures { Turns case.old result case.new }
 {
@@ -49,6 +49,10 @@ fn turn<B: Body + Drop, G: Gate>(case: &mut Case<B>, signals: &Signals, gate: &G
             Err(_stale) => unreachable!(),
         }
         if ran.is_err() {
+            return Turned::Short;
+        }
+        if case.is_slow() {
+            signals.leave();
             return Turned::Short;
         }
         if signals.is_awaited() {
@@ -117,7 +121,7 @@ fn run_outside<R: Wait, B: Body + Drop, G: Gate>(
     ran.is_ok()
 }
 
-// A worker that found no memory is short, and the others look again for what it leaves.
+// A worker that gives up is short, and the others look again for what it leaves.
 fn give_up<B: Body>(worker: &mut Worker<B>, signals: &Signals)
     ensures seat { worker.new.seat ≡ worker.old.seat }
     ensures short { worker.new.short ≡ true }
@@ -128,7 +132,7 @@ fn give_up<B: Body>(worker: &mut Worker<B>, signals: &Signals)
 
 /// One worker, until a claim finds the end, or there is no memory for a batch. It runs a small batch within its turn where the gate
 /// is open; before it resumes another one, outside, it passes the gate. Without memory it commits the batch as it is, is short, and
-/// returns; the others go on.
+/// returns; the others go on. Where batches are small all workers are short, and return.
 pub fn work<R: Wait, B: Body + Drop, G: Gate>(
     rt: &R,
     board: &Board<B>,
@@ -142,6 +146,9 @@ pub fn work<R: Wait, B: Body + Drop, G: Gate>(
     let signals = &board.signals;
     for _ in rt.forever() {
         let news = signals.news();
+        if signals.are_to_leave() {
+            return give_up(worker, signals);
+        }
         match take_turn(board, &mut worker.seat, gate) {
             Turned::Found(Claimed::Over(_)) => {
                 signals.tell_all();

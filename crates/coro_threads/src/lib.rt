@@ -1,6 +1,7 @@
 //! Runs of a network by several threads. Its case lies on a board, where free-running workers take turns: who holds the turn claims
-//! batches or commits one; small batches are made within the turn, large ones outside of it, so that the others go on meanwhile. Or
-//! they go by rounds of batches, each made by some thread; or one thread goes on from wherever a network was taken apart, batch by batch.
+//! batches or commits one; small batches are made within the turn, large ones outside of it, so that the others go on meanwhile. While all
+//! batches are small, one thread drives the network instead. Or they go by rounds of batches, each made by some thread; or one thread goes
+//! on from wherever a network was taken apart, batch by batch.
 #![tactic(auto)]
 
 mod alone;

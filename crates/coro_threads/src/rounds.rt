@@ -36,7 +36,7 @@ fn drive<R: Threads + Sync, B: Body + Send + Drop, G: Gate>(
         if let Some(outcome) = claim_all(case, batches) {
             return Ok(outcome);
         }
-        let threads = if few { 1 } else { workers };
+        let threads = if few && gate.is_open() { 1 } else { workers };
         let made_few = round(rt, case, batches, threads, gate)?;
         few = made_few;
     }

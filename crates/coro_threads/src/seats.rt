@@ -31,7 +31,8 @@ pub struct BoardSeat<B: Body> {
     ghost hand: { seat.me.1 ≡ hand_of seat.me.0.turn },
 }
 
-/// A worker of a crew. It is short where it found no memory for a batch and gave up.
+/// A worker of a crew. It is short where it gave up before the end: it found no memory for a batch, or batches were small for so long
+/// that one thread does better.
 #[derive(Drop)]
 pub struct Worker<B: Body> {
     pub seat: BoardSeat<B>,

@@ -14,6 +14,8 @@ pub struct Signals {
     pub news: AtomicU64,
     /// How many workers sleep until there is news, or are about to.
     pub waiters: AtomicU64,
+    /// 1 once the workers are to leave the network to one thread.
+    pub left: AtomicU64,
 }
 
 impl Signals {
@@ -24,6 +26,7 @@ impl Signals {
             comers: AtomicU64::new(0),
             news: AtomicU64::new(0),
             waiters: AtomicU64::new(0),
+            left: AtomicU64::new(0),
         }
     }
 
@@ -40,6 +43,16 @@ impl Signals {
     /// Whether some worker waits for the turn with a batch.
     pub fn is_awaited(&self) -> bool {
         self.comers.load(Ordering::SeqCst) > 0
+    }
+
+    /// All workers are to leave.
+    pub fn leave(&self) {
+        self.left.store(1, Ordering::SeqCst);
+    }
+
+    /// Whether they are.
+    pub fn are_to_leave(&self) -> bool {
+        self.left.load(Ordering::SeqCst) == 1
     }
 
     /// How much news there was so far.

@@ -10,8 +10,8 @@ ghost use Rattle.net_case.specs.State.{AreAllHome};
 use crate::gates::{APART, Closed, Meeting, SHIFTS, Slow};
 use command_source::{read_input, read_program};
 use coro_machine::Coro;
-use coro_threads::{Board, finish, run_free, run_rounds};
-use net_case::{Case, Claimed, Gate};
+use coro_threads::{Board, Crew, finish, run_by, run_free, run_rounds};
+use net_case::{Case, Claimed, Gate, OpenGate};
 use net_core::{Input, Outcome, settle};
 use run_program::network;
 use std::alloc::Global;
@@ -34,6 +34,20 @@ const PAIRS: &str =
     "void A(tapa::ostream<int>& q) { int x = 1; for (int i = 0; i < 30; ++i) { x = x * 5 + i; q << x; } }
 void B(tapa::istream<int>& q) { int sum = 0; for (int i = 0; i < 30; ++i) { sum = sum + q.read(); } }
 void T() { tapa::streams<int, 24, 2> q; tapa::task().invoke<tapa::join, 24>(A, q).invoke<tapa::join, 24>(B, q); }
+";
+
+// Two tasks that hand a token to and fro.
+const TO_AND_FRO: &str =
+    "void A(tapa::istream<int>& p, tapa::ostream<int>& q) { for (int i = 0; i < 9000; ++i) { q << i; p.read(); } }
+void B(tapa::istream<int>& p, tapa::ostream<int>& q) { for (int i = 0; i < 9000; ++i) { q << p.read(); } }
+void T() { tapa::stream<int, 1> a; tapa::stream<int, 1> b; tapa::task().invoke(A, a, b).invoke(B, b, a); }
+";
+
+// Two tasks that hand tokens to and fro, and then have much to do each by itself, twice.
+const PHASES: &str =
+    "void A(tapa::istream<int>& p, tapa::ostream<int>& q) { int x = 1; for (int n = 0; n < 2; ++n) { for (int i = 0; i < 4000; ++i) { q << x; x = x + p.read(); } for (int i = 0; i < 60000; ++i) { x = x * 5 + i; } } }
+void B(tapa::istream<int>& p, tapa::ostream<int>& q) { int x = 1; for (int n = 0; n < 2; ++n) { for (int i = 0; i < 4000; ++i) { x = x + p.read(); q << x; } for (int i = 0; i < 60000; ++i) { x = x * 5 + i; } } }
+void T() { tapa::stream<int, 1> a; tapa::stream<int, 1> b; tapa::task().invoke(A, a, b).invoke(B, b, a); }
 ";
 
 // A program, and the input of an empty object.
@@ -216,6 +230,35 @@ fn sixty_four_workers_behind_a_gate(rt: HostRuntime) -> Result<(), Fail> {
     let (whole, apart) = ends(rt.alloc(), PAIRS, 1_000_000)?;
     let by_many = behind_a_gate(&rt, rt.alloc(), PAIRS, 1_000_000, 64)?;
     assert_eq!(rt; (whole, false), by_many);
+    assert_eq!(rt; whole, apart);
+    Ok(())
+}
+
+// Workers whose batches stay small give up, and one thread comes to the end.
+#[test]
+fn workers_with_small_batches_are_short(rt: HostRuntime) -> Result<(), Fail> {
+    let (program, input) = given(rt.alloc(), TO_AND_FRO)?;
+    let case = new_case(rt.alloc(), &program, &input, 1_000_000)?;
+    let (end, short) = at_a_board(&rt, rt.alloc(), case, 2, &OpenGate)?;
+    let (whole, _apart) = ends(rt.alloc(), TO_AND_FRO, 1_000_000)?;
+    assert_eq!(rt; (end, short), (whole, true));
+    Ok(())
+}
+
+// Workers share a network while its batches are large, and leave it to one thread while they are small: it ends as by one worker.
+#[test]
+fn small_and_large_batches_by_turns(rt: HostRuntime) -> Result<(), Fail> {
+    let alloc = rt.alloc();
+    let (program, input) = given(alloc, PHASES)?;
+    let crew = Crew {
+        rt: &rt,
+        gate: &OpenGate,
+        workers: 2,
+    };
+    let net = network(alloc, &program, &input)?;
+    let run = run_by(&crew, alloc, net, 10_000_000);
+    let (whole, apart) = ends(alloc, PHASES, 10_000_000)?;
+    assert_eq!(rt; run.end?, whole);
     assert_eq!(rt; whole, apart);
     Ok(())
 }

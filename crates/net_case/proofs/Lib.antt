@@ -11,6 +11,7 @@ mod Coming
 mod Committed
 mod Delivered
 mod Few
+mod Filled
 mod Finish
 mod Going
 mod Left

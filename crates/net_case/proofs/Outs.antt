@@ -52,6 +52,13 @@ home_at homes i x y e l q =
     let z : x ≡ h.0 = e ∙ get_or_from_slice_get homes i h.0 x h.1 in
     h.1 ∙ ap Some (sym z ∙ q)
 
+-- a home that was read and has none
+pub away_at : {B : Type 0} (homes : List (Option (Process B))) (i : ℕ) (x : Option (Process B)) → x ≡ slice_index_or homes i x → i < length homes → x ≡ None → slice_get homes i ≡ Some None
+away_at homes i x e l q =
+    let h = has_item homes i l in
+    let z : x ≡ h.0 = e ∙ get_or_from_slice_get homes i h.0 x h.1 in
+    h.1 ∙ ap Some (sym z ∙ q)
+
 -- where each home has its instance, none is out
 pub none_out : {B : Type 0} (homes : List (Option (Process B))) → ((i : ℕ) → i < length homes → (x : Process B) × (slice_get homes i ≡ Some (Some x))) → (i : ℕ) → slice_index_or (outs homes) i false ≡ false
 none_out homes home i =

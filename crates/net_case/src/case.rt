@@ -1,8 +1,11 @@
 // A network without the instances that are out.
-ghost use Rattle.std.specs.Prelude.{◌≡◌, false, slice_index_or};
-ghost use Rattle.net_case.specs.State.{IsValidCase};
+ghost use Rattle.std.specs.Prelude.{◌≡◌, ◌+◌, ◌<◌, MatchOption};
+ghost use Rattle.kahn_model.specs.Outcome.{joined_ticks};
+ghost use Rattle.net_case.specs.State.{network, count, IsValidCase};
 
 use crate::batch::Process;
+use crate::claim::some_out;
+use crate::pace::Pace;
 use crate::queue::Queue;
 use net_core::{Body, Input, Pause, Ports};
 use std::marker::Model;
@@ -29,6 +32,8 @@ pub struct Case<B: Body> {
     pub cursor: usize,
     /// The ticks of the joined instances.
     pub joined: u64,
+    /// By how large batches it goes on.
+    pub pace: Pace,
     /// What the network needs again when it is put together.
     pub writers: Vec<usize>,
     pub fed_by_self: Vec<bool>,
@@ -70,13 +75,17 @@ impl<B: Body> Case<B> {
         self.counts.as_slice()
     }
 
-    /// Whether an instance is out.
-    pub fn is_out(&self, i: usize) -> bool
-        ensures { result ≡ slice_index_or self.now.out i false }
+    /// Whether batches were small for some time and none is out, so that one thread does better. It tells no more than what to expect.
+    pub fn is_slow(&mut self) -> bool
+        ensures { self.new ≡ self.old }
     {
-        match self.homes.get(i) {
-            Some(None) => true,
-            _ => false,
-        }
+        self.pace.is_slow() && !some_out(&self.homes)
+    }
+
+    /// How many ticks of the budget are left to the joined instances, where they have not made more.
+    pub fn left(&self) -> Option<u64>
+        ensures { MatchOption result (self.now.budget < joined_ticks (network self.now) (count self.now)) (λ left. joined_ticks (network self.now) (count self.now) + left ≡ self.now.budget) }
+    {
+        self.budget.checked_sub(self.joined)
     }
 }

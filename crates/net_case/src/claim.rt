@@ -20,8 +20,8 @@ pub enum Claimed<B: Body> {
     Over(Outcome),
 }
 
-// Whether some instance is out.
-fn some_out<B: Body>(homes: &Vec<Option<Process<B>>>) -> bool
+/// Whether some instance is out.
+pub fn some_out<B: Body>(homes: &Vec<Option<Process<B>>>) -> bool
     ensures { MatchBool result ((i : ℕ) × (slice_index_or (outs homes.now.items) i false ≡ true)) ((i : ℕ) → slice_index_or (outs homes.now.items) i false ≡ false) }
 {
     for j in 0..homes.len() {

@@ -175,6 +175,7 @@ impl<B: Body + Drop> Case<B> {
             i,
         );
         list(&self.program, &mut self.listed, i);
+        self.pace.count(made);
         self.counts[i] = from + made;
         self.joined = sum_after(&self.program, i, self.joined, made);
         self.pauses[i] = kept(pause, self.pauses[i]);

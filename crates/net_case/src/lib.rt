@@ -16,6 +16,7 @@ mod law;
 mod look;
 mod lot;
 mod make;
+mod pace;
 mod queue;
 mod round;
 mod run;

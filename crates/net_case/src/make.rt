@@ -1,15 +1,19 @@
 // A case of a new net.
-ghost use Rattle.std.specs.Prelude.{ℕ, ◌≡◌, ◌*◌, ◌<◌, ◌≤◌, [], length, replicate, true, Some, None, slice_get, vec_capacity, IfOk, IfErr};
+ghost use Rattle.std.specs.Prelude.{ℕ, ◌≡◌, ◌⊎◌, ◌*◌, ◌<◌, ◌≤◌, [], length, replicate, true, Some, None, slice_get, vec_capacity, IfOk, IfErr};
 ghost use Rattle.net_core.specs.declared.ports.Ports.{Ports};
 ghost use Rattle.net_core.specs.Ports.{space_at, ends_of, ends_in};
 ghost use Rattle.net_core.specs.Bindings.{IsConnected, arity, ends_at, stream_at, depth_of, Reads};
-ghost use Rattle.net_core.specs.State.{IsNew};
+ghost use Rattle.kahn_model.specs.Outcome.{IsCapped};
+ghost use Rattle.net_core.specs.Load.{queue_at};
+ghost use Rattle.net_core.specs.State.{network, count, joined_total, IsNew, IsWithin, AreAnswered};
+ghost use Rattle.net_case.specs.Queue.{waits, space};
 ghost use Rattle.net_case.specs.State.{AreAllHome};
-ghost use Rattle.net_case.specs.Make.{HaveSameTokens, AreEmptyQueues, AreLimits, AreReserved, IsSpare, AreBroughtHome};
+ghost use Rattle.net_case.specs.Make.{HaveSameTokens, AreEmptyQueues, CanFill, AreFilled, AreLimits, AreReserved, IsSpare, AreBroughtHome};
 
 use crate::batch::Process;
-use crate::bindings::{arity, depth, stream_at};
+use crate::bindings::{arity, depth, producer, stream_at};
 use crate::case::Case;
+use crate::pace::Pace;
 use crate::queue::Queue;
 use net_core::{Body, Net, Ports};
 use std::alloc::Global;
@@ -166,12 +170,52 @@ fn bring_home<B: Body + Drop>(
     }
 }
 
+// What was written to a stream and not taken waits in its queue.
+fn fill_at(
+    program: &Program,
+    queue: &mut Queue,
+    all: &Vec<Ports>,
+    writers: &Vec<usize>,
+    taken: &Vec<usize>,
+    s: usize,
+)
+    requires connected { IsConnected program.now }
+    requires stream { s < length program.now.streams.items }
+    requires can { CanFill program.now all.now.items writers.now.items taken.now.items }
+    requires empty { waits queue.old ≡ [] }
+    requires space { 2 * depth_of program.now s ≤ space queue.old }
+    ensures waits { waits queue.new ≡ queue_at program.now all.now.items writers.now.items taken.now.items s }
+    ensures space { space queue.old ≤ space queue.new }
+{
+    let written = all[producer(program, s)].carried(writers[s]);
+    queue.join(&written[taken[s]..]);
+}
+
+// What was written to each stream and not taken waits in its queue.
+fn fill(
+    program: &Program,
+    queues: &mut Vec<Queue>,
+    all: &Vec<Ports>,
+    writers: &Vec<usize>,
+    taken: &Vec<usize>,
+)
+    requires connected { IsConnected program.now }
+    requires empty { AreEmptyQueues program.now (length program.now.streams.items) queues.old.items }
+    requires can { CanFill program.now all.now.items writers.now.items taken.now.items }
+    ensures { AreFilled program.now all.now.items writers.now.items taken.now.items queues.new.items }
+{
+    for s in 0..queues.len() {
+        fill_at(program, &mut queues[s], all, writers, taken, s);
+    }
+}
+
 impl<B: Body + Drop> Case<B> {
-    /// A case of a new net, from which no instance is out. It reserves all that `claim` and `commit` need, except in the lists
-    /// of the tokens that a stream carried. Without memory the net comes back.
-    pub fn new(alloc: Global, net: Net<B>, budget: u64) -> Result<Case<B>, CaseFault<B>>
-        requires new { IsNew net }
+    // A case of a net which is new, or in which each instance was asked how it stands; its joined instances have made so many ticks.
+    fn of(alloc: Global, net: Net<B>, budget: u64, joined: u64) -> Result<Case<B>, CaseFault<B>>
         requires budget { budget ≤ 1000000000000 }
+        requires capped { IsCapped (network net) budget (count net) }
+        requires joined { joined ≡ joined_total net }
+        requires answered { IsNew net ⊎ AreAnswered net }
         ensures program { IfOk result (λ c. c.program ≡ net.program) }
         ensures input { IfOk result (λ c. c.input ≡ net.input) }
         ensures budget { IfOk result (λ c. c.budget ≡ budget) }
@@ -185,6 +229,13 @@ impl<B: Body + Drop> Case<B> {
             Ok(spare) => spare,
             Err(_) => return Err(CaseFault { net }),
         };
+        fill(
+            &net.program,
+            &mut spare.queues,
+            &net.ports,
+            &net.writers,
+            &net.taken,
+        );
         bring_home(
             &mut spare.homes,
             &mut spare.limits,
@@ -203,11 +254,50 @@ impl<B: Body + Drop> Case<B> {
             pauses: net.pauses,
             listed: spare.listed,
             cursor: 0,
-            joined: 0,
+            joined,
+            pace: Pace::new(),
             writers: net.writers,
             fed_by_self: net.fed_by_self,
             bodies: net.bodies,
             ports: net.ports,
         })
+    }
+
+    /// A case of a new net, from which no instance is out. It reserves all that `claim` and `commit` need, except in the lists
+    /// of the tokens that a stream carried. Without memory the net comes back.
+    pub fn new(alloc: Global, net: Net<B>, budget: u64) -> Result<Case<B>, CaseFault<B>>
+        requires new { IsNew net }
+        requires budget { budget ≤ 1000000000000 }
+        ensures program { IfOk result (λ c. c.program ≡ net.program) }
+        ensures input { IfOk result (λ c. c.input ≡ net.input) }
+        ensures budget { IfOk result (λ c. c.budget ≡ budget) }
+        ensures counts { IfOk result (λ c. c.counts ≡ net.counts) }
+        ensures pauses { IfOk result (λ c. c.pauses ≡ net.pauses) }
+        ensures home { IfOk result AreAllHome }
+        ensures fault { IfErr result (λ f. f.net ≡ net) }
+    {
+        Case::of(alloc, net, budget, 0)
+    }
+
+    /// A case of a net that was driven for some time, in which each instance was asked how it stands, and to whose joined instances so many
+    /// ticks of the budget are left. It is as one of a new net.
+    pub fn again(
+        alloc: Global,
+        net: Net<B>,
+        budget: u64,
+        left: u64,
+    ) -> Result<Case<B>, CaseFault<B>>
+        requires budget { budget ≤ 1000000000000 }
+        requires within { IsWithin net budget left }
+        requires answered { AreAnswered net }
+        ensures program { IfOk result (λ c. c.program ≡ net.program) }
+        ensures input { IfOk result (λ c. c.input ≡ net.input) }
+        ensures budget { IfOk result (λ c. c.budget ≡ budget) }
+        ensures counts { IfOk result (λ c. c.counts ≡ net.counts) }
+        ensures pauses { IfOk result (λ c. c.pauses ≡ net.pauses) }
+        ensures home { IfOk result AreAllHome }
+        ensures fault { IfErr result (λ f. f.net ≡ net) }
+    {
+        Case::of(alloc, net, budget, budget - left)
     }
 }

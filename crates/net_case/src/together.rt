@@ -48,6 +48,7 @@ impl<B: Body + Drop> Case<B> {
             listed: _,
             cursor: _,
             joined: _,
+            pace: _,
             writers,
             fed_by_self,
             mut bodies,

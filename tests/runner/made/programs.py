@@ -1,4 +1,4 @@
-"""Programs and device files by their sizes: sources as long as may be, chains, networks of many streams, hubs, tasks side by side, grids of slots."""
+"""Programs and device files by their sizes: sources as long as may be, chains, networks of many streams, hubs, tasks side by side or by phases, grids of slots."""
 import json
 
 LIMIT = 262_144
@@ -74,3 +74,14 @@ def apart(tasks, turns):
     calls = "".join(f".invoke(B, q{at})" for at in range(tasks))
     bound = ", ".join(f"q{at}" for at in range(tasks))
     return f"{busy}void C({ends}) {{ {reads} }}\nvoid Top() {{ {streams} tapa::task(){calls}.invoke(C, {bound}); }}\n"
+
+
+def by_phases(tokens, turns, rounds):
+    """Two tasks that hand tokens to and fro, and then have much to do each by itself, again and again."""
+    start = f"int x = 1; for (int n = 0; n < {rounds}; ++n) {{ for (int i = 0; i < {tokens}; ++i) {{ "
+    end = f"}} for (int i = 0; i < {turns}; ++i) {{ x = x * 5 + i; }} }}"
+    ends = "tapa::istream<int>& p, tapa::ostream<int>& q"
+    return (
+        f"void A({ends}) {{ {start}q << x; x = x + p.read(); {end} }}\nvoid B({ends}) {{ {start}x = x + p.read(); q << x; {end} }}\n"
+        "void Top() { tapa::stream<int, 1> a; tapa::stream<int, 1> b; tapa::task().invoke(A, a, b).invoke(B, b, a); }\n"
+    )

@@ -13,6 +13,3 @@ closed-requires-clause-workers g c =
     let back = c.run_free.new.crew in
     subst (λ ws. All (λ w. IsSeatOf board w.seat × Finished (origin board) (view w.seat) w.short) ws)
     (sym (whole crew.len crew.items back _ crew.ok.0 (c.run_free.ensures.len ∙ ap length c.as_mut_slice.ensures.value))) c.run_free.ensures.finished
-
-pub finish-requires-in-Err : goal.finish-requires-in-Err
-finish-requires-in-Err g c = subst (λ (x : CaseState). AreAllHome x) (sym c.in-Err.ensures.fault) c.requires.home

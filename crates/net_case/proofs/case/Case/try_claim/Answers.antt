@@ -1,5 +1,5 @@
-use Rattle.std.proofs.Common.{◌≡◌, ℕ, ◌-◌, ◌<◌, ◌≤◌, length, false, Some, None, sym, ◌∙◌, subst, arith}
-use Rattle.std.specs.Prelude.{Vec, slice_index, slice_set, if◌then◌else◌}
+use Rattle.std.proofs.Common.{◌≡◌, ℕ, ◌-◌, ◌<◌, ◌≤◌, List, length, true, false, Option, Some, None, refl, sym, ap, ◌∙◌, subst, arith}
+use Rattle.std.specs.Prelude.{Vec, slice_index, slice_index_or, slice_set, if◌then◌else◌}
 use Rattle.std.specs.declared.alloc.Global.{Global}
 use Rattle.std.specs.Arc.{arc_value}
 use Rattle.std.proofs.lemmas.List.{get_or_read}
@@ -12,10 +12,29 @@ use Rattle.net_case.specs.State.{IsAtHome}
 use Rattle.net_case.specs.Claims.{HandsOut, IsSameCase, Rests, KeepsRest}
 use Rattle.net_case.specs.Look.{CanLook, HasLooked}
 use Rattle.net_case.specs.Home.{outs}
-use Rattle.net_case.proofs.Outs.{home_at}
+use Rattle.net_case.specs.declared.batch.Process.{Process}
+use Rattle.net_case.proofs.Outs.{out_at, set_back, home_at, away_at}
 use Rattle.net_case.proofs.Going.{can_look}
 use Rattle.net_case.proofs.Trying.{nothing_left, case_without, batch_out, handed_out, case_with, same_with, keeps_with, rests_with}
 use Rattle.net_case.proofs.case.Case.try_claim.Goals as goal
+
+pub returns-in_default : goal.returns-in_default
+returns-in_default g c =
+    let I = c.self.inside in
+    let i = c.args.i in
+    let P = arc_value I.program in
+    let n = arc_value I.input in
+    let inv = c.self.invariant.0 in
+    let inside : i < length I.homes.items = let r = subst (λ (v : CaseState). i < length v.counts) (sym c.self.view_is) c.requires in let a = inv.homes_len in let b = inv.counts_len in omega arith in
+    let at = away_at I.homes.items i c.index_mut.result.now c.index_mut.ensures.value inside (sym c.take.ensures.value ∙ c.in_default.is) in
+    let same = ap (slice_set I.homes.items i) c.take.ensures.after ∙ set_back I.homes.items i None at in
+    let now = c.args.self.now in
+    let out : slice_index_or now.out i false ≡ true = subst (λ (v : CaseState). slice_index_or v.out i false ≡ true) c.self.view_is (out_at I.homes.items i None at) in
+    let is : record { program = P; input = n; budget = I.budget; counts = I.counts.items; out = outs (slice_set I.homes.items i c.take.new.self); pauses = I.pauses.items } ≡ now =
+    ap (λ (hs : List (Option (Process _))). record { program = P; input = n; budget = I.budget; counts = I.counts.items; out = outs hs; pauses = I.pauses.items }) same ∙ c.self.view_is
+    in
+    subst (λ (v : CaseState). IsSameCase now v × KeepsRest now v × (IsAtHome v i → Rests v i)) (sym is)
+    (record { program = refl; input = refl; budget = refl; counts = refl; out = refl }, λ j r. r, λ h. absurd (cc))
 
 pub look-may-requires : goal.look-may-requires
 look-may-requires g c =
