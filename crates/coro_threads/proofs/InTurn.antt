@@ -1,5 +1,5 @@
 -- What batches leave that are claimed, run and committed within one turn.
-use Rattle.std.proofs.Common.{◌≡◌, ◌≢◌, ◌⊎◌, ℕ, ◌+◌, ◌<◌, ◌≤◌, Bool, true, false, List, [], length, set, refl, sym, ap, subst, inl, inr, ⊎_elim, ◌∙◌, arith, Option, Some, None, Result, Ok, Err, IfOk, OnErr, slice_index, length-set, get_or-set_same, get_or-set_other}
+use Rattle.std.proofs.Common.{◌≡◌, ◌≢◌, ℕ, ◌+◌, ◌<◌, ◌≤◌, Bool, true, false, List, [], length, set, refl, sym, ap, subst, inl, inr, ⊎_elim, ◌∙◌, arith, Option, Some, None, Result, Ok, Err, IfOk, OnErr, slice_index, length-set, get_or-set_same, get_or-set_other}
 use mathlib.Core.Logic.{dite}
 use native.Mathlib.Decide.{ℕ_discrete}
 use Rattle.net_case.specs.declared.lot.Lot.{Lot}

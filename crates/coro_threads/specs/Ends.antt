@@ -1,5 +1,5 @@
 -- What the cases of a board have in common.
-use Rattle.std.specs.Prelude.{◌≡◌, ℕ, Bool, List, false, slice_index_or}
+use Rattle.std.specs.Prelude.{ℕ, Bool, List, false, slice_index_or}
 use Rattle.net_core.specs.Bounded.{count_of}
 use Rattle.net_case.specs.declared.case_state.CaseState.{CaseState}
 use Rattle.net_case.specs.Over.{IsOver}

@@ -1,5 +1,5 @@
 -- What the batches that are out are to their case.
-use Rattle.std.specs.Prelude.{◌≡◌, ℕ, ◌+◌, ◌<◌, ◌≤◌, true, List, [], ◌∷◌, length, Some, slice_get, slice_index}
+use Rattle.std.specs.Prelude.{◌≡◌, ℕ, ◌<◌, ◌≤◌, true, List, length, Some, slice_get, slice_index}
 use Rattle.net_core.specs.declared.outcome.Outcome.{Outcome}
 use Rattle.net_core.specs.Settle.{EndsAs, IsSettled, ticks_ahead}
 use Rattle.net_case.specs.declared.lot.Lot.{Lot}

@@ -1,7 +1,5 @@
 use Rattle.std.proofs.Common.{◌∙◌, sym, subst, ap, length}
 use Rattle.std.specs.Prelude.{All}
-use Rattle.net_case.specs.declared.case_state.CaseState.{CaseState}
-use Rattle.net_case.specs.State.{AreAllHome}
 use Rattle.coro_threads.specs.Seats.{IsSeatOf, Finished, origin, view}
 use Rattle.coro_threads.proofs.Slices.{whole}
 use Rattle.coro_threads.proofs.crew.share.Goals as goal

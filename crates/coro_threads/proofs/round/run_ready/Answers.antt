@@ -1,4 +1,4 @@
-use Rattle.std.proofs.Common.{◌≡◌, ◌∙◌, ℕ, ◌<◌, ◌++◌, List, length, take, true, slice_get, slice_index_or, Some, sym, ap, subst, arith}
+use Rattle.std.proofs.Common.{◌≡◌, ◌∙◌, ℕ, ◌<◌, List, length, true, slice_get, slice_index_or, Some, sym, ap, subst, arith}
 use Rattle.net_core.specs.declared.body.Pause.{Pause}
 use Rattle.net_core.proofs.Moves.{has_item}
 use Rattle.net_case.specs.declared.lot.Lot.{Lot}
