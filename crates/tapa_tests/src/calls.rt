@@ -1,5 +1,5 @@
 // Calls of single crates, on what was worked out by hand: registers between tasks with the flow that shows them to be fewest, the room
-// of a channel, and values in a dump.
+// of a channel, values in a dump, and a text of Verilog that was read.
 ghost use Rattle.std.specs.Prelude.{◌≡◌, ◌≤◌, ◌<◌, ◌^◌, ℕ, length, slice_index};
 ghost use Rattle.std.specs.Bool.{OnTrue};
 ghost use Rattle.latency_balance.specs.Moves.{AreLatencies};
@@ -11,10 +11,14 @@ use flow_cert::{Verdict, check};
 use latency_balance::balance_streams;
 use std::alloc::Global;
 use std::test::Fail;
+use std::vec::Vec;
 use tapa_base::OutOfMemory;
 use tapa_drive::read_program;
+use tapa_files::MemSink;
 use task_graph::Graph;
 use vcd_text::read_vcd;
+use verilog_text::print;
+use vlog_read::read;
 
 // A task that writes to another and, by a longer way, to it again.
 const TRIANGLE: &str = "void A(tapa::ostream<int>& ab, tapa::ostream<int>& ad) { ab << 1; ad << 2; }
@@ -152,5 +156,30 @@ fn a_net_keeps_its_value_until_it_changes(rt: HostRuntime) -> Result<(), Fail> {
         assert_eq!(rt; dump.value_at(1, 1), 5);
         assert_eq!(rt; dump.value_at(1, 2), 255);
     }
+    Ok(())
+}
+
+const LINES: &[u8] = b"module t_X ( input clk , input rst , output done ) ;
+assign done = 1'd1 ;
+endmodule
+";
+
+// A design that was read is printed with two spaces before each line of a module's inside.
+#[test]
+fn a_text_that_was_read_is_printed_in_its_one_spelling(rt: HostRuntime) -> Result<(), Fail> {
+    let alloc = rt.alloc();
+    let Ok(design) = read(alloc, LINES) else {
+        return Err(OutOfMemory.into());
+    };
+    let mut out = MemSink::new(alloc, 4096, Vec::new(alloc))?;
+    assert!(rt; print(alloc, &design, &mut out).is_ok());
+    assert_eq!(rt;
+        out.bytes(),
+        b"module t_X ( input clk , input rst , output done ) ;
+  assign done = 1'd1 ;
+endmodule
+"
+            .as_slice()
+    );
     Ok(())
 }
