@@ -25,7 +25,7 @@ class Search:
         self.steps = 0
         self.at: List[int] = [-1] * len(graph.needs)
         self.free = [list(room) for room in board.rooms]
-        self.pull = [[0] * len(board.slots) for _ in graph.needs]
+        self.pull = [[0] * len(board.rooms) for _ in graph.needs]
         self.order = self._ordered()
 
     def _ordered(self) -> List[int]:
