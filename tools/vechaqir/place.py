@@ -56,7 +56,7 @@ def read_request(program: Program, source: str, top: str, device: Device) -> Req
     """Asks the program for the uses of the tasks, and follows the source's streams. plans.Refused, LookupError and OSError as its parts."""
     found = estimates.estimate(program, source, top, device.tasks)
     links = place_groups.links(source, top, found.labels, found.widths)
-    groups = place_groups.by_streams(place_groups.groups(found.labels, links), links)
+    groups = place_groups.by_structure(place_groups.groups(found.labels, links), links)
     return Request(program, source, top, device, found, groups, links)
 
 
