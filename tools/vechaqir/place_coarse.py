@@ -9,8 +9,6 @@ from .place_graph import Board, Graph, Near
 
 # A round of merging is the last where it leaves more than this share of the nodes.
 SHRINKS = 0.95
-# A node that several are merged into needs at most this part of the largest slot.
-PART = 3
 
 
 class Level(NamedTuple):
@@ -21,9 +19,10 @@ class Level(NamedTuple):
     coarse: List[int]
 
 
-def levels(graph: Graph, board: Board, at: Sequence[int], few: int, some: random.Random) -> List[Level]:
-    """A graph and coarser and coarser ones, until one has at most `few` nodes; only nodes that stand in one place are merged."""
-    most = [max(column) / PART for column in zip(*board.rooms)]
+def levels(graph: Graph, board: Board, at: Sequence[int], few: int, part: int, some: random.Random) -> List[Level]:
+    """A graph and coarser and coarser ones, until one has at most `few` nodes; only nodes that stand in one place are merged, and to such as need at most
+    so great a part of the largest slot."""
+    most = [max(column) / part for column in zip(*board.rooms)]
     found: List[Level] = []
     while True:
         coarse = _merged(graph, at, most, some)

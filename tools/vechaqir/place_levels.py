@@ -15,8 +15,9 @@ from .place_graph import Board, Graph
 from .place_layout import Layout
 from .place_passes import descend, refine
 
-# How many nodes the coarsest graph has for each slot; a cycle takes one of these.
-COARSEST = (2, 3, 4, 6)
+# How many nodes the coarsest graph has for each slot, and the part of the largest slot that a node may need; a cycle takes one of these. The rounds take
+# the first too, where all that stands in a slot is mostly one node, so that slots change their places.
+WHOLE, COARSEST = [(1, 1)], [(2, 3), (3, 3), (4, 3), (6, 3)]
 # What an average node beyond a slot's room costs, in average streams: attempts take them in turn, since loose devices ask for the first, full ones for
 # the others.
 OVERFULL = (8.0, 2.0, 30.0, 4.0)
@@ -46,7 +47,7 @@ def attempt(graph: Graph, board: Board, seed: int, number: int) -> Optional[Foun
     slots = [[slot] for slot in range(len(board.rooms))]
     best = min((halved(graph, board, Heat(*HALVING, overfull), some) for _ in range(STARTS)), key=worth)
     for _ in range(min(ROUNDS + MORE * number, MOST)):
-        layout = cycle(graph, board, best.at, slots, Heat(HOT * some.random(), SWEEPS, overfull), some)
+        layout = cycle(graph, board, best.at, slots, some.choice(WHOLE + COARSEST), Heat(HOT * some.random(), SWEEPS, overfull), some)
         best = min(layout, best, key=worth)
     if not best.fits():
         return None
@@ -66,13 +67,14 @@ def halved(graph: Graph, board: Board, heat: Heat, some: random.Random) -> Layou
     at = [0] * len(graph.needs)
     for parent, child in zip(reversed(regions), reversed(finer)):
         fixed = [None if slot is None else child.of[slot] for slot in graph.fixed]
-        at = cycle(Graph(graph.needs, graph.near, fixed), child.board, at, parent.parts, heat, some).at
+        at = cycle(Graph(graph.needs, graph.near, fixed), child.board, at, parent.parts, some.choice(COARSEST), heat, some).at
     return Layout(graph, board, at)
 
 
-def cycle(graph: Graph, board: Board, within: Sequence[int], parts: Sequence[Sequence[int]], heat: Heat, some: random.Random) -> Layout:
+def cycle(graph: Graph, board: Board, within: Sequence[int], parts: Sequence[Sequence[int]], size: Tuple[int, int], heat: Heat, some: random.Random) -> Layout:
     """A layout of nodes that stand within places, whose parts are slots of the board: each begins in any part of its place."""
-    graphs = place_coarse.levels(graph, board, within, some.choice(COARSEST) * len(board.rooms), some)
+    few, part = size
+    graphs = place_coarse.levels(graph, board, within, few * len(board.rooms), part, some)
     coarsest = graphs[-1].graph
     at = [some.choice(parts[place]) if slot is None else slot for place, slot in zip(graphs[-1].at, coarsest.fixed)]
     layout = annealed(Layout(coarsest, board, at), heat, some)
