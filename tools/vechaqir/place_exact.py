@@ -6,8 +6,8 @@ from typing import List, NamedTuple, Optional
 from .place_anneal import Found
 from .place_graph import Board, Graph
 
-# Graphs of more free nodes are not looked through, nor further than so many steps.
-NODES, STEPS = 24, 150_000
+# Graphs of more free nodes are not looked through, nor further than so many steps, which take as long as some attempts.
+NODES, STEPS = 24, 50_000
 
 
 class Searched(NamedTuple):
