@@ -6,7 +6,7 @@ from typing import List, NamedTuple, Optional
 from .place_anneal import Found
 from .place_graph import Board, Graph
 
-# Graphs of more free nodes are not looked through, nor further than so many steps, which take as long as some attempts.
+# Graphs of more free nodes are not looked through, nor further than so many steps, about a second of work.
 NODES, STEPS = 24, 50_000
 
 
