@@ -5,7 +5,7 @@ Nothing of the search need be trusted: the program checks the pins, and its numb
 from __future__ import annotations
 
 from dataclasses import dataclass, field
-from typing import Dict, List, NamedTuple, Optional, Sequence
+from typing import Dict, List, NamedTuple, Optional, Sequence, Tuple
 
 from . import estimate as estimates
 from . import place_graph, place_groups, place_run, script
@@ -56,8 +56,15 @@ def read_request(program: Program, source: str, top: str, device: Device) -> Req
     """Asks the program for the uses of the tasks, and follows the source's streams. plans.Refused, LookupError and OSError as its parts."""
     found = estimates.estimate(program, source, top, device.tasks)
     links = place_groups.links(source, top, found.labels, found.widths)
-    groups = place_groups.by_streams(place_groups.groups(found.labels, links), links)
+    groups = place_groups.by_structure(place_groups.groups(found.labels, links), links)
     return Request(program, source, top, device, found, groups, links)
+
+
+def problem_of(request: Request, is_by_levels: bool) -> Tuple[place_graph.Graph, place_graph.Board]:
+    """The groups as nodes and the open slots, by the resources that may be short."""
+    scarce = place_graph.scarce_in(request.device, request.found.uses(request.found.labels))
+    board = place_graph.board_of(request.device, scarce, is_by_levels)
+    return place_graph.counted(place_graph.graph_of(request.found, request.groups, request.links, request.device, board, scarce), board)
 
 
 def pins_of(request: Request, slots: Sequence[int]) -> Dict[str, SlotPlace]:
@@ -75,15 +82,13 @@ def place(request: Request, seed: int, limits: Limits, is_by_levels: bool, tell:
     lines = estimates.shortages(request.found, request.device, request.groups)
     if lines:
         raise NoPlacement(lines[: estimates.LINES])
-    scarce = place_graph.scarce_in(request.device, request.found.uses(request.found.labels))
-    board = place_graph.board_of(request.device, scarce, is_by_levels)
-    graph = place_graph.graph_of(request.found, request.groups, request.links, request.device, board, scarce)
+    graph, board = problem_of(request, is_by_levels)
     result = place_run.run(graph, board, seed, limits, tell)
     if not result.best():
         none = "no placement fits" if result.is_least else f"no placement was found that fits, in {len(result.layouts)} attempts"
         raise NoPlacement([none, estimates.fullest(request.found, request.device)])
     tried = [checked(request, board, result, it) for it in cheapest(result.layouts, FEW if is_by_levels else 1)]
-    return min(tried, key=registers) if is_by_levels else tried[0]
+    return min(tried, key=lambda placement: registers(placement.plan)) if is_by_levels else tried[0]
 
 
 def cheapest(layouts: Sequence[Optional[Found]], count: int) -> List[Found]:
@@ -95,9 +100,9 @@ def cheapest(layouts: Sequence[Optional[Found]], count: int) -> List[Found]:
     return kept[:count]
 
 
-def registers(placement: Placement) -> int:
+def registers(plan: Plan) -> int:
     """The registers of borders and of the balance."""
-    return placement.plan.registers + sum(stream.width * stream.latency for stream in placement.plan.streams)
+    return plan.registers + sum(stream.width * stream.latency for stream in plan.streams)
 
 
 def checked(request: Request, board: place_graph.Board, result: Result, layout: Found) -> Placement:

@@ -1,4 +1,4 @@
-"""Annealing of a layout by moves and swaps, and the descent at its end."""
+"""Annealing of a layout by moves and swaps."""
 from __future__ import annotations
 
 import math
@@ -33,17 +33,11 @@ STIFFER = 40.0
 TO_NEIGHBOUR, TO_ANY = 60, 10
 
 
-def mean_bits(layout: Layout) -> float:
-    """The average of the bits between two neighbours."""
-    bits = [it.bits for near in layout.graph.near for it in near]
-    return sum(bits) / len(bits) if bits else 1.0
-
-
 def sweep(layout: Layout, some: random.Random, temperature: float, weight: float, best: Optional[Found]) -> Optional[Found]:
     """Makes a round of proposals at one temperature; gives the best layout that fits, of this round or the one given."""
     chance, log, at, pull, over = some.random, math.log, layout.at, layout.pull, layout.over
     movable = [node for node, slot in enumerate(layout.graph.fixed) if slot is None]
-    many, slots, near = len(movable), len(layout.board.slots), layout.graph.near
+    many, slots, near = len(movable), len(layout.board.rooms), layout.graph.near
     for _ in range(SWEEP):
         node, sort, other = movable[int(chance() * many)], chance() * 100, -1
         if sort < TO_NEIGHBOUR and near[node]:
@@ -78,39 +72,10 @@ def anneal(layout: Layout, some: random.Random, schedule: Schedule) -> Optional[
     rounds = max(1, schedule.proposals // SWEEP)
     cooling = (schedule.cold / schedule.hot) ** (1 / rounds)
     temperature, weight = schedule.hot, schedule.overfull
-    if any(slot is None for slot in layout.graph.fixed) and len(layout.board.slots) > 1:
+    if any(slot is None for slot in layout.graph.fixed) and len(layout.board.rooms) > 1:
         for number in range(rounds):
             best = sweep(layout, some, temperature, weight, best)
             temperature *= cooling
             if 2 * number > rounds and not layout.fits():
                 weight *= STIFFER ** (2 / rounds)
     return best
-
-
-def descend(layout: Layout) -> None:
-    """Moves and swaps nodes of a layout that fits as long as one of them lowers the cost, and keeps it fitting."""
-    movable = [node for node, slot in enumerate(layout.graph.fixed) if slot is None]
-    before = layout.cost + 1
-    while layout.cost < before:
-        before = layout.cost
-        for node in movable:
-            lower_by_move(layout, node)
-            lower_by_swap(layout, node, movable)
-
-
-def lower_by_move(layout: Layout, node: int) -> None:
-    """Moves a node to the slot with room where it costs least."""
-    pull = layout.pull[node]
-    for slot in sorted(range(len(pull)), key=pull.__getitem__):
-        if pull[slot] >= pull[layout.at[node]]:
-            return
-        if layout.overfill(node, slot) <= 0:
-            layout.move(node, slot)
-            return
-
-
-def lower_by_swap(layout: Layout, node: int, others: List[int]) -> None:
-    """Swaps a node with the first other one with which that lowers the cost and overfills no slot."""
-    for other in others:
-        if layout.at[other] != layout.at[node] and layout.rise_by_swap(node, other) < 0 and layout.overfill_by_swap(node, other) <= 0:
-            layout.swap(node, other)

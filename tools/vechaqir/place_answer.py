@@ -37,7 +37,7 @@ def told(placement: Placement, seed: int, is_by_levels: bool) -> str:
     """The line on standard error about a placement."""
     least = ": no placement costs less" if placement.is_least and not is_by_levels else ""
     of = f"attempt {placement.number + 1} of {placement.attempts}, seed {seed}"
-    return f"tools/place.py: cost {placement.plan.cost}, {registers(placement)} registers with the balance's, by {of}{least}"
+    return f"tools/place.py: cost {placement.plan.cost}, {registers(placement.plan)} registers with the balance's, by {of}{least}"
 
 
 def answer(asked: argparse.Namespace) -> int:

@@ -6,8 +6,8 @@ from typing import List, NamedTuple, Optional
 from .place_anneal import Found
 from .place_graph import Board, Graph
 
-# Graphs of more free nodes are not looked through, nor further than so many steps.
-NODES, STEPS = 24, 150_000
+# Graphs of more free nodes are not looked through, nor further than so many steps, about a second of work.
+NODES, STEPS = 24, 50_000
 
 
 class Searched(NamedTuple):
@@ -25,7 +25,7 @@ class Search:
         self.steps = 0
         self.at: List[int] = [-1] * len(graph.needs)
         self.free = [list(room) for room in board.rooms]
-        self.pull = [[0] * len(board.slots) for _ in graph.needs]
+        self.pull = [[0] * len(board.rooms) for _ in graph.needs]
         self.order = self._ordered()
 
     def _ordered(self) -> List[int]:

@@ -1,12 +1,12 @@
 """What is placed, and where: nodes with their needs and the bits of the streams between them, and the open slots of a device.
 
-A node is a group of instances, or several groups that are moved together. Nodes and open slots are numbered from 0. Only scarce resources count: of
-the others every slot holds what all nodes need together.
+A node is a group of instances, or several groups that are moved together. Nodes and open slots are numbered from 0. Only resources count that may be
+short: of the others every slot holds what all nodes need together, or what those need that fit by another resource.
 """
 from __future__ import annotations
 
-from dataclasses import dataclass
-from typing import Dict, List, NamedTuple, Optional, Sequence
+from dataclasses import dataclass, field
+from typing import Dict, List, NamedTuple, Optional, Sequence, Tuple
 
 from .device import RESOURCES, Amounts, Device
 from .estimate import Estimate
@@ -28,6 +28,10 @@ class Board:
     rooms: List[Amounts]
     distance: List[List[int]]
 
+    def nearest(self) -> int:
+        """The least distance of two slots that are apart, 1 where none are."""
+        return min((far for row in self.distance for far in row if far > 0), default=1)
+
 
 @dataclass
 class Graph:
@@ -36,6 +40,11 @@ class Graph:
     needs: List[Amounts]
     near: List[List[Near]]
     fixed: List[Optional[int]]
+    between: List[Dict[int, int]] = field(init=False)
+
+    def __post_init__(self) -> None:
+        """`between[one][other]` are the bits between two nodes, where there are some."""
+        self.between = [dict(near) for near in self.near]
 
     def cost(self, at: Sequence[int], board: Board) -> int:
         """The bits of all streams times the distance of their ends, where node i stands in slot at[i]."""
@@ -70,3 +79,27 @@ def graph_of(found: Estimate, groups: Sequence[Sequence[str]], links: Sequence[L
         fixed[node_of[label]] = board.slots.index(device.number(place))
     needs = [[found.uses(group)[resource] for resource in scarce] for group in groups]
     return Graph(needs, [[Near(*pair) for pair in sorted(near.items())] for near in bits], fixed)
+
+
+def counted(graph: Graph, board: Board) -> Tuple[Graph, Board]:
+    """A graph and a board without the resources that no slot lacks where it holds enough of another one."""
+    kept = list(range(len(board.rooms[0])))
+    for one in list(kept):
+        if any(_is_implied(graph, board, one, other) for other in kept if other != one):
+            kept.remove(one)
+    needs, rooms = ([[amounts[it] for it in kept] for amounts in lists] for lists in (graph.needs, board.rooms))
+    return Graph(needs, graph.near, graph.fixed), Board(board.slots, rooms, board.distance)
+
+
+def _is_implied(graph: Graph, board: Board, one: int, other: int) -> bool:
+    """Whether nodes that fit into a slot by the resource `other` fit by `one` too: those that need most of `one` for what they need of `other`, and a
+    part of the last of them, need no more than the slot has."""
+    greedy = sorted(graph.needs, key=lambda needs: needs[one] / needs[other] if needs[other] else float("inf"), reverse=True)
+    for room in board.rooms:
+        left, used = float(room[other]), 0.0
+        for needs in greedy:
+            part = min(1.0, left / needs[other]) if needs[other] else 1.0
+            left, used = left - part * needs[other], used + part * needs[one]
+        if used > room[one]:
+            return False
+    return True

@@ -1,7 +1,9 @@
 """The groups of a program's instances: two that reach each other along streams are one group, which a plan keeps in one slot."""
 from __future__ import annotations
 
-from typing import Dict, List, NamedTuple, Sequence, Set
+import re
+from collections import Counter
+from typing import Any, Dict, List, NamedTuple, Sequence, Set, Tuple
 
 from . import source as sources
 
@@ -41,13 +43,40 @@ def groups(labels: Sequence[str], joined: Sequence[Link]) -> List[List[str]]:
     return found
 
 
-def by_streams(found: Sequence[List[str]], joined: Sequence[Link]) -> List[List[str]]:
-    """Groups in the order of the names of their streams, which the order of a chain's invokes does not change as it does that of labels."""
-    names: Dict[str, List[str]] = {label: [] for group in found for label in group}
+def by_structure(found: Sequence[List[str]], joined: Sequence[Link]) -> List[List[str]]:
+    """Groups in an order that the order of invokes does not change: by the names of their streams and tasks, without the numbers of instances, then by those of
+    their neighbours, and so on. Of groups that are still alike one goes first, and those beside it follow it."""
+    group_of = {label: at for at, group in enumerate(found) for label in group}
+    names: List[List[str]] = [[] for _ in found]
+    near: List[List[Tuple[bool, int, int]]] = [[] for _ in found]
     for link in joined:
-        names[link.writer].append(link.name + " out")
-        names[link.reader].append(link.name)
-    return sorted(found, key=lambda group: (sorted(name for label in group for name in names[label]), sorted(label.split("$")[-2] for label in group)))
+        writer, reader, name = group_of[link.writer], group_of[link.reader], re.sub(r"\$\d+\$", "$", link.name)
+        names[writer].append(name + " out")
+        names[reader].append(name)
+        near[writer].append((True, link.width, reader))
+        near[reader].append((False, link.width, writer))
+    tasks = [sorted(label.split("$")[-2] for label in group) for group in found]
+    ranks = _ranked([(sorted(name), task) for name, task in zip(names, tasks)])
+    while True:
+        finer = _ranked([(rank, sorted((is_out, width, ranks[other]) for is_out, width, other in links)) for rank, links in zip(ranks, near)])
+        if max(finer, default=0) == max(ranks, default=0):
+            alike = [rank for rank, count in sorted(Counter(ranks).items()) if count > 1]
+            if not alike:
+                return [found[at] for at in sorted(range(len(found)), key=ranks.__getitem__)]
+            first = ranks.index(alike[0])
+            finer = _ranked([(rank, at != first) for at, rank in enumerate(ranks)])
+        ranks = finer
+
+
+def _ranked(keys: Sequence[Any]) -> List[int]:
+    """The place of each key among all that differ."""
+    found: List[int] = [0] * len(keys)
+    rank, before = -1, None
+    for at in sorted(range(len(keys)), key=keys.__getitem__):
+        rank += keys[at] != before
+        before = keys[at]
+        found[at] = rank
+    return found
 
 
 def _reached(start: str, after: Dict[str, List[str]]) -> Set[str]:

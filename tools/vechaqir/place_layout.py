@@ -15,10 +15,14 @@ class Layout:
 
     def __init__(self, graph: Graph, board: Board, at: Sequence[int]) -> None:
         self.graph, self.board, self.at = graph, board, list(at)
-        distance, count = board.distance, range(len(board.slots))
-        self.pull = [[sum(it.bits * distance[slot][at[it.node]] for it in near) for slot in count] for near in graph.near]
+        distance, count = board.distance, range(len(board.rooms))
+        self.pull: List[List[int]] = []
+        for near in graph.near:
+            pull = [0 for _ in count]
+            for other, bits in near:
+                pull = [cost + bits * far for cost, far in zip(pull, distance[at[other]])]
+            self.pull.append(pull)
         self.cost = sum(pull[slot] for pull, slot in zip(self.pull, at)) // 2
-        self.between = [dict(near) for near in graph.near]
         # for each two slots what a neighbour's pulls gain, for each bit, by a move from the one to the other
         self.step = [[[to - of for of, to in zip(distance[here], distance[there])] for there in count] for here in count]
         self.unit = [max(1.0, sum(column) / len(graph.needs)) for column in zip(*graph.needs)]
@@ -53,8 +57,15 @@ class Layout:
     def rise_by_swap(self, node: int, other: int) -> int:
         """By how much a swap of two nodes would raise the cost."""
         here, there, mine, its = self.at[node], self.at[other], self.pull[node], self.pull[other]
-        apart = 2 * self.between[node].get(other, 0) * self.board.distance[here][there]
+        apart = 2 * self.graph.between[node].get(other, 0) * self.board.distance[here][there]
         return mine[there] - mine[here] + its[here] - its[there] + apart
+
+    def has_room(self, node: int, slot: int) -> bool:
+        """Whether a slot has room for a node that stands in another one."""
+        for free, need in zip(self.free[slot], self.graph.needs[node]):
+            if need > free:
+                return False
+        return True
 
     def move(self, node: int, there: int) -> None:
         """Moves a node to another slot."""
@@ -63,7 +74,7 @@ class Layout:
         self.at[node] = there
         for slot, sign in ((here, -1), (there, 1)):
             self._take(slot, self.graph.needs[node], sign)
-            self.over[slot] = self.excess(slot, [0] * len(self.unit), 1)
+            self.over[slot] = sum([-free / unit for free, unit in zip(self.free[slot], self.unit) if free < 0])
         step, pull = self.step[here][there], self.pull
         for other, bits in self.graph.near[node]:
             pull[other] = [cost + bits * more for cost, more in zip(pull[other], step)]

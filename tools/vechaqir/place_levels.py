@@ -1,115 +1,101 @@
-"""One attempt at a placement: the graph is made coarse by heavy streams, the coarsest one placed, and each finer one annealed from there.
+"""One attempt at a placement: the device is halved and halved again, and what comes of it is improved in rounds.
 
-An attempt is a function of its graph, its board, its seed and its number alone, so that it gives the same layout on every machine.
+Each step is a cycle: the graph is made coarser and coarser by merging what stands in one place, the coarsest one is annealed, and on the way back each
+finer one is improved by passes of moves. An attempt is a function of its graph, its board, its seed and its number alone, so that it gives the same
+layout on every machine.
 """
 from __future__ import annotations
 
 import random
-from typing import Dict, List, Optional, Tuple
+from typing import List, NamedTuple, Optional, Sequence, Tuple
 
-from .device import Amounts
-from .place_anneal import Found, Schedule, anneal, descend, mean_bits
-from .place_graph import Board, Graph, Near
+from . import place_boards, place_coarse
+from .place_anneal import Found, Schedule, anneal
+from .place_graph import Board, Graph
 from .place_layout import Layout
+from .place_passes import descend, refine
 
-# Coarsening ends at so many nodes for each slot, or where a round leaves more than this share of the nodes.
-COARSEST, SHRINKS = 4, 0.9
-# A node that several are merged into needs at most this part of the largest slot.
-PART = 5
-# The first temperature of the coarsest graph, that of finer ones, and the last one, in average streams.
-HOT, WARM, COLD = 2.0, 0.7, 0.12
-# From how many layouts at random the coarsest graph is annealed; the best is refined.
-STARTS = 2
+# How many nodes the coarsest graph has for each slot, and the part of the largest slot that a node may need; a cycle takes one of these. The rounds take
+# the first too, where all that stands in a slot is mostly one node, so that slots change their places.
+WHOLE, COARSEST = [(1, 1)], [(2, 3), (3, 3), (4, 3), (6, 3)]
 # What an average node beyond a slot's room costs, in average streams: attempts take them in turn, since loose devices ask for the first, full ones for
 # the others.
 OVERFULL = (8.0, 2.0, 30.0, 4.0)
-# Proposals for each node and slot of the graph, of the first attempts and of all later ones.
-EFFORTS = (40, 80, 160, 160, 160, 160)
+# How often the device is halved; the best layout is improved. The rounds of the first attempt, how many more each later one makes, and the most.
+STARTS, ROUNDS, MORE, MOST = 4, 8, 1, 40
 
 
-def effort(number: int) -> int:
-    """The proposals for each node and slot in the attempt of a number, from 0 on; from the thirtieth on four times as many."""
-    return EFFORTS[min(number, len(EFFORTS) - 1)] * (4 if number >= 30 else 1)
+class Heat(NamedTuple):
+    """How the coarsest graph of a cycle is annealed: the first temperature in average streams, the proposals for each node and slot, and the cost of
+    what is overfull."""
+
+    hot: float
+    sweeps: int
+    overfull: float
 
 
-def merged(graph: Graph, board: Board, some: random.Random) -> Tuple[Graph, List[int]]:
-    """A coarser graph, in which neighbours are merged by pairs, those with the heaviest streams for their size first; and the coarse node of each."""
-    most = [max(column) / PART for column in zip(*board.rooms)]
-    order = [node for node, slot in enumerate(graph.fixed) if slot is None]
-    some.shuffle(order)
-    mate: Dict[int, int] = {}
-    for node in order:
-        if node not in mate:
-            partners = [it for it in graph.near[node] if it.node not in mate and graph.fixed[it.node] is None and _is_small(graph, node, it.node, most)]
-            if partners:
-                other = max(partners, key=lambda it: (it.bits / (1 + sum(graph.needs[it.node])), some.random())).node
-                mate[node], mate[other] = other, node
-    coarse: List[int] = []
-    count = 0
-    for node in range(len(graph.needs)):
-        other = mate.get(node, node)
-        coarse.append(coarse[other] if other < node else count)
-        count += other >= node
-    return _contracted(graph, coarse, count), coarse
-
-
-def _is_small(graph: Graph, one: int, other: int, most: List[float]) -> bool:
-    """Whether two nodes together need no more than a merged node may."""
-    return all(a + b <= limit for a, b, limit in zip(graph.needs[one], graph.needs[other], most))
-
-
-def _contracted(graph: Graph, coarse: List[int], count: int) -> Graph:
-    """The graph of the coarse nodes."""
-    needs: List[Amounts] = [[0] * len(graph.needs[0]) for _ in range(count)]
-    near: List[Dict[int, int]] = [{} for _ in range(count)]
-    fixed: List[Optional[int]] = [None] * count
-    for node, at in enumerate(coarse):
-        needs[at] = [a + b for a, b in zip(needs[at], graph.needs[node])]
-        fixed[at] = graph.fixed[node]
-        for other, bits in graph.near[node]:
-            if coarse[other] != at:
-                near[at][coarse[other]] = near[at].get(coarse[other], 0) + bits
-    return Graph(needs, [[Near(*pair) for pair in sorted(of.items())] for of in near], fixed)
-
-
-def levels(graph: Graph, board: Board, some: random.Random) -> Tuple[List[Graph], List[List[int]]]:
-    """The graph and coarser and coarser ones, and for each step the coarse node of each finer one."""
-    graphs, steps = [graph], []
-    while len(graphs[-1].needs) > COARSEST * len(board.slots):
-        coarser, step = merged(graphs[-1], board, some)
-        if len(coarser.needs) > SHRINKS * len(graphs[-1].needs):
-            break
-        graphs.append(coarser)
-        steps.append(step)
-    return graphs, steps
+# The heat while the device is halved; that of the rounds begins at a temperature at random between none and twice this.
+HALVING, HOT, SWEEPS = (1.0, 10), 2.0, 20
+# The last temperature, in average streams.
+COLD = 0.12
 
 
 def attempt(graph: Graph, board: Board, seed: int, number: int) -> Optional[Found]:
     """The best layout of one attempt, None where none of its layouts fits."""
     some = random.Random(f"{seed} {number}")
-    graphs, steps = levels(graph, board, some)
-    proposals = effort(number) * len(graph.needs) * len(board.slots) // len(graphs)
-    dear = OVERFULL[number % len(OVERFULL)]
-    starts = [_annealed(graphs[-1], board, _anywhere(graphs[-1], board, some), some, (HOT, dear, proposals // STARTS)) for _ in range(STARTS)]
-    layout, best = min(starts, key=lambda it: it[1].cost if it[1] else float("inf"))
-    for finer, step in zip(graphs[-2::-1], steps[::-1]):
-        at = best.at if best else layout.at
-        layout, best = _annealed(finer, board, [at[coarse] for coarse in step], some, (WARM, dear, proposals))
-    if best:
-        layout = Layout(graph, board, best.at)
-        descend(layout)
-        best = Found(layout.cost, layout.at)
-    return best
+    overfull = OVERFULL[number % len(OVERFULL)]
+    slots = [[slot] for slot in range(len(board.rooms))]
+    best = min((halved(graph, board, Heat(*HALVING, overfull), some) for _ in range(STARTS)), key=worth)
+    for _ in range(min(ROUNDS + MORE * number, MOST)):
+        layout = cycle(graph, board, best.at, slots, some.choice(WHOLE + COARSEST), Heat(HOT * some.random(), SWEEPS, overfull), some)
+        best = min(layout, best, key=worth)
+    if not best.fits():
+        return None
+    descend(best)
+    return Found(best.cost, best.at)
 
 
-def _anywhere(graph: Graph, board: Board, some: random.Random) -> List[int]:
-    """A slot at random for each node that is not fixed."""
-    return [some.randrange(len(board.slots)) if slot is None else slot for slot in graph.fixed]
+def worth(layout: Layout) -> Tuple[float, int]:
+    """What makes one layout better than another: less that is overfull, and then less cost."""
+    return sum(layout.over), layout.cost
 
 
-def _annealed(graph: Graph, board: Board, at: List[int], some: random.Random, how: Tuple[float, float, int]) -> Tuple[Layout, Optional[Found]]:
-    """A layout after annealing, and the best on the way: `how` is the first temperature and the cost of overfull slots, in average streams, and the
-    number of proposals."""
-    layout = Layout(graph, board, at)
-    unit, (hot, dear, proposals) = mean_bits(layout), how
-    return layout, anneal(layout, some, Schedule(hot * unit, COLD * unit, dear * unit, proposals))
+def halved(graph: Graph, board: Board, heat: Heat, some: random.Random) -> Layout:
+    """A layout by halving: all nodes stand in one region at first, and those of a region are divided between its parts, until these are slots."""
+    regions = place_boards.coarser(board, place_boards.fill(graph, board), some)
+    finer = [place_boards.Regions(board, [], list(range(len(board.rooms))))] + regions[:-1]
+    at = [0] * len(graph.needs)
+    for parent, child in zip(reversed(regions), reversed(finer)):
+        fixed = [None if slot is None else child.of[slot] for slot in graph.fixed]
+        at = cycle(Graph(graph.needs, graph.near, fixed), child.board, at, parent.parts, some.choice(COARSEST), heat, some).at
+    return Layout(graph, board, at)
+
+
+def cycle(graph: Graph, board: Board, within: Sequence[int], parts: Sequence[Sequence[int]], size: Tuple[int, int], heat: Heat, some: random.Random) -> Layout:
+    """A layout of nodes that stand within places, whose parts are slots of the board: each begins in any part of its place."""
+    few, part = size
+    graphs = place_coarse.levels(graph, board, within, few * len(board.rooms), part, some)
+    coarsest = graphs[-1].graph
+    at = [some.choice(parts[place]) if slot is None else slot for place, slot in zip(graphs[-1].at, coarsest.fixed)]
+    layout = annealed(Layout(coarsest, board, at), heat, some)
+    refine(layout, some)
+    for level in graphs[-2::-1]:
+        layout = Layout(level.graph, board, [layout.at[node] for node in level.coarse])
+        refine(layout, some)
+        if layout.fits():
+            descend(layout)
+    return layout
+
+
+def annealed(layout: Layout, heat: Heat, some: random.Random) -> Layout:
+    """A layout after annealing; where it does not fit in the end, the best on the way that did."""
+    unit = mean_bits(layout.graph) * layout.board.nearest()
+    proposals = heat.sweeps * len(layout.at) * len(layout.board.rooms)
+    best = anneal(layout, some, Schedule(max(COLD, heat.hot) * unit, COLD * unit, heat.overfull * unit, proposals))
+    return Layout(layout.graph, layout.board, best.at) if best and not layout.fits() else layout
+
+
+def mean_bits(graph: Graph) -> float:
+    """The average of the bits between two neighbours."""
+    bits: List[int] = [it.bits for near in graph.near for it in near]
+    return sum(bits) / len(bits) if bits else 1.0

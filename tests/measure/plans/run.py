@@ -4,8 +4,8 @@
     tests/measure/plans/run.py PROGRAM check [NAME ..]      each design runs to its end with what Python computes; its placements are taken by
                                                             `plan` and `build`, and `cosim` carries the same; exact's cost where it can plan
     tests/measure/plans/run.py PROGRAM random COUNT         random devices for the designs that exact can plan, beside exact
-    tests/measure/plans/run.py PROGRAM table COUNT [NAME ..]    what each mode costs on the U250 in two orders of the invokes, and what place.py
-                                                            finds in 1, 6 and COUNT attempts, with the seconds of one processor
+    tests/measure/plans/run.py PROGRAM table SECONDS [NAME ..]  what each mode costs on the U250 in two orders of the invokes, and what the attempts of
+                                                            place.py find within 1, 10, 60 and SECONDS seconds of one processor
     tests/measure/plans/run.py PROGRAM write FOLDER [NAME ..]   writes sources, data and device files
 
 NAME is the name of a design, all if none is given. The status is 1 where something is wrong.
@@ -22,12 +22,14 @@ sys.dont_write_bytecode = True
 from families import DESIGNS  # noqa: E402
 from chips import PARTS, ROOT, device_of  # noqa: E402
 from vechaqir import device as devices  # noqa: E402
-from vechaqir import estimate, place, place_graph, place_groups, place_levels, place_exact, program, report  # noqa: E402
+from vechaqir import estimate, place, place_groups, place_levels, place_exact, program, report  # noqa: E402
 from vechaqir import plan as plans  # noqa: E402
 
 # The most plans that exact looks at, and the orders of invokes that are tried.
 MOST, ORDERS = 4_194_304, (0, 1)
 ATTEMPTS = 6
+# The seconds of the table's columns, beside those that are asked for.
+SECONDS = (1, 10, 60)
 
 
 class Suite:
@@ -139,46 +141,48 @@ def check_random(suite, count):
         print(f"{name}: {count} random devices", flush=True)
 
 
-def searched(suite, prepared, device, most):
-    """The best layout after 1, ATTEMPTS and `most` attempts, with the seconds of one processor; and what was asked."""
-    request = place.read_request(suite.program, prepared.source, "Top", device)
-    scarce = place_graph.scarce_in(device, request.found.uses(request.found.labels))
-    board = place_graph.board_of(device, scarce, False)
-    graph = place_graph.graph_of(request.found, request.groups, request.links, device, board, scarce)
-    best, marks, begun = None, {}, time.process_time()
-    for number in range(most):
-        layout = place_levels.attempt(graph, board, 1, number)
-        layout = layout if number else place_exact.search(graph, board, layout).found
-        if layout and (best is None or layout.cost < best.cost):
-            best = layout
-        if number + 1 in (1, ATTEMPTS, most):
-            marks[number + 1] = best, time.process_time() - begun
-    return marks, request, board
+def searched(request, most):
+    """What the attempts of place.py find within 1, 10, 60 and `most` seconds of one processor, with how many were over by then; the first counts in any
+    time. And the board."""
+    graph, board = place.problem_of(request, False)
+    limits = [limit for limit in SECONDS if limit < most] + [most]
+    best, made, marks, begun = None, 0, {}, time.process_time()
+    while limits:
+        layout = place_levels.attempt(graph, board, 1, made)
+        layout = layout if made else place_exact.search(graph, board, layout).found
+        while made and limits and time.process_time() - begun > limits[0]:
+            marks[limits.pop(0)] = best, made
+        best = min((it for it in (best, layout) if it), key=lambda it: it.cost, default=None)
+        made += 1
+    return marks, board
 
 
-def row(suite, name, part, order, most):
-    """A line of the table: tasks, streams, cost, registers and seconds of each mode, and cost and seconds of place.py after some attempts, with the
-    registers at last."""
-    prepared = Prepared(suite, name, order)
-    known = prepared.device(part)
+def row(suite, name, part, most):
+    """A line of the table: tasks, streams, cost and seconds of each mode in both orders of the invokes, whether both orders are one graph for place.py,
+    what its attempts find by and by, and the registers of the last."""
+    prepared = [Prepared(suite, name, order) for order in ORDERS]
+    known = prepared[0].device(part)
     device = suite.put("device.json", known.text())
-    cells = [name, part, order, len(prepared.found.labels), len(prepared.links)]
+    cells = [name, part, len(prepared[0].found.labels), len(prepared[0].links)]
     for mode in ("fit", "split", "exact"):
-        plan, took = suite.cost(prepared.source, device, mode)
-        cells.append(f"{plan.cost}, {plan.registers}, {took:.2f} s" if plan else "none")
-    marks, request, board = searched(suite, prepared, known, most)
-    cells += [f"{best.cost}, {spent:.1f} s" if best else f"none, {spent:.1f} s" for best, spent in marks.values()]
+        for one in prepared:
+            plan, took = suite.cost(one.source, device, mode)
+            cells.append(f"{mode} {plan.cost}, {place.registers(plan)}, {took:.2f} s" if plan else f"{mode} none")
+    requests = [place.read_request(suite.program, one.source, "Top", known) for one in prepared]
+    cells.append("one graph" if place.problem_of(requests[0], False) == place.problem_of(requests[1], False) else "two graphs")
+    marks, board = searched(requests[0], most)
+    cells += [f"{limit} s: {best.cost if best else 'none'} in {made}" for limit, (best, made) in marks.items()]
     best = marks[most][0]
     if best:
-        pinned = suite.put("pinned.json", known.text(place.pins_of(request, [board.slots[slot] for slot in best.at])))
-        cells.append(suite.cost(prepared.source, pinned)[0].registers)
+        pinned = suite.put("pinned.json", known.text(place.pins_of(requests[0], [board.slots[slot] for slot in best.at])))
+        plan = suite.cost(prepared[0].source, pinned)[0]
+        cells.append(f"{plan.cost}, {place.registers(plan)} registers")
     return cells
 
 
 def table(suite, most, names):
     for name in names:
-        for order in ORDERS:
-            print("| " + " | ".join(map(str, row(suite, name, "u250", order, most))) + " |", flush=True)
+        print("| " + " | ".join(map(str, row(suite, name, "u250", most))) + " |", flush=True)
 
 
 def write(suite, names):

@@ -9,10 +9,13 @@ import re
 from runner.groups.placing import check_hostile, grid_of, run_tool
 from runner.groups.plans import Case, source_of
 from runner.trial import ROOT
-from vechaqir import svg
+from vechaqir import device as devices
+from vechaqir import place, place_levels, program, svg
 
 # Random devices of small programs that the gate tries; tests/measure/plans/run.py tries more.
 DEVICES = 12
+# Random programs of a few tasks on which the search alone is tried, without the look through all layouts; and the attempts at each.
+SEARCHED, ATTEMPTS = 20, 3
 
 # Designs with their files in the repository, a device, and the words of place.py.
 EXAMPLES = [
@@ -32,6 +35,35 @@ def grid_source(side, order):
     invokes += [f".invoke(Drain, {way}{at}[{side}])" for at in range(side) for way in "hv"]
     random.Random(order).shuffle(invokes)
     return f"{pe}\n{ends}\nvoid T() {{ {across}tapa::task(){''.join(invokes)}; }}\n"
+
+
+def lanes_source(order):
+    """Three lanes alike, each a task of two others, between one task and the next; `order` mixes the invokes of both levels."""
+    tasks = "void P(tapa::ostream<int>& a, tapa::ostream<int>& b, tapa::ostream<int>& c) { a << 1; b << 2; c << 3; }"
+    tasks += "void M(tapa::istream<int>& q, tapa::ostream<int>& r) { r << q.read(); } void N(tapa::istream<int>& q, tapa::ostream<int>& r) { r << q.read() * 3; }"
+    tasks += "void C(tapa::istream<int>& a, tapa::istream<int>& b, tapa::istream<int>& c) { a.read(); b.read(); c.read(); }"
+    some = random.Random(order)
+    inner, outer = ["M, q, m", "N, m, r"], ["P, x[0], x[1], x[2]", *(f"Lane, x[{at}], y[{at}]" for at in range(3)), "C, y[0], y[1], y[2]"]
+    some.shuffle(inner)
+    some.shuffle(outer)
+    inner, outer = ("".join(f".invoke({invoke})" for invoke in invokes) for invokes in (inner, outer))
+    lane = f"void Lane(tapa::istream<int>& q, tapa::ostream<int>& r) {{ tapa::stream<int> m; tapa::task(){inner}; }}"
+    return f"{tasks}\n{lane}\nvoid T() {{ tapa::streams<int, 3> x, y; tapa::task(){outer}; }}\n"
+
+
+class Small:
+    """A program of six to nine tasks at random whose streams make no cycle, and a device of two to four slots for it, with a pin now and then."""
+
+    def __init__(self, seed):
+        some = random.Random(f"small {seed}")
+        self.count, self.rows, self.cols = some.randint(6, 9), *some.choice([(1, 2), (2, 1), (3, 1), (2, 2)])
+        streams = [(*sorted(some.sample(range(self.count), 2)), some.choice(["bool", "int", "uint64_t"])) for _ in range(some.randint(6, 16))]
+        self.source = source_of(self.count, streams)
+        slots, uses = self.rows * self.cols, [[some.randint(5, 25), some.randint(5, 25)] for _ in range(self.count)]
+        rooms = [[int(sum(use[kind] for use in uses) * some.uniform(1.2, 2.2) / slots) + 8 for kind in (0, 1)] for _ in range(slots)]
+        pins = {f"T{task}${task}": list(divmod(some.randrange(slots), self.cols)) for task in range(self.count) if some.random() < 0.15}
+        tasks = {f"T{task}": dict(zip(devices.RESOURCES, use)) for task, use in enumerate(uses)}
+        self.device = grid_of({"slots": rooms, "tasks": tasks, "pins": pins}, rows=self.rows)
 
 
 def placed(trial, source, top, device, *words):
@@ -82,6 +114,31 @@ def check_random(trial, seed):
     trial.check(f"placement of random device {seed}", status == exact.status and ("cost" not in err or f"cost {cost_of(exact)}," in err), f"   {exact}\n   {status} {err}")
     if exact.status == 0:
         trial.check(f"the program's cost on random device {seed}", cost_of(trial.run(["plan", source, "T", pinned])) == cost_of(exact))
+
+
+def check_search(trial, seed):
+    """The search alone, on a small program and device at random: no slot is overfull, pins are kept, the cost is what the layout costs, and it is exact's."""
+    small = Small(seed)
+    source, path = trial.put("p.cpp", small.source), trial.put("d.json", small.device)
+    exact = trial.run(["plan", source, "T", path, "--plan", "exact"])
+    request = place.read_request(program.Program(trial.program, False), source, "T", devices.parse(small.device))
+    graph, board = place.problem_of(request, False)
+    found = [it for it in (place_levels.attempt(graph, board, seed, number) for number in range(ATTEMPTS)) if it]
+    for it in found:
+        pins = place.pins_of(request, [board.slots[slot] for slot in it.at])
+        own = request.device.pins.items() <= pins.items() and all(slot in (None, at) for slot, at in zip(graph.fixed, it.at))
+        said = trial.run(["plan", source, "T", trial.put("pinned.json", request.device.text(pins))])
+        trial.check(f"small program {seed}: the program takes what the search found", own and cost_of(said) == it.cost == graph.cost(it.at, board), f"   {it} {said}")
+    least = min((it.cost for it in found), default=None)
+    trial.check(f"small program {seed}: the search finds the cost of exact", least == cost_of(exact), f"   {least} {exact}")
+
+
+def check_nested(trial):
+    """The order of invokes does not change what is searched, of a square of tasks and of lanes that are tasks of tasks."""
+    called, device = program.Program(trial.program, False), devices.parse(grid_of({"slots": [[300, 900]] * 4}, rows=2))
+    for name, written in (("a square", lambda order: grid_source(3, order)), ("lanes", lanes_source)):
+        problems = [place.problem_of(place.read_request(called, trial.put("mixed.cpp", written(order)), "T", device), False) for order in range(5)]
+        trial.check(f"{name}: one graph in five orders of invokes", all(problem == problems[0] for problem in problems), f"   {problems}")
 
 
 def check_orders(trial):
@@ -148,4 +205,7 @@ def try_all(trial):
         check_example(trial, *names)
     for seed in range(DEVICES):
         check_random(trial, seed)
+    for seed in range(SEARCHED):
+        check_search(trial, seed)
+    check_nested(trial)
     check_orders(trial)
