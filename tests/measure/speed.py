@@ -182,14 +182,17 @@ def put_all(program, wanted, folder):
 
 
 def by_workers(program, wanted):
-    """The rows by several workers."""
-    print(f"| what | {' | '.join(f'{count} worker' + 's' * (count > 1) for count in WORKERS)} |\n|---|{'---|' * len(WORKERS)}")
+    """The rows by several workers: the least of all calls, and behind them how many times as fast as the call by one worker beside it a call is."""
+    print(f"| what | {' | '.join(f'{count} worker' + 's' * (count > 1) for count in WORKERS)} | times as fast, medians |\n|---|{'---|' * len(WORKERS)}---|")
     with tempfile.TemporaryDirectory() as folder:
         rows = list(put_all(program, wanted, folder))
+        # (the calls of a row by one worker and by more stand next to each other, so that a slow minute of the machine strikes them alike)
         spent = [[[used([*call, "--workers", str(count)], folder, subprocess.DEVNULL) for count in WORKERS] for _, call in rows] for _ in range(REPEATS)]
         for at, (name, _) in enumerate(rows):
             best = [min((one[at][column] for one in spent), key=lambda it: it[2]) for column in range(len(WORKERS))]
-            print(f"| {name} | {' | '.join(f'{clock:.2f} s ({seconds:.2f} s)' for seconds, _, clock in best)} |", flush=True)
+            gained = [statistics.median(one[at][0][2] / one[at][column][2] for one in spent) for column in range(1, len(WORKERS))]
+            cells = [f"{clock:.2f} s ({seconds:.2f} s)" for seconds, _, clock in best] + [", ".join(f"{times:.2f}" for times in gained)]
+            print(f"| {name} | {' | '.join(cells)} |", flush=True)
     return 0
 
 
