@@ -6,7 +6,7 @@ import os
 import random
 import re
 
-from runner.groups.placing import check_hostile, grid_of, run_tool
+from runner.groups.placing import MULTIPLIES, check_hostile, grid_of, run_tool
 from runner.groups.plans import Case, source_of
 from runner.trial import ROOT
 from vechaqir import device as devices
@@ -16,6 +16,8 @@ from vechaqir import place, place_levels, program, svg
 DEVICES = 12
 # Random programs of a few tasks on which the search alone is tried, without the look through all layouts; and the attempts at each.
 SEARCHED, ATTEMPTS = 20, 3
+# Bytes of a device file that are made others, one at a time.
+FLIPS = 12
 
 # Designs with their files in the repository, a device, and the words of place.py.
 EXAMPLES = [
@@ -162,6 +164,33 @@ def check_orders(trial):
     trial.check("a device without room is told as such", (status, out) == (4, "") and f"all tasks together need {uses} LUT" in err, f"   {err}")
 
 
+def check_flipped(trial):
+    """A device file in which a bit of one byte is another: the program's own refusal, or an answer as on any device."""
+    source, some = trial.put("multiplies.cpp", MULTIPLIES), random.Random(3)
+    text = grid_of({"slots": [[190, 900, 0, 6]] * 4, "pins": {"C$1": [1, 0]}, "forbidden": [[0, 1]], "tasks": {"C": {"LUT": 30}}}, rows=2).encode()
+    for at in [some.randrange(len(text)) for _ in range(FLIPS)]:
+        flipped = bytearray(text)
+        flipped[at] ^= 1 << some.randrange(8)
+        device = trial.put("flipped.json", bytes(flipped))
+        said = trial.run(["plan", source, "T", device])
+        (status, out, err), _ = placed(trial, source, "T", device, "--attempts", "1")
+        own = (status, out, err) == (said.status, "", said.err.decode())
+        is_answer = status in (0, 4) and bool(out) == (status == 0) and err.startswith("tools/place.py: ") and said.status in (status, 4)
+        trial.check(f"a device with another byte at {at}", is_answer if said.status in (0, 4) else own, f"   {bytes(flipped)} {said} {status} {err}")
+
+
+def check_small(trial):
+    """Tasks of 192 LUT on two slots that they fill to 95 percent, on two that have a LUT less, and on two that have enough of them, but not for these tasks."""
+    source = trial.put("multiplies.cpp", MULTIPLIES)
+    full, without = "all tasks together need 192 LUT of the {} of all slots", "all tasks together need 192 LUT, and all slots have 191 (at 100 percent): 1 LUT are missing"
+    for slots, status, words in (([118, 84], 0, "no placement costs less"), ([118, 73], 4, without), ([100, 102], 4, "no placement fits")):
+        device = trial.put("small.json", grid_of({"slots": [[room, 900, 0, 6] for room in slots]}))
+        exact = trial.run(["plan", source, "T", device, "--plan", "exact"])
+        (told, out, err), _ = placed(trial, source, "T", device, "--attempts", "2")
+        holds = (told, exact.status, bool(out)) == (status, status, status == 0) and words in err and ("fits" not in words or full.format(sum(slots)) in err)
+        trial.check(f"a small program on slots of {slots} LUT", holds, f"   {exact} {told} {err}")
+
+
 def texts_of(drawn):
     """The texts of a picture, each as the box that it covers: left, top, right, bottom."""
     for found in re.finditer(r'<text x="([\d.]+)" y="([\d.]+)" font-size="([\d.]+)"( text-anchor="(?:middle|end)")?( font-weight="bold")?[^>]*>([^<]*)<', drawn):
@@ -201,6 +230,8 @@ def check_drawings(trial):
 def try_all(trial):
     check_drawings(trial)
     check_hostile(trial, "place.py")
+    check_flipped(trial)
+    check_small(trial)
     for names in EXAMPLES:
         check_example(trial, *names)
     for seed in range(DEVICES):

@@ -60,6 +60,26 @@ def check_faults(trial):
         trial.check(f"plan.parse of {text[:20]!r}", told.startswith("fault: "), f"   {told}")
 
 
+# Device files with a fault that the program tells itself: fields that are missing, wrong types, numbers beyond all, other bytes.
+HOSTILE = [
+    "{",
+    "[]",
+    '{"rows":1}',
+    '{"rows":1,"cols":1,"slots":[{"LUT":1.5}]}',
+    '{"rows":1,"cols":1,"slots":[{"LUT":"4"}]}',
+    '{"rows":1,"cols":1,"slots":[{"LUT":4294967296}]}',
+    '{"rows":1,"cols":1,"slots":[{"LUT":1e400}]}',
+    '{"rows":%s,"cols":1,"slots":[{}]}' % ("9" * 5000),
+    '{"rows":9,"cols":1,"slots":[]}',
+    '{"rows":null,"cols":1,"slots":[{}]}',
+    '{"rows":1,"cols":1,"slots":[{}],"pins":{"X":[0,0]}}',
+    '{"rows":1,"cols":1,"slots":[{}],"pins":[0]}',
+    '{"rows":1,"cols":1,"slots":[{}],"":3}',
+    b'{"rows":1,"cols":1,"slots":[{"L\xd5T":4}]}',
+    b'{"rows":1,"cols":1,"slots":[{}]}\0',
+    "[" * 5000,
+]
+
 MULTIPLIES = """void P(tapa::ostream<int>& q) { for (int i = 0; i < 4; ++i) { q << i * i * i; } }
 void C(tapa::istream<int>& q) { for (int i = 0; i < 4; ++i) { q.read(); } }
 void A(tapa::istream<int>& in, tapa::ostream<int>& out) { out << 5; in.read(); }
@@ -144,7 +164,7 @@ def check_overrides(trial):
 def check_hostile(trial, tool):
     """Device files with a fault get the program's own line and status; missing files and wrong words a line."""
     source = trial.put("multiplies.cpp", MULTIPLIES)
-    for text in ("{", "[]", '{"rows":1}', '{"rows":1,"cols":1,"slots":[{"LUT":1.5}]}', '{"rows":9,"cols":1,"slots":[]}', '{"rows":1,"cols":1,"slots":[{}],"pins":{"X":[0,0]}}', "[" * 5000):
+    for text in HOSTILE:
         path = trial.put("hostile.json", text)
         said = trial.run(["plan", source, "T", path])
         told = run_tool(tool, source, "T", path, program=trial.program)
