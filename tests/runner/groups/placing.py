@@ -117,6 +117,8 @@ SHORT = [
     ({"slots": [[100, 1000, 0, 6], [200, 50]], "forbidden": [[0, 0]]}, ["P$0 needs 6 DSP, and no slot has more than 0"]),
     ({"slots": [[400, 1000, 0, 6], [100, 100]], "pins": {"P$0": [0, 1], "C$1": [0, 1]}}, ["the tasks pinned to slot 0 1 need 6 DSP, and it has 0"]),
     ({"slots": [[], []], "forbidden": [[0, 0], [0, 1]]}, ["P$0 needs 74 LUT, and no slot has more than 0"]),
+    ({"slots": [[], []], "forbidden": [[0, 0], [0, 1]], "tasks": {"P": {}, "C": {}, "A": {}, "B": {}}}, ["no slot is open: all are forbidden"]),
+    ({"slots": [[2**32 - 1] * 4, [2**32 - 1] * 4], "tasks": {"P": {"LUT": 2**32 - 1}, "C": {"LUT": 2**32 - 1}, "A": {}, "B": {}}}, []),
     ({"slots": [[400, 1000, 0, 6], [100, 100]]}, []),
 ]
 
