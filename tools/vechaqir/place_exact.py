@@ -88,7 +88,7 @@ def cannot_fit(graph: Graph, board: Board) -> bool:
         if slot is not None:
             rooms[slot] = [has - need for has, need in zip(rooms[slot], needs)]
     nodes = sorted((needs for needs, slot in zip(graph.needs, graph.fixed) if slot is None), key=lambda needs: (sum(needs), needs), reverse=True)
-    waiting: List[State] = [(0, tuple(sorted(map(tuple, rooms))))] if all(has >= 0 for room in rooms for has in room) else []
+    waiting: List[State] = [(0, tuple(sorted(tuple(room) for room in rooms)))] if all(has >= 0 for room in rooms for has in room) else []
     seen: Set[State] = set(waiting)
     while waiting and len(seen) <= STEPS:
         count, left = waiting.pop()
