@@ -1,7 +1,7 @@
 """What each task of a program uses of a device, by the program's own numbers; and which resource is short where a plan has no room.
 
-The numbers come from plans on one slot that holds everything: the first shows all instances, and a further one for each leaf task, in which every
-other task uses nothing, what its instances use.
+The numbers come from plans on one slot that holds everything: the first shows all instances, and a further one for each leaf task of which a device file
+does not give it, in which every other task uses nothing, what its instances use.
 """
 from __future__ import annotations
 
@@ -58,13 +58,15 @@ def estimate(program: Program, source: str, top: str, fixed: Optional[Mapping[st
     plans.Refused where the program refuses the source; NoProgram and TimedOut as its calls.
     """
     given = dict(fixed or {})
-    whole = plans.ask(program, source, top, devices.one_slot(given).text())
+    whole = plans.ask(program, source, top, devices.one_slot().text())
     found = Estimate({}, list(whole.tasks), {stream.name: stream.width for stream in whole.streams})
     counts = found.counts()
     for task, count in counts.items():
+        if task in given:
+            found.tasks[task] = list(given[task])
+            continue
         others = {other: NOTHING for other in counts if other != task}
-        kept = {task: given[task]} if task in given else {}
-        alone = plans.ask(program, source, top, devices.one_slot({**others, **kept}).text())
+        alone = plans.ask(program, source, top, devices.one_slot(others).text())
         found.tasks[task] = [use // count for use in alone.used()]
     return found
 
@@ -84,7 +86,7 @@ def shortage(program: Program, source: str, top: str, device: str) -> List[str]:
 
 def shortages(found: Estimate, known: Device, groups: Sequence[Sequence[str]]) -> List[str]:
     """Why no plan can have room: a line for each resource of which a group needs more than any slot has, pinned tasks more than their slot, or all
-    tasks more than all slots; the greatest lack first. `groups` are the instances that share a slot."""
+    tasks more than all slots; the greatest lack first, or that no slot is open. `groups` are the instances that share a slot."""
     rooms = rooms_of(known)
     largest = [max(column) for column in zip(*rooms)]
     lines: List[Tuple[float, str]] = []
@@ -98,6 +100,8 @@ def shortages(found: Estimate, known: Device, groups: Sequence[Sequence[str]]) -
         row, col = known.place(slot)
         lines += _lacking(f"the tasks pinned to slot {row} {col} need", found.uses(labels), rooms[slot], "it has", known.percent)
     lines += _lacking("all tasks together need", found.uses(found.labels), added(rooms), "all slots have", known.percent)
+    if not lines and all(map(known.is_forbidden, range(len(rooms)))):
+        return ["no slot is open: all are forbidden"]
     return [line for _, line in sorted(lines, key=lambda one: -one[0])]
 
 
@@ -157,8 +161,6 @@ def _crowded_lines(found: Estimate, known: Device, group: Sequence[str], left: M
     """What a group needs, which of the open slots comes nearest to it, and how full all slots would be."""
     needs = found.uses(group)
     lacks = [max((_times(need, has), at) for at, (need, has) in enumerate(zip(needs, room))) + (slot,) for slot, room in left.items()]
-    if not lacks:
-        return ["no slot is open: all are forbidden"]
     _, at, slot = min(lacks)
     row, col = known.place(slot)
     return [

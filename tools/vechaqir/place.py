@@ -8,7 +8,7 @@ from dataclasses import dataclass, field
 from typing import Dict, List, NamedTuple, Optional, Sequence, Tuple
 
 from . import estimate as estimates
-from . import place_graph, place_groups, place_run, script
+from . import place_exact, place_graph, place_groups, place_run, script
 from . import plan as plans
 from .device import Device, SlotPlace
 from .estimate import Estimate
@@ -85,7 +85,8 @@ def place(request: Request, seed: int, limits: Limits, is_by_levels: bool, tell:
     graph, board = problem_of(request, is_by_levels)
     result = place_run.run(graph, board, seed, limits, tell)
     if not result.best():
-        none = "no placement fits" if result.is_least else f"no placement was found that fits, in {len(result.layouts)} attempts"
+        is_known = result.is_least or place_exact.cannot_fit(graph, board)
+        none = "no placement fits" if is_known else f"no placement was found that fits, in {len(result.layouts)} attempts"
         raise NoPlacement([none, estimates.fullest(request.found, request.device)])
     tried = [checked(request, board, result, it) for it in cheapest(result.layouts, FEW if is_by_levels else 1)]
     return min(tried, key=lambda placement: registers(placement.plan)) if is_by_levels else tried[0]

@@ -1,13 +1,17 @@
-"""The cheapest layout of a small graph, by branch and bound over all layouts."""
+"""The cheapest layout of a small graph, by branch and bound over all layouts; and whether there is a layout at all."""
 from __future__ import annotations
 
-from typing import List, NamedTuple, Optional
+from typing import List, NamedTuple, Optional, Set, Tuple
 
 from .place_anneal import Found
 from .place_graph import Board, Graph
 
 # Graphs of more free nodes are not looked through, nor further than so many steps, about a second of work.
 NODES, STEPS = 24, 50_000
+
+
+# How many nodes stand in a slot, and what each slot has left.
+State = Tuple[int, Tuple[Tuple[int, ...], ...]]
 
 
 class Searched(NamedTuple):
@@ -74,3 +78,29 @@ def search(graph: Graph, board: Board, best: Optional[Found]) -> Searched:
     looked = Search(graph, board, best)
     looked.place(0, 0)
     return Searched(looked.best, looked.steps < STEPS)
+
+
+def cannot_fit(graph: Graph, board: Board) -> bool:
+    """Whether it is known, after at most STEPS, that no layout fits. Nodes are put into slots, those with the greatest needs first, and slots with the
+    same room left count as one."""
+    rooms = [list(room) for room in board.rooms]
+    for needs, slot in zip(graph.needs, graph.fixed):
+        if slot is not None:
+            rooms[slot] = [has - need for has, need in zip(rooms[slot], needs)]
+    nodes = sorted((needs for needs, slot in zip(graph.needs, graph.fixed) if slot is None), key=lambda needs: (sum(needs), needs), reverse=True)
+    waiting: List[State] = [(0, tuple(sorted(tuple(room) for room in rooms)))] if all(has >= 0 for room in rooms for has in room) else []
+    seen: Set[State] = set(waiting)
+    while waiting and len(seen) <= STEPS:
+        count, left = waiting.pop()
+        if count == len(nodes):
+            return False
+        for room in set(left):
+            rest = tuple(has - need for has, need in zip(room, nodes[count]))
+            if min(rest, default=0) >= 0:
+                others = list(left)
+                others.remove(room)
+                state = (count + 1, tuple(sorted(others + [rest])))
+                if state not in seen:
+                    seen.add(state)
+                    waiting.append(state)
+    return not waiting

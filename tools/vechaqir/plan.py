@@ -16,7 +16,7 @@ class Refused(Exception):
     """The program answered a call with another status than 0; its lines on standard error are the text."""
 
     def __init__(self, outcome: Outcome) -> None:
-        super().__init__(outcome.err.decode("utf-8", "replace").strip())
+        super().__init__(outcome.err.decode("utf-8", "replace").rstrip("\n"))
         self.outcome = outcome
 
 

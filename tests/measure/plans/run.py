@@ -186,6 +186,7 @@ def table(suite, most, names):
 
 
 def write(suite, names):
+    os.makedirs(suite.folder, exist_ok=True)
     for name in names:
         prepared = Prepared(suite, name)
         front = name.replace(" ", "_")

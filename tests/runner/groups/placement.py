@@ -6,22 +6,37 @@ import os
 import random
 import re
 
-from runner.groups.placing import check_hostile, grid_of, run_tool
+from runner.groups.placing import MULTIPLIES, check_hostile, grid_of, run_tool
 from runner.groups.plans import Case, source_of
 from runner.trial import ROOT
 from vechaqir import device as devices
-from vechaqir import place, place_levels, program, svg
+from vechaqir import place, place_exact, place_graph, place_levels, program, svg
 
 # Random devices of small programs that the gate tries; tests/measure/plans/run.py tries more.
 DEVICES = 12
 # Random programs of a few tasks on which the search alone is tried, without the look through all layouts; and the attempts at each.
 SEARCHED, ATTEMPTS = 20, 3
+# Bytes of a device file that are made others, one at a time.
+FLIPS = 12
+# Nodes and slots at random of which all layouts are looked through.
+PACKED = 200
 
 # Designs with their files in the repository, a device, and the words of place.py.
 EXAMPLES = [
     ("vector_add", "VecAdd", {"slots": [[700, 4000], [700, 4000]], "percent": 70}, []),
     ("two_ways", "TwoWays", {"slots": [[400, 4000]] * 4, "percent": 100, "pins": {"Filter$1": [1, 1]}, "forbidden": [[0, 1]]}, ["--levels"]),
     ("systolic", "Product", {"slots": [[1100, 9000, 0, 20]] * 4, "percent": 80, "levels_rows": [3], "levels_cols": [1]}, []),
+]
+
+# Devices for tasks of 192 LUT in three groups, what is answered, and parts of what is told: slots that they fill to 95 percent, slots with a LUT less than all
+# need, slots with enough of them but not for these groups, slots of which none is open, and tasks that are as large as can be.
+LARGEST, FREE = {"LUT": 2**32 - 1}, {"P": {}, "C": {}, "A": {}, "B": {}}
+SMALL = [
+    ({"slots": [[118, 900, 0, 6], [84, 900, 0, 6]]}, 0, ["no placement costs less"]),
+    ({"slots": [[118, 900, 0, 6], [73, 900, 0, 6]]}, 4, ["all tasks together need 192 LUT, and all slots have 191 (at 100 percent): 1 LUT are missing"]),
+    ({"slots": [[100, 900, 0, 6], [102, 900, 0, 6]]}, 4, ["no placement fits", "all tasks together need 192 LUT of the 202 of all slots"]),
+    ({"slots": [[], []], "forbidden": [[0, 0], [0, 1]], "tasks": FREE}, 4, ["no slot is open: all are forbidden"]),
+    ({"slots": [[2**32 - 1], [2**32 - 1]], "tasks": {**FREE, "P": LARGEST, "C": LARGEST}}, 0, ["cost 33, "]),
 ]
 
 
@@ -162,6 +177,53 @@ def check_orders(trial):
     trial.check("a device without room is told as such", (status, out) == (4, "") and f"all tasks together need {uses} LUT" in err, f"   {err}")
 
 
+def check_flipped(trial):
+    """A device file in which a bit of one byte is another: the program's own refusal, or an answer as on any device."""
+    source, some = trial.put("multiplies.cpp", MULTIPLIES), random.Random(3)
+    text = grid_of({"slots": [[190, 900, 0, 6]] * 4, "pins": {"C$1": [1, 0]}, "forbidden": [[0, 1]], "tasks": {"C": {"LUT": 30}}}, rows=2).encode()
+    for at in [some.randrange(len(text)) for _ in range(FLIPS)]:
+        flipped = bytearray(text)
+        flipped[at] ^= 1 << some.randrange(8)
+        device = trial.put("flipped.json", bytes(flipped))
+        said = trial.run(["plan", source, "T", device])
+        (status, out, err), _ = placed(trial, source, "T", device, "--attempts", "1")
+        own = (status, out, err) == (said.status, "", said.err.decode())
+        is_answer = status in (0, 4) and bool(out) == (status == 0) and err.startswith("tools/place.py: ") and said.status in (status, 4)
+        trial.check(f"a device with another byte at {at}", is_answer if said.status in (0, 4) else own, f"   {bytes(flipped)} {said} {status} {err}")
+
+
+def check_small(trial):
+    """A small program on the devices of SMALL: its answer and that of `--plan exact`, and what is told."""
+    source = trial.put("multiplies.cpp", MULTIPLIES)
+    for given, status, words in SMALL:
+        device = trial.put("small.json", grid_of(given))
+        exact = trial.run(["plan", source, "T", device, "--plan", "exact"])
+        (told, out, err), pinned = placed(trial, source, "T", device, "--attempts", "2")
+        holds = (told, exact.status) == (status, status) and all(part in err for part in words)
+        taken = cost_of(trial.run(["plan", source, "T", pinned])) == cost_of(exact) if out else status == 4
+        trial.check(f"a small program on {given['slots']}", holds and taken, f"   {exact} {told} {err}")
+
+
+def check_packing(trial):
+    """Whether no layout fits, beside all layouts; and on slots of which each holds one of nine tasks alike, which are too many to look through."""
+    some, wrong = random.Random(5), []
+    for _ in range(PACKED):
+        count, slots, kinds = some.randint(1, 5), some.randint(1, 3), some.randint(0, 2)
+        needs, rooms = ([[some.randint(0, top) for _ in range(kinds)] for _ in range(many)] for many, top in ((count, 9), (slots, 20)))
+        fixed = [some.randrange(slots) if some.random() < 0.2 else None for _ in range(count)]
+        layouts = [at for at in itertools.product(range(slots), repeat=count) if all(pin in (None, slot) for pin, slot in zip(fixed, at))]
+        fits = any(all(sum(needs[node][kind] for node in range(count) if at[node] == slot) <= rooms[slot][kind] for slot in range(slots) for kind in range(kinds)) for at in layouts)
+        graph, board = place_graph.Graph(needs, [[] for _ in needs], fixed), place_graph.Board(list(range(slots)), rooms, [[0] * slots for _ in rooms])
+        if place_exact.cannot_fit(graph, board) == fits:
+            wrong.append((needs, rooms, fixed))
+    trial.check("what cannot fit, beside all layouts", not wrong, f"   {wrong[:3]}")
+    source = trial.put("nine.cpp", source_of(9, [(task, task + 1, "int") for task in range(8)]))
+    device = trial.put("eight.json", grid_of({"slots": [[100]] * 8, "tasks": {f"T{task}": {"LUT": 60} for task in range(9)}}, rows=2))
+    (status, out, err), _ = placed(trial, source, "T", device, "--attempts", "1")
+    told = "tools/place.py: no placement fits\ntools/place.py: all tasks together need 540 LUT of the 800 of all slots (at 100 percent)\n"
+    trial.check_equal("nine tasks on eight slots", (status, out, err), (4, "", told))
+
+
 def texts_of(drawn):
     """The texts of a picture, each as the box that it covers: left, top, right, bottom."""
     for found in re.finditer(r'<text x="([\d.]+)" y="([\d.]+)" font-size="([\d.]+)"( text-anchor="(?:middle|end)")?( font-weight="bold")?[^>]*>([^<]*)<', drawn):
@@ -201,6 +263,9 @@ def check_drawings(trial):
 def try_all(trial):
     check_drawings(trial)
     check_hostile(trial, "place.py")
+    check_flipped(trial)
+    check_small(trial)
+    check_packing(trial)
     for names in EXAMPLES:
         check_example(trial, *names)
     for seed in range(DEVICES):

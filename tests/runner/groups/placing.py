@@ -60,6 +60,26 @@ def check_faults(trial):
         trial.check(f"plan.parse of {text[:20]!r}", told.startswith("fault: "), f"   {told}")
 
 
+# Device files with a fault that the program tells itself: fields that are missing, wrong types, numbers beyond all, other bytes.
+HOSTILE = [
+    "{",
+    "[]",
+    '{"rows":1}',
+    '{"rows":1,"cols":1,"slots":[{"LUT":1.5}]}',
+    '{"rows":1,"cols":1,"slots":[{"LUT":"4"}]}',
+    '{"rows":1,"cols":1,"slots":[{"LUT":4294967296}]}',
+    '{"rows":1,"cols":1,"slots":[{"LUT":1e400}]}',
+    '{"rows":%s,"cols":1,"slots":[{}]}' % ("9" * 5000),
+    '{"rows":9,"cols":1,"slots":[]}',
+    '{"rows":null,"cols":1,"slots":[{}]}',
+    '{"rows":1,"cols":1,"slots":[{}],"pins":{"X":[0,0]}}',
+    '{"rows":1,"cols":1,"slots":[{}],"pins":[0]}',
+    '{"rows":1,"cols":1,"slots":[{}],"":3}',
+    b'{"rows":1,"cols":1,"slots":[{"L\xd5T":4}]}',
+    b'{"rows":1,"cols":1,"slots":[{}]}\0',
+    "[" * 5000,
+]
+
 MULTIPLIES = """void P(tapa::ostream<int>& q) { for (int i = 0; i < 4; ++i) { q << i * i * i; } }
 void C(tapa::istream<int>& q) { for (int i = 0; i < 4; ++i) { q.read(); } }
 void A(tapa::istream<int>& in, tapa::ostream<int>& out) { out << 5; in.read(); }
@@ -97,6 +117,8 @@ SHORT = [
     ({"slots": [[100, 1000, 0, 6], [200, 50]], "forbidden": [[0, 0]]}, ["P$0 needs 6 DSP, and no slot has more than 0"]),
     ({"slots": [[400, 1000, 0, 6], [100, 100]], "pins": {"P$0": [0, 1], "C$1": [0, 1]}}, ["the tasks pinned to slot 0 1 need 6 DSP, and it has 0"]),
     ({"slots": [[], []], "forbidden": [[0, 0], [0, 1]]}, ["P$0 needs 74 LUT, and no slot has more than 0"]),
+    ({"slots": [[], []], "forbidden": [[0, 0], [0, 1]], "tasks": {"P": {}, "C": {}, "A": {}, "B": {}}}, ["no slot is open: all are forbidden"]),
+    ({"slots": [[2**32 - 1] * 4, [2**32 - 1] * 4], "tasks": {"P": {"LUT": 2**32 - 1}, "C": {"LUT": 2**32 - 1}, "A": {}, "B": {}}}, []),
     ({"slots": [[400, 1000, 0, 6], [100, 100]]}, []),
 ]
 
@@ -144,7 +166,7 @@ def check_overrides(trial):
 def check_hostile(trial, tool):
     """Device files with a fault get the program's own line and status; missing files and wrong words a line."""
     source = trial.put("multiplies.cpp", MULTIPLIES)
-    for text in ("{", "[]", '{"rows":1}', '{"rows":1,"cols":1,"slots":[{"LUT":1.5}]}', '{"rows":9,"cols":1,"slots":[]}', '{"rows":1,"cols":1,"slots":[{}],"pins":{"X":[0,0]}}', "[" * 5000):
+    for text in HOSTILE:
         path = trial.put("hostile.json", text)
         said = trial.run(["plan", source, "T", path])
         told = run_tool(tool, source, "T", path, program=trial.program)
