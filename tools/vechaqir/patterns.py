@@ -85,7 +85,7 @@ def is_field(view: View, at: int) -> bool:
 FILES: List[Pattern] = [
     Pattern("`main`", "P1", "file", ("@int main", "@ANY"), is_item("main")),
     Pattern("a template", "P1", "file", ("@template",)),
-    Pattern("a namespace or `extern \"C\"`", "P1", "file", ("@namespace", "@extern")),
+    Pattern("a namespace or `extern \"C\"`", "P1", "file", ("@namespace", "@extern"), lambda view, at: view.text(at - 1) != "using"),
     Pattern("an array of the file", "P1", "file", ("const|constexpr KIND NAME @[", "@static|constexpr|const ... KIND NAME [", "@KIND NAME ["), lambda view, at: is_array(view, at)),
     Pattern("a `constexpr` function", "P1", "", ("constexpr KIND NAME @(", "@static|inline constexpr KIND NAME (")),
     Pattern("a constant with `static`", "P1", "file", ("@static const|constexpr", "@inline const|constexpr"), is_item("constant")),
@@ -112,6 +112,7 @@ HEADS: List[Pattern] = [
     Pattern("`const` before a stream or a memory", "P1", "head", ("const @tapa ::", "tapa :: istream|ostream < @const")),
     Pattern("a depth at a parameter", "P1", "head", ("tapa :: istream|ostream < KIND @,", "tapa :: istream|ostream < NAME @,")),
     Pattern("a stream parameter without `&`", "P1", "head", ("tapa :: istream|ostream <..> @NAME", "tapa :: istream|ostream <..> @&&")),
+    Pattern("`vec_t`, `hls::vector`", "P1", "", ("@hls :: vector", "hls @:: vector")),
     Pattern("`hls::stream`", "P1", "", ("@hls ::", "hls @::")),
     Pattern("a scalar by reference or pointer", "P1", "head", ("KIND @&", "KIND @*", "NAME @&", "NAME @*")),
     Pattern("an array as a parameter", "P1", "head", ("NAME @[",)),
@@ -123,7 +124,7 @@ HEADS: List[Pattern] = [
 KINDS: List[Pattern] = [
     Pattern("`ap_uint`, `ap_int`", "P1 C1", "", (f"@{WHOLE} <", f"{WHOLE} @<", f"tapa :: @streams < {WHOLE}")),
     Pattern("`ap_fixed`, `ap_ufixed`", "P1 C1", "", (f"@{FIXED} <", f"{FIXED} @<")),
-    Pattern("`vec_t`", "P1", "", ("tapa :: @vec_t", "@tapa :: vec_t", "@vec_t", "tapa :: @streams < tapa :: vec_t")),
+    Pattern("`vec_t`, `hls::vector`", "P1", "", ("tapa :: @vec_t", "@tapa :: vec_t", "@vec_t", "tapa :: @streams < tapa :: vec_t")),
     Pattern("a container of `std`", "P1", "", ("std :: @vector|array|deque|queue|string|pair|tuple|complex|map|list", "@std :: vector|array|pair|string|complex")),
     Pattern("`char`, `signed`", "P1", "", ("@char|signed|wchar_t", "unsigned @char", "tapa :: @streams < char|signed")),
     Pattern("the words of a kind in another order", "P1", "", ("int @long|short|unsigned", "long|short @unsigned", "KIND @const NAME")),
