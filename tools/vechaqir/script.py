@@ -5,7 +5,7 @@ import os
 import signal
 import subprocess
 import sys
-from typing import Callable, List, NoReturn, Optional, TextIO, Union, cast
+from typing import Callable, List, NoReturn, Optional, Sequence, TextIO, Union, cast
 
 
 class Usage(Exception):
@@ -14,6 +14,24 @@ class Usage(Exception):
 
 class Fault(Exception):
     """Something outside is not as it must be; the sentence says what."""
+
+
+class Told(ValueError):
+    """What the program told, in its own words; `words` are those of a command that is told the same, by which it can be explained."""
+
+    def __init__(self, text: str, words: Sequence[str]) -> None:
+        super().__init__(text)
+        self.words = list(words)
+
+
+def shown(messages: str, words: Sequence[str]) -> str:
+    """Messages of the program; on a terminal each with its explanation, as `./tapa` shows it there."""
+    if not messages or not sys.stderr.isatty():
+        return messages
+    from . import explain
+    explainer = explain.Explainer(explain.Command(list(words)))
+    lines = [it for line in messages.splitlines() for it in (line, *explainer.safely(line))]
+    return "".join(f"{it}\n" for it in lines + explainer.ended())
 
 
 def told(why: BaseException) -> str:
@@ -84,6 +102,9 @@ def run(name: str, page: Optional[str], main: Callable[[List[str]], int]) -> NoR
     except KeyboardInterrupt:
         signal.signal(signal.SIGINT, signal.SIG_DFL)
         os.kill(os.getpid(), signal.SIGINT)
+        status = 1
+    except Told as why:
+        sys.stderr.write(f"{name}: {shown(f'{why}{os.linesep}', why.words)}")
         status = 1
     except (Fault, LookupError, OSError, ValueError, TypeError, AttributeError, MemoryError, RecursionError, subprocess.SubprocessError) as why:
         sys.stderr.write(f"{name}: {told(why)}\n")

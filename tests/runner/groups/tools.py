@@ -248,6 +248,15 @@ def with_terminal(words, folder):
     return ran.wait(), out.decode(), shown.decode().replace("\r\n", "\n")
 
 
+def try_messages(trial):
+    """Tools that call the program pass on what it tells, on a terminal with its explanation."""
+    for tool in ("report", "profile", "look", "testbench"):
+        words = ["env", f"TAPA={trial.program}", sys.executable, f"tools/{tool}.py", "examples/vector_add.cpp", "VecAdd", "examples/systolic.json"]
+        status, out, shown = with_terminal(words, ROOT)
+        front = "tapa: examples/systolic.json: J2 scalars.n\n      = `scalars` has no `n`, a `uint64_t`: `VecAdd` needs a number for it\n"
+        trial.check(f"{tool}.py explains a message on a terminal", status in (1, 3) and out == "" and front in shown and "Traceback" not in shown, f"   {status} {shown}")
+
+
 def repository(trial, name, has_program=True):
     """A folder with what `./tapa` needs, and the program as if it had been proved there."""
     folder = os.path.join(trial.folder.name, name)
@@ -334,6 +343,7 @@ def try_gate(trial):
 
 def try_all(trial):
     try_explain(trial)
+    try_messages(trial)
     try_gate(trial)
     try_script(trial)
     try_unproved(trial)
