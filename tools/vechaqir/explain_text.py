@@ -124,8 +124,7 @@ def other_length(case: Case) -> Why:
     opening = view.enclosing(case.at) or 0
     count = view.text(opening - 2)
     number = view.source.counts.get(count, count)
-    return Why([f"`{case.word()}` has {counted(length or 0, 'element')}, and this invoke makes {number} instances"],
-               f"as many instances as elements: `invoke<tapa::join, {length}>`, or single invokes with `{case.word()}[0]`, `{case.word()}[1]`, ..")
+    return of_row("a counted invoke of a longer array")._replace(says=[f"`{case.word()}` has {counted(length or 0, 'element')}, and this invoke makes {number} instances"])
 
 
 def out_of_place(case: Case) -> Why:

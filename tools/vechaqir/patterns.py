@@ -2,6 +2,7 @@
 docs/FROM_TAPA.md of the same construct."""
 from typing import Callable, Dict, Iterator, List, NamedTuple, Optional, Tuple
 
+from .elements import use_at
 from .patterns_match import RESERVED, SORTS, View, compiled, matches
 
 PRINTING = ("printf|fprintf|LOG|VLOG|LOG_IF|CHECK|CHECK_EQ|CHECK_NE|CHECK_LT|CHECK_LE|CHECK_GT|CHECK_GE|DCHECK|DCHECK_EQ|assert|CLOG|PRINT")
@@ -72,14 +73,22 @@ def is_helper_static(view: View, at: int) -> bool:
 
 
 def is_called(view: View, at: int) -> bool:
-    """The `(` of a call of something that is no method and no invoke."""
-    return view.text(at - 2) not in (".", "::", "->") and view.text(at - 1) not in ("invoke", "task")
+    """The `(` of a call of something that is no method, no invoke and no stream with a name."""
+    return view.kind(at + 1) != "text" and view.text(at - 2) not in (".", "::", "->") and view.text(at - 1) not in ("invoke", "task")
 
 
 def is_field(view: View, at: int) -> bool:
     """What stands behind `a.b` or `m[0].b` where no call and no channel of a memory is."""
     channels = ("read_addr", "read_data", "write_addr", "write_data", "write_resp", "invoke")
-    return view.text(at - 1) not in channels and not (view.text(at - 1) == "]" and view.text(at + 2) == "(")
+    return view.text(at - 1) not in channels and view.text(at + 1) != "invoke" and not (view.text(at - 1) == "]" and view.text(at + 2) == "(")
+
+
+def is_in_turn(is_counted: bool) -> Callable[[View, int], bool]:
+    """A test whether an array stands whose elements are handed out one after another, in an invoke that is counted or in one that is not."""
+    def holds(view: View, at: int) -> bool:
+        use = use_at(view, at)
+        return use is not None and use.is_counted == is_counted
+    return holds
 
 
 FILES: List[Pattern] = [
@@ -97,7 +106,7 @@ FILES: List[Pattern] = [
     Pattern("a struct", "P1", "", ("@struct|class|union",)),
     Pattern("an enumeration", "P1", "", ("@enum",)),
     Pattern("a declaration of a task", "P1", "", ("void NAME (..) @;",)),
-    Pattern("a `;` behind a task", "P1", "file", ("} @;",)),
+    Pattern("a `;` behind a task", "P1", "file", ("} @;",), lambda view, at: view.text(view.open.get(at - 1, 0) - 1) not in ("=", "]")),
     Pattern("`float`, `double`, `half`", "P1", "", ("@float|double", "half @NAME", "< @half", "tapa :: @streams < float|double|half")),
     Pattern("a variable of the file", "P1", "file", ("@ANY",), is_item("variable")),
     Pattern("`auto`", "P1", "file", ("const|constexpr @auto",)),
@@ -141,6 +150,8 @@ UPPERS: List[Pattern] = [
     Pattern("a computed count", "P1", "upper", ("invoke < tapa :: NAME @, WORD|NUMBER OPERATOR", "invoke < tapa :: NAME @, (")),
     Pattern("a computed number of streams", "P1", "upper", (
         "tapa :: @streams < .. , (", "tapa :: @streams < .. , NUMBER|NAME OPERATOR", "tapa :: @streams < .. , NUMBER|NAME , (", "tapa :: @streams < .. , NUMBER|NAME , NUMBER|NAME OPERATOR")),
+    Pattern("an array of streams as one argument", "A3", "upper", (", @NAME",), is_in_turn(False)),
+    Pattern("a counted invoke of a longer array", "A2", "upper", (", @NAME",), is_in_turn(True)),
     Pattern("a computed depth", "P1", "upper", ("tapa :: stream < .. , NUMBER|NAME @OPERATOR",)),
     Pattern("a stream's name in braces", "P1", "upper", ("NAME @{ TEXT }", "tapa :: @streams <..> NAME {")),
     Pattern("a chain with a name", "P1", "", ("tapa :: task @NAME", "@tapa :: task NAME")),
