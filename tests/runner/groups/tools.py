@@ -175,6 +175,9 @@ def try_data_tools(trial):
             _, made, err = run_tool("template.py", source, top, "8")
             said = trial.run(["run", source, top, trial.put("t.json", made), "--steps", "10000"], ROOT)
             trial.check(f"the template of {name} is a data file of it", said.status in (0, 7, 8), f"   {said} {err}")
+    for words, status, part in ((["examples/vector_add.cpp", "Add"], 1, "Add invokes no task, so it is no top task: examples/vector_add.cpp has VecAdd"), (["examples/vector_add.cpp", "VecAdd", "65537"], 2, "CELLS: 65537 is no")):
+        said = run_tool("template.py", *words)
+        trial.check(f"template.py {' '.join(words)}", said[:2] == (status, "") and part in said[2], f"   {said}")
     said = trial.run(["run", "examples/vector_add.cpp", "VecAdd", "examples/vector_add.json"], ROOT)
     _, shown, _ = run_tool("signed.py", "examples/vector_add.cpp", "VecAdd", given=said.out.decode())
     wanted = said.out.decode().replace("4294967246", "-50").replace("4294967251", "-45")
