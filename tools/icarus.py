@@ -7,7 +7,6 @@ Needs `iverilog` and `vvp` (11 or later). DATA is a data file (docs/DATA.md). A 
 their ready lists. Registers begin unknown, as IEEE 1364-2005 says. --dump writes a waveform of all nets, for GTKWave and others (docs/VERILOG.md, "A task's nets", says what
 they are; a cycle is 10 units of time), and --bench the testbench.
 """
-import json
 import os
 import re
 import shutil
@@ -19,7 +18,7 @@ import tempfile
 sys.dont_write_bytecode = True
 # Until the modules are there Ctrl-C ends the script without a word; `script.run` says it by itself from then on.
 signal.signal(signal.SIGINT, signal.SIG_DFL)
-from vechaqir import script  # noqa: E402
+from vechaqir import data as inputs, script  # noqa: E402
 
 PORT = re.compile(r"(input|output)\s*(?:\[\s*(\d+)\s*:\s*0\s*\])?\s*([\w$]+)")
 WIRE = re.compile(r"^\s*wire\s*(?:\[\s*(\d+)\s*:\s*0\s*\])?\s*([\w$]+)\s*;", re.M)
@@ -27,9 +26,20 @@ WIRE = re.compile(r"^\s*wire\s*(?:\[\s*(\d+)\s*:\s*0\s*\])?\s*([\w$]+)\s*;", re.
 
 def top_of(text):
     """The last module: its name, its ports as (direction, bits, name), and the bits of its wires by name."""
-    name, ports, body = re.findall(r"\bmodule\s+([\w$]+)\s*\((.*?)\)\s*;(.*?)\bendmodule\b", text, re.S)[-1]
+    modules = re.findall(r"\bmodule\s+([\w$]+)\s*\((.*?)\)\s*;(.*?)\bendmodule\b", text, re.S)
+    if not modules:
+        raise script.Fault("this is no circuit that `tapa build` wrote: it has no module")
+    name, ports, body = modules[-1]
     bits = lambda high: int(high) + 1 if high else 1
     return name, [(way, bits(high), port) for way, high, port in PORT.findall(ports)], {wire: bits(high) for high, wire in WIRE.findall(body)}
+
+
+def missing(ports, data, name):
+    """script.Fault where a scalar or a memory of the circuit is not in the data, or has another shape there."""
+    for _, _, port in ports:
+        group, label, shape = ("scalars", port[2:], int) if port.startswith("v_") else ("memories", port[2:-4], list) if port.endswith("_ack") else ("", "", object)
+        if group and not isinstance(data[group].get(label), shape):
+            raise script.Fault(f"{name}: {group} has no {label}, {'a number' if shape is int else 'a list of numbers'}, which the circuit takes")
 
 
 def memory_lines(name, bits, cells, ready):
@@ -146,12 +156,13 @@ def main(given):
             given = given[:at] + given[at + 2:]
     if len(given) not in (2, 3):
         raise script.Usage()
+    if not options["--cycles"].isdecimal():
+        raise script.Usage(f"--cycles: {options['--cycles']} is no number")
     with open(given[1], encoding="utf-8") as file:
         text = file.read()
-    data = {}
-    if len(given) == 3:
-        with open(given[2], encoding="utf-8") as file:
-            data = json.load(file)
+    found = inputs.read(given[2]) if len(given) == 3 else inputs.Data()
+    data = {"scalars": found.scalars, "memories": found.memories, "waits": found.ready}
+    missing(top_of(text)[1], data, given[2] if len(given) == 3 else "{}")
     with tempfile.TemporaryDirectory(prefix="tapa-icarus-") as folder:
         made, ran = os.path.join(folder, "bench.v"), os.path.join(folder, "bench")
         dump = options["--dump"] or (os.path.join(folder, "bench.vcd") if options["--beside"] else None)

@@ -53,7 +53,7 @@ def main(given):
     network = source.network(read, words[1])
     passed = [it for name in ("--device", "--plan") if name in found for it in (name, found[name])]
     with tempfile.TemporaryDirectory(prefix="tapa-look-") as folder:
-        bench = profile_try.Bench(tapa, folder, words[1], data.read(words[2]) if len(words) == 3 else data.Data(), passed, int(found.get("--cycles", 0)))
+        bench = profile_try.Bench(tapa, folder, words, data.read(words[2]) if len(words) == 3 else data.Data(), passed, int(found.get("--cycles", 0)))
         shown = bench.profile(read.text)
         made = look_data.page_data(read, network, shown)
         if "--no-tries" not in found:

@@ -44,7 +44,7 @@ def built(words, found, folder):
     """The profile of the circuit that is built, and the changes that were tried."""
     given = data.read(words[2]) if len(words) == 3 else data.Data()
     passed = [it for name in ("--device", "--plan") if name in found for it in (name, found[name])]
-    bench = profile_try.Bench(program.find(), folder, words[1], given, passed, int(found.get("--cycles", 0)))
+    bench = profile_try.Bench(program.find(), folder, words, given, passed, int(found.get("--cycles", 0)))
     read = source.read(words[0])
     shown = bench.profile(read.text)
     if "--no-tries" in found:

@@ -59,7 +59,7 @@ def ran(words, found, read):
         return (said.out.decode(), said.err.decode("utf-8", "replace"), said.status), None
     with tempfile.TemporaryDirectory(prefix="tapa-report-") as folder:
         given = data.read(words[2]) if len(words) == 3 else data.Data()
-        shown = profile_try.Bench(tapa, folder, words[1], given, (), int(found.get("--cycles", 0))).profile(read.text)
+        shown = profile_try.Bench(tapa, folder, words, given, (), int(found.get("--cycles", 0))).profile(read.text)
     return (said.out.decode(), said.err.decode("utf-8", "replace"), said.status), shown
 
 
@@ -85,7 +85,7 @@ def main(given):
     else:
         print("".join(f"{line}\n" for line in look_report.lines(rows, told, "--long" in found, shown)), end="")
     sys.stdout.flush()
-    sys.stderr.write(err)
+    sys.stderr.write(script.shown(err, ["run", *words]))
     differs = look_report.first_difference(made, wanted) if wanted is not None else None
     if differs:
         sys.stderr.write(f"tools/report.py: {differs}\n")

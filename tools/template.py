@@ -3,8 +3,9 @@
 
     tools/template.py F.cpp TOP [CELLS] > F.json
 
-CELLS is how many cells each memory gets, 4 if it is not there: the list's length is the memory's size (docs/DATA.md).
+CELLS is how many cells each memory gets, up to 65536, 4 if it is not there: the list's length is the memory's size (docs/DATA.md).
 """
+import re
 import signal
 import sys
 
@@ -12,6 +13,8 @@ sys.dont_write_bytecode = True
 # Until the modules are there Ctrl-C ends the script without a word; `script.run` says it by itself from then on.
 signal.signal(signal.SIGINT, signal.SIG_DFL)
 from vechaqir import script, source  # noqa: E402
+
+MOST_CELLS = 65_536
 
 
 def template(network, cells):
@@ -22,10 +25,17 @@ def template(network, cells):
 
 
 def main(given):
-    if len(given) not in (2, 3) or len(given) == 3 and not given[2].isdecimal():
+    if len(given) not in (2, 3):
         raise script.Usage()
-    found = source.network(source.read(given[0]), given[1])
-    print(template(found, int(given[2]) if len(given) == 3 else 4))
+    cells = given[2] if len(given) == 3 else "4"
+    if not re.fullmatch("[0-9]{1,9}", cells) or int(cells) > MOST_CELLS:
+        raise script.Usage(f"CELLS: {cells} is no whole number from 0 to {MOST_CELLS}")
+    read = source.read(given[0])
+    found = source.network(read, given[1])
+    if not read.tasks[given[1]].is_upper:
+        uppers = ", ".join(it.name for it in read.tasks.values() if it.is_upper)
+        raise script.Fault(f"{given[1]} invokes no task, so it is no top task: {f'{given[0]} has {uppers}' if uppers else f'{given[0]} has none'}")
+    print(template(found, int(cells)))
     return 0
 
 

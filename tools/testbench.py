@@ -42,12 +42,11 @@ def options(given):
     return words, found
 
 
-def shown(design, given):
-    """What the run shows, with unsigned numbers. Failure where it does not end."""
-    words = ["run", design.src, design.top, "/dev/stdin"]
-    outcome = design.program.call(words, data.text_of(given).encode())
+def shown(design, words):
+    """What the run shows, with unsigned numbers. script.Told where it does not end."""
+    outcome = design.program.call(["run", *words])
     if outcome.status not in (0, 8):
-        raise script.Fault(outcome.err.decode("utf-8", "replace").strip().removeprefix("tapa: "))
+        raise script.Told(outcome.err.decode("utf-8", "replace").strip(), ["run", *words])
     return report.parse(outcome.out.decode(), outcome.err.decode())
 
 
@@ -67,13 +66,15 @@ def main(given):
     try:
         design = Design(words[0], words[1])
         inputs = data.read(words[2]) if len(words) == 3 else data.Data()
-        run = shown(design, inputs)
+        run = shown(design, words)
         if run.end != "done" and found["--device"]:
             raise script.Fault("the run stops, so there is no testbench for a device, whose streams may carry more until they stand still")
         circuit = design.build(found["--device"], found["--plan"])
         cycles = cycles_of(circuit, inputs, found["--waits"], None if run.end == "done" else run.count)
-    except (Failure, program.NoProgram) as why:
-        raise script.Fault(str(why).removeprefix("tapa: ")) from None
+    except Failure as why:
+        raise script.Told(str(why), ["build", *words[:2], *(["--device", found["--device"]] if found["--device"] else [])]) from None
+    except program.NoProgram as why:
+        raise script.Fault(str(why)) from None
     network = source.network(source.read(words[0]), words[1])
     bench = testbench.made_of(network, inputs, run, testbench.limit_of(cycles, found["--waits"]))
     text = testbench.text_of(bench, found["--waits"], "tools/testbench.py")

@@ -3,7 +3,7 @@ import os
 import re
 from typing import BinaryIO, Callable, Dict, List, Optional
 
-from . import arrays, estimate, explain_data, explain_end, explain_source, messages, pages, usage
+from . import arrays, estimate, explain_data, explain_end, explain_files, explain_source, messages, pages, usage
 from .explain_base import Why, listed, nearest
 from .explain_source import lines_of
 from .lexemes import Place
@@ -96,6 +96,10 @@ class Explainer:
 
     def at_place(self, message: Message) -> List[str]:
         told = message.place or Place(1, 1)
+        wanted = explain_files.BY_LETTER.get(message.code[0])
+        other = explain_files.other_sort(wanted, contents(message.file)) if wanted else []
+        if other:
+            return other
         source = self.source(message.file)
         if source is None or message.code in ("V1", "X1"):
             text = contents(message.file)
@@ -117,9 +121,14 @@ class Explainer:
         is_device = self.command.device == message.file if self.command.words else explain_data.looks_like_device(message.text)
         is_none = message.file == "{}" and self.command.data is None and not is_device
         given = explain_data.Given(message.file, None if is_none else contents(message.file), self.network(), is_device or message.code[0] == "K", self.command.source or "F.cpp")
+        wanted, takes = (explain_files.DEVICE, "") if given.is_device else (explain_files.DATA, given.template())
+        other = explain_files.other_sort(wanted, given.data, takes) if message.code in ("J1", "J2") else []
+        if other:
+            return other + [f"      = {given.page}"]
         is_read = given.data is not None or is_none
         why: Optional[Why] = explain_data.why(message.code, message.text, given) if is_read else None
-        return lines_of(why, message.code) if why else explain_source.general(message.code)
+        shown = explain_data.shown_fault(given.data) if message.code == "J1" and given.data else []
+        return shown + (lines_of(why, message.code) if why else explain_source.general(message.code))
 
     def status(self, message: Message) -> List[str]:
         """A message without a place."""
@@ -159,6 +168,8 @@ def unreadable(path: str, command: Command) -> List[str]:
         return [f"      = `{path}` is a folder"]
     if not os.path.exists(path):
         lines = [f"      = there is no file `{path}`"]
+        if command.words and path in command.words and command.words[command.words.index(path) - 1] == "--vcd":
+            lines.append(f"      = {usage.NO_FILE.format(path)}")
         if path == command.data and command.source and command.top:
             lines.append(f"      = instead: `tools/template.py {command.source} {command.top} > {path}` writes a data file to fill in")
         return lines

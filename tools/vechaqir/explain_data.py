@@ -11,6 +11,8 @@ from .syntax import Parameter
 DEVICE_KEYS = ("version", "rows", "cols", "slots", "levels", "levels_rows", "levels_cols", "percent", "tasks", "pins", "forbidden")
 RESOURCES = ("LUT", "FF", "BRAM", "DSP", "URAM")
 GROUPS = ("scalars", "memories", "waits")
+# How many bytes of a line are shown before and behind the place at which a file stops to be JSON.
+BEFORE, BEHIND = 60, 60
 SHAPES = {"rows": "a number", "cols": "a number", "percent": "a number", "version": "a number", "levels": "a number", "slots": "a list of objects from `LUT`, `FF`, `BRAM`, `DSP`, `URAM` to numbers",
           "levels_rows": "a list of rows - 1 numbers", "levels_cols": "a list of columns - 1 numbers", "tasks": "an object of objects as in `slots`", "pins": "an object of `[row, column]`",
           "forbidden": "a list of `[row, column]`"}
@@ -54,10 +56,22 @@ def no_json(given: Given) -> Optional[Why]:
         json_places.read(data or b"")
     except NoJson as fault:
         line, column = json_places.place(data or b"", fault.offset)
-        shown = (data or b"").decode("utf-8", "replace").split("\n")[line - 1][:200]
         says = [f"line {line}, column {column}: {fault.why}"]
-        return Why(says, "JSON (RFC 8259): keys in `\"`, no comments, no comma behind the last member", [shown] if shown.strip() else [], given.page)
+        return Why(says, "JSON (RFC 8259): keys in `\"`, no comments, no comma behind the last member", [], given.page)
     return None
+
+
+def shown_fault(data: bytes) -> List[str]:
+    """The line in which a file stops to be JSON, or the part of a long one around the place, and a line with a caret below the place."""
+    try:
+        json_places.read(data)
+    except NoJson as fault:
+        line, _ = json_places.place(data, fault.offset)
+        begin = data.rfind(b"\n", 0, fault.offset) + 1
+        first = max(begin, fault.offset - BEFORE)
+        front, behind = (it.decode("utf-8", "replace").replace("\t", " ") for it in (data[first:fault.offset], data[fault.offset:fault.offset + BEHIND].split(b"\n")[0].rstrip()))
+        return [f"{line:5} | {front}{behind}", f"      | {' ' * len(front)}^"] if (front + behind).strip() else []
+    return []
 
 
 def parameter(given: Given, key: str) -> Optional[Parameter]:
@@ -168,8 +182,7 @@ def device_shape(given: Given, key: str) -> Why:
         near = nearest(group, DEVICE_KEYS)
         return Why([f"a device file has no `{group}`{located(given, node)}"] + [f"`{near}` is meant, perhaps"] * bool(near), "one of " + listed(DEVICE_KEYS), [], given.page)
     if node is None:
-        data = " This looks like a data file: a device file is the third word of `plan`, or stands behind `--device`" if given.data and b"memories" in given.data + b"scalars" else ""
-        return Why([f"`{key}` is missing.{data}"], f"`\"{key}\"`: {SHAPES[group]}", [], given.page)
+        return Why([f"`{key}` is missing"], f"`\"{key}\"`: {SHAPES[group]}", [], given.page)
     if group in ("levels", "levels_rows", "levels_cols", "forbidden"):
         return Why([f"`{key}` has another shape, or this version of device files has it not{located(given, node)}"],
                    f"{SHAPES[group]}; `levels` in version 1, `levels_rows`, `levels_cols` and `forbidden` in version 2", [], given.page)

@@ -34,13 +34,13 @@ def unknown_top(case: Case) -> Why:
     """A top task that the source has not."""
     tasks = case.view.source.tasks
     if case.top is None or not tasks:
-        return Why(["the source has no task of the name of the top task" + (": it has none at all" if not tasks else ": it has " + listed(tasks))], "a task's name as the command's third word")
+        return Why(["the source has no task of the name of the top task" + (": it has none at all" if not tasks else ": it has " + listed(tasks))], "a task's name as `TOP`, the word behind the source's")
     invoked = {invoke.task for task in tasks.values() for invoke in task.invokes}
     uppers = [it.name for it in tasks.values() if it.is_upper]
-    tops = [name for name in uppers if name not in invoked] or uppers or list(tasks)
+    tops = [name for name in uppers if name not in invoked] or uppers
     near = nearest(case.top, tasks)
     return Why([f"the source has no task `{case.top}`; its tasks are {listed(tasks)}"] + [f"`{near}` is meant, perhaps"] * bool(near),
-               f"one that invokes others and that no other invokes: {listed(tops, 'or')}")
+               f"one that invokes others and that no other invokes: {listed(tops, 'or')}" if tops else f"an upper-level task `{case.top}`, which invokes these: `tapa::task().invoke(..)`")
 
 
 def unknown(case: Case) -> Why:

@@ -201,8 +201,10 @@ def limit(case: Case) -> Why:
     value = constant_at(case)
     more = f", and here it is {value}" if value is not None else ""
     if matches(view, "tapa :: stream|streams < ... , @ANY", at) and view.text(at + 1) in (">", ",") or view.text(at) == "(" and view.text(view.close.get(at, at) + 1) == ">":
-        return Why([f"a stream's depth is 1 to {most}{more}"], "a smaller depth; what must wait longer belongs into a memory")
+        return Why([f"a stream's depth is 1 to {most}{more}"], "a smaller depth; what must wait longer belongs into a memory" if value is None or value > 0 else "a depth of at least 1; without one it is 2")
     if view.text(at - 1) == "[":
+        if most == "4096" and value is not None and value < 1:
+            return Why([f"an array has 1 to {most} cells{more}"], "at least one cell")
         if most == "4096":
             return Why([f"an array has 1 to {most} cells{more}"], "a smaller array, or a memory of the top task", ["m[0] = n;"])
         return Why([f"the arrays of a task have {most} cells together at the most, which this one passes"], "smaller arrays, a memory, or several tasks")

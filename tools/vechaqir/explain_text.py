@@ -3,11 +3,12 @@ import re
 from typing import List, Optional
 
 from . import kinds, pages, patterns
-from .explain_base import Case, Why, counted, listed
+from .explain_base import Case, Why, counted, listed, nearest
 from .patterns_match import matches
 
 FROM_TAPA = "docs/FROM_TAPA.md"
 ENDS = ("number", "name", "text")
+TYPES = ("istream", "ostream", "stream", "streams", "mmap")
 
 
 def of_row(construct: str, before: Optional[List[str]] = None) -> Why:
@@ -30,6 +31,9 @@ def named(case: Case, construct: str) -> List[str]:
     if construct in ("a kind by another name", "a field"):
         word = next((view.text(it) for it in (at - 1, at) if view.text(it) in view.structs | view.aliases), "")
         return [f"`{word}` is a {'struct' if word in view.structs else 'name'} that this source declares for itself"] * bool(word)
+    if construct == "a function":
+        near = nearest(view.text(at), ["void"])
+        return [f"`{near}` is meant, perhaps"] * bool(near)
     if construct == "a function that is called":
         item = next((it for it in view.items if it.name == view.text(at - 1) and it.kind in ("function", "template", "task")), None)
         return [f"`{view.text(at - 1)}` stands in line {case.line(item.begin)}"] if item else []
@@ -120,8 +124,7 @@ def other_length(case: Case) -> Why:
     opening = view.enclosing(case.at) or 0
     count = view.text(opening - 2)
     number = view.source.counts.get(count, count)
-    return Why([f"`{case.word()}` has {counted(length or 0, 'element')}, and this invoke makes {number} instances"],
-               f"as many instances as elements: `invoke<tapa::join, {length}>`, or single invokes with `{case.word()}[0]`, `{case.word()}[1]`, ..")
+    return of_row("a counted invoke of a longer array")._replace(says=[f"`{case.word()}` has {counted(length or 0, 'element')}, and this invoke makes {number} instances"])
 
 
 def out_of_place(case: Case) -> Why:
@@ -171,12 +174,25 @@ def missing(case: Case) -> Optional[Why]:
     return None
 
 
+def unqualified(case: Case) -> Optional[Why]:
+    """A word of TAPA without `tapa::` before it, or another word behind `tapa::` that is like one."""
+    view, at = case.view, case.at
+    word = next((it for it in (at, at - 1) if view.text(it) in TYPES and view.text(it - 1) != "::" and view.text(it + 1) == "<"), None)
+    if word is None and matches(view, "@task (", at) and view.text(at - 1) in (";", "{"):
+        word = at
+    if word is not None:
+        return Why([f"`{view.text(word)}` stands here without `tapa::`"], f"`tapa::{view.text(word)}`; `tools/prepare.py` writes it wherever `using namespace tapa;` left it out")
+    near = nearest(case.word(), [*TYPES, "task", "join", "detach"]) if case.word(-1) == "::" and case.word(-2) == "tapa" and view.is_name(at) else None
+    row = patterns.found(view, at, case.code) if near else None
+    return Why([f"`tapa` has no `{case.word()}`; `{near}` is meant, perhaps"], f"`tapa::{near}`") if near and row is None else None
+
+
 def unexpected(case: Case) -> Why:
     """Another token than the grammar goes on with."""
     word, before = case.word(), case.word(-1)
     if before in ("if", "while", "for") and word != "(":
         return Why([f"behind `{before}` stands its condition in parentheses"], "parentheses")
-    why = found_row(case) or missing(case)
+    why = unqualified(case) or found_row(case) or missing(case)
     if why:
         return why
     if word == "else":

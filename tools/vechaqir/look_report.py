@@ -70,7 +70,8 @@ def lines(found: List[Row], report: Report, is_long: bool, profile: Optional[Pro
     if report.end:
         yield f"{report.end} {report.count}"
     if profile:
-        yield "ticks by task: " + ", ".join(f"{label} {it.ticks}" for label, it in profile.tasks.items()) + f"; the circuit takes {profile.cycles} cycles"
+        took = f"takes {profile.cycles} cycles" if profile.is_done else f"is not done after {profile.cycles} cycles; its last tick was made in cycle {profile.last_tick()}"
+        yield "ticks by task: " + ", ".join(f"{label} {it.ticks}" for label, it in profile.tasks.items()) + f"; the circuit {took}"
         yield from past_end(profile)
 
 
@@ -93,7 +94,7 @@ def as_json(found: List[Row], report: Report, profile: Optional[Profile]) -> Dic
     }
     if profile:
         made["ticks"] = {label: it.ticks for label, it in profile.tasks.items()}
-        made["cycles"] = profile.cycles
+        made["cycles"] = profile.cycles if profile.is_done else None
         made["past_end"] = [{**access._asdict(), "times": times, "first": first} for access, (times, first) in profile.past_end.items()]
     return made
 

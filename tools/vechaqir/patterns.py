@@ -2,6 +2,7 @@
 docs/FROM_TAPA.md of the same construct."""
 from typing import Callable, Dict, Iterator, List, NamedTuple, Optional, Tuple
 
+from .elements import use_at
 from .patterns_match import RESERVED, SORTS, View, compiled, matches
 
 PRINTING = ("printf|fprintf|LOG|VLOG|LOG_IF|CHECK|CHECK_EQ|CHECK_NE|CHECK_LT|CHECK_LE|CHECK_GT|CHECK_GE|DCHECK|DCHECK_EQ|assert|CLOG|PRINT")
@@ -72,20 +73,28 @@ def is_helper_static(view: View, at: int) -> bool:
 
 
 def is_called(view: View, at: int) -> bool:
-    """The `(` of a call of something that is no method and no invoke."""
-    return view.text(at - 2) not in (".", "::", "->") and view.text(at - 1) not in ("invoke", "task")
+    """The `(` of a call of something that is no method, no invoke and no stream with a name."""
+    return view.kind(at + 1) != "text" and view.text(at - 2) not in (".", "::", "->") and view.text(at - 1) not in ("invoke", "task")
 
 
 def is_field(view: View, at: int) -> bool:
     """What stands behind `a.b` or `m[0].b` where no call and no channel of a memory is."""
     channels = ("read_addr", "read_data", "write_addr", "write_data", "write_resp", "invoke")
-    return view.text(at - 1) not in channels and not (view.text(at - 1) == "]" and view.text(at + 2) == "(")
+    return view.text(at - 1) not in channels and view.text(at + 1) != "invoke" and not (view.text(at - 1) == "]" and view.text(at + 2) == "(")
+
+
+def is_in_turn(is_counted: bool) -> Callable[[View, int], bool]:
+    """A test whether an array stands whose elements are handed out one after another, in an invoke that is counted or in one that is not."""
+    def holds(view: View, at: int) -> bool:
+        use = use_at(view, at)
+        return use is not None and use.is_counted == is_counted
+    return holds
 
 
 FILES: List[Pattern] = [
     Pattern("`main`", "P1", "file", ("@int main", "@ANY"), is_item("main")),
     Pattern("a template", "P1", "file", ("@template",)),
-    Pattern("a namespace or `extern \"C\"`", "P1", "file", ("@namespace", "@extern")),
+    Pattern("a namespace or `extern \"C\"`", "P1", "file", ("@namespace", "@extern"), lambda view, at: view.text(at - 1) != "using"),
     Pattern("an array of the file", "P1", "file", ("const|constexpr KIND NAME @[", "@static|constexpr|const ... KIND NAME [", "@KIND NAME ["), lambda view, at: is_array(view, at)),
     Pattern("a `constexpr` function", "P1", "", ("constexpr KIND NAME @(", "@static|inline constexpr KIND NAME (")),
     Pattern("a constant with `static`", "P1", "file", ("@static const|constexpr", "@inline const|constexpr"), is_item("constant")),
@@ -97,7 +106,7 @@ FILES: List[Pattern] = [
     Pattern("a struct", "P1", "", ("@struct|class|union",)),
     Pattern("an enumeration", "P1", "", ("@enum",)),
     Pattern("a declaration of a task", "P1", "", ("void NAME (..) @;",)),
-    Pattern("a `;` behind a task", "P1", "file", ("} @;",)),
+    Pattern("a `;` behind a task", "P1", "file", ("} @;",), lambda view, at: view.text(view.open.get(at - 1, 0) - 1) not in ("=", "]")),
     Pattern("`float`, `double`, `half`", "P1", "", ("@float|double", "half @NAME", "< @half", "tapa :: @streams < float|double|half")),
     Pattern("a variable of the file", "P1", "file", ("@ANY",), is_item("variable")),
     Pattern("`auto`", "P1", "file", ("const|constexpr @auto",)),
@@ -112,6 +121,7 @@ HEADS: List[Pattern] = [
     Pattern("`const` before a stream or a memory", "P1", "head", ("const @tapa ::", "tapa :: istream|ostream < @const")),
     Pattern("a depth at a parameter", "P1", "head", ("tapa :: istream|ostream < KIND @,", "tapa :: istream|ostream < NAME @,")),
     Pattern("a stream parameter without `&`", "P1", "head", ("tapa :: istream|ostream <..> @NAME", "tapa :: istream|ostream <..> @&&")),
+    Pattern("`vec_t`, `hls::vector`", "P1", "", ("@hls :: vector", "hls @:: vector")),
     Pattern("`hls::stream`", "P1", "", ("@hls ::", "hls @::")),
     Pattern("a scalar by reference or pointer", "P1", "head", ("KIND @&", "KIND @*", "NAME @&", "NAME @*")),
     Pattern("an array as a parameter", "P1", "head", ("NAME @[",)),
@@ -123,7 +133,7 @@ HEADS: List[Pattern] = [
 KINDS: List[Pattern] = [
     Pattern("`ap_uint`, `ap_int`", "P1 C1", "", (f"@{WHOLE} <", f"{WHOLE} @<", f"tapa :: @streams < {WHOLE}")),
     Pattern("`ap_fixed`, `ap_ufixed`", "P1 C1", "", (f"@{FIXED} <", f"{FIXED} @<")),
-    Pattern("`vec_t`", "P1", "", ("tapa :: @vec_t", "@tapa :: vec_t", "@vec_t", "tapa :: @streams < tapa :: vec_t")),
+    Pattern("`vec_t`, `hls::vector`", "P1", "", ("tapa :: @vec_t", "@tapa :: vec_t", "@vec_t", "tapa :: @streams < tapa :: vec_t")),
     Pattern("a container of `std`", "P1", "", ("std :: @vector|array|deque|queue|string|pair|tuple|complex|map|list", "@std :: vector|array|pair|string|complex")),
     Pattern("`char`, `signed`", "P1", "", ("@char|signed|wchar_t", "unsigned @char", "tapa :: @streams < char|signed")),
     Pattern("the words of a kind in another order", "P1", "", ("int @long|short|unsigned", "long|short @unsigned", "KIND @const NAME")),
@@ -140,6 +150,8 @@ UPPERS: List[Pattern] = [
     Pattern("a computed count", "P1", "upper", ("invoke < tapa :: NAME @, WORD|NUMBER OPERATOR", "invoke < tapa :: NAME @, (")),
     Pattern("a computed number of streams", "P1", "upper", (
         "tapa :: @streams < .. , (", "tapa :: @streams < .. , NUMBER|NAME OPERATOR", "tapa :: @streams < .. , NUMBER|NAME , (", "tapa :: @streams < .. , NUMBER|NAME , NUMBER|NAME OPERATOR")),
+    Pattern("an array of streams as one argument", "A3", "upper", (", @NAME",), is_in_turn(False)),
+    Pattern("a counted invoke of a longer array", "A2", "upper", (", @NAME",), is_in_turn(True)),
     Pattern("a computed depth", "P1", "upper", ("tapa :: stream < .. , NUMBER|NAME @OPERATOR",)),
     Pattern("a stream's name in braces", "P1", "upper", ("NAME @{ TEXT }", "tapa :: @streams <..> NAME {")),
     Pattern("a chain with a name", "P1", "", ("tapa :: task @NAME", "@tapa :: task NAME")),

@@ -90,7 +90,12 @@ class View:
         if before == ":":
             return self.is_name(at - 2) and self.starts(at - 2) or self.text(at - 3) == "case"
         is_head = before == ")" and self.text(self.open.get(at - 1, 0) - 1) in ("if", "while", "for", "TAPA_WHILE_NOT_EOT")
-        return before in ("", "{", "else") or is_head or self.behind_attribute(at)
+        return before in ("", "else") or before == "{" and not self.is_list(at - 1) or is_head or self.behind_attribute(at)
+
+    def is_list(self, at: int) -> bool:
+        """Whether a `{` begins a list of values."""
+        before = self.text(at - 1)
+        return before in ("=", ",", "(") or before == "]" and not self.behind_attribute(at) or before == "{" and self.is_list(at - 1)
 
     def behind_attribute(self, at: int) -> bool:
         return self.text(at - 1) == "]" and self.text(at - 2) == "]" and self.text(self.open.get(at - 1, 0) + 1) == "["

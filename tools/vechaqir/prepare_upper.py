@@ -1,9 +1,10 @@
 """What can be mended mechanically in the heads of tasks and in upper-level tasks."""
-from typing import Dict, List, Optional
+from typing import Dict, List, Optional, Tuple
 
+from .elements import in_turn, index_of, is_counted, uses
 from .patterns_match import View, matches
 from .prepare_edits import Edit, Step, constant, is_plain, parts, raw, span
-from .syntax import Task
+from .syntax import Invoke, Task
 
 
 # What stands before the `,` or `)` of a parameter that has no name.
@@ -53,21 +54,60 @@ def invokes(view: View) -> List[Edit]:
     return found
 
 
+def instances(view: View, task: Task, invoke: Invoke, turns: Dict[Tuple[str, str], int]) -> Optional[List[List[str]]]:
+    """The task's name and the arguments of each instance of an invoke; `turns` has for an array and a direction the element that comes next. None where an argument can't be told."""
+    opening = index_of(view, invoke) - 1
+    turned, found = in_turn(view, task), uses(view, task)
+    arrays = {it.name for it in task.streams if it.is_array} | {it.name for it in task.parameters if it.direction in ("istreams", "ostreams")}
+    if opening not in view.close or invoke.count < 1:
+        return None
+    rows = []
+    for number in range(invoke.count):
+        row = []
+        for begin, end in parts(view, opening):
+            text, use = raw(view, begin, end), next((it for it in found if it.at == begin), None)
+            if use and use.name in turned:
+                at = turns.get((use.name, use.direction), 0)
+                if use.direction not in ("istream", "ostream") or at >= use.length:
+                    return None
+                turns[use.name, use.direction] = at + 1
+                text = f"{text}[{at}]"
+            elif text in arrays:
+                text = f"{text}[{number}]"
+            row.append(str(number) if "tapa::seq" in text else text)
+        rows.append(row)
+    return rows
+
+
+def one_by_one(view: View, invoke: Invoke, rows: List[List[str]]) -> List[Edit]:
+    """An invoke as one for each instance; of one without a count the arguments that change alone."""
+    name = index_of(view, invoke)
+    begin, closing = name - 2, view.close[name - 1]
+    if not is_counted(view, invoke):
+        return [span(view, *it, text) for it, text in zip(parts(view, name - 1), rows[0]) if raw(view, *it) != text]
+    while begin > 0 and view.text(begin) != "invoke":
+        begin -= 1
+    front = view.source.text[:view.words[begin - 1].begin].decode("utf-8", "replace").split("\n")[-1]
+    blanks = front if not front.strip() else front[:len(front) - len(front.lstrip())] + "    "
+    mode = f"<tapa::{invoke.mode}>" * (invoke.mode == "detach")
+    return [span(view, begin - 1, closing + 1, f"\n{blanks}".join(f".invoke{mode}({', '.join(row)})" for row in rows))]
+
+
 def sequences(view: View) -> List[Edit]:
-    """A counted invoke with `tapa::seq()` becomes an invoke for each number, with the elements of its arrays."""
+    """Counted invokes with `tapa::seq()`, and all invokes that get elements of an array one after another, become an invoke for each instance, with its number and its elements."""
     for task in view.source.tasks.values():
+        turned = in_turn(view, task)
+        turns: Dict[Tuple[str, str], int] = {}
+        edits: List[Edit] = []
         for invoke in task.invokes:
-            name = view.source.index_at(view.source.lines.offset(invoke.place))
-            begin, opening = name - 2, name - 1
-            while begin > 0 and view.text(begin) != "invoke":
-                begin -= 1
-            if opening not in view.close or not any(it.text == "tapa::seq()" for it in invoke.arguments) or invoke.count < 1:
-                continue
-            arrays = {it.name for it in task.streams if it.is_array} | {it.name for it in task.parameters if it.direction in ("istreams", "ostreams")}
-            given = [raw(view, *it) for it in parts(view, opening)]
-            mode = f"<tapa::{invoke.mode}>" * (invoke.mode == "detach")
-            texts = [".invoke" + mode + "(" + ", ".join(str(number) if "tapa::seq" in it else f"{it}[{number}]" if it in arrays else it for it in given) + ")" for number in range(invoke.count)]
-            return [span(view, begin - 1, view.close[opening] + 1, "\n      ".join(texts))]
+            if any(it.text == "tapa::seq()" or it.text in turned for it in invoke.arguments):
+                rows = instances(view, task, invoke, turns)
+                if rows is None:
+                    edits = []
+                    break
+                edits += one_by_one(view, invoke, rows)
+        if edits:
+            return edits
     return []
 
 

@@ -10,6 +10,7 @@ import os
 from dataclasses import dataclass
 from typing import Dict, List, NamedTuple, Optional, Sequence, Tuple
 
+from . import script
 from .data import Data, text_of
 from .dump import Dump
 from .machine_run import Run
@@ -23,8 +24,8 @@ DEEPEST, MOST_STREAMS = 4096, 8
 MOST_CYCLES, SLACK = 10_000_000, 4
 
 
-class NotBuilt(ValueError):
-    """A circuit that could not be built or simulated; the words are those of the program."""
+class NotBuilt(script.Told):
+    """A circuit that could not be built or simulated; the words are those of the program, with the names of the files that were given."""
 
 
 class Declared(NamedTuple):
@@ -44,16 +45,25 @@ class Change:
 
 
 class Bench:
-    """Builds and simulates a source on some data, in a folder of its own; `options` are those of `build`, `limit` is the most cycles, 0 for as many as a run needs."""
+    """Builds and simulates a source on some data, in a folder of its own; `words` are the source's name, the top task and the data's name where there are data, `options` are those of `build`, `limit`
+    is the most cycles, 0 for as many as a run needs."""
 
-    def __init__(self, program: Program, folder: str, top: str, data: Data, options: Sequence[str] = (), limit: int = 0) -> None:
-        self.program, self.folder, self.top, self.data, self.options, self.limit = program, folder, top, data, list(options), limit
+    def __init__(self, program: Program, folder: str, words: Sequence[str], data: Data, options: Sequence[str] = (), limit: int = 0) -> None:
+        self.program, self.folder, self.words, self.data, self.options, self.limit = program, folder, list(words), data, list(options), limit
+        self.top = self.words[1]
 
     def put(self, name: str, text: bytes) -> str:
         path = os.path.join(self.folder, name)
         with open(path, "wb") as file:
             file.write(text)
         return path
+
+    def refused(self, err: bytes, words: Sequence[str]) -> NotBuilt:
+        """What the program told of a file in the folder, with the name that was given."""
+        text = err.decode("utf-8", "replace").strip()
+        for name, given in (("source.cpp", self.words[0]), ("data.json", self.words[2] if len(self.words) > 2 else "{}")):
+            text = text.replace(os.path.join(self.folder, name), given)
+        return NotBuilt(text, words)
 
     def most_cycles(self, text: bytes) -> int:
         """The limit; without one, of a run that stops, the cycles in which its circuit comes to that too, since some tick is made in each but where all wait."""
@@ -68,7 +78,7 @@ class Bench:
         """The path of the circuit's text. Raises NotBuilt."""
         made = self.program.call(["build", self.put("source.cpp", text), self.top, *self.options])
         if made.status != 0:
-            raise NotBuilt(made.err.decode("utf-8", "replace").strip())
+            raise self.refused(made.err, ["build", *self.words[:2], *self.options])
         return self.put("circuit.v", made.out)
 
     def cycles(self, text: bytes, data: Optional[Data] = None) -> Optional[int]:
@@ -83,7 +93,7 @@ class Bench:
         given = self.put("data.json", text_of(self.data).encode())
         said = self.program.call(["cosim", self.build(text), given, "--vcd", "--cycles", str(self.most_cycles(text))])
         if said.status not in (0, 7):
-            raise NotBuilt(said.err.decode("utf-8", "replace").strip())
+            raise self.refused(said.err, ["run", *self.words])
         source = parse(text)
         sizes = {name: len(cells) for name, cells in self.data.memories.items()}
         return profile(Run(source, network(source, self.top), Dump(self.put("dump.vcd", said.out))), sizes)

@@ -6,6 +6,11 @@ from . import pages
 from .explain_base import listed, nearest
 
 
+# TAPA's own commands, each with the one that does its work here.
+OF_TAPA = {"g++": "run", "compile": "build", "analyze": "build", "synth": "build", "pack": "build"}
+NO_FILE = "`--vcd` has no value: the dump goes to standard output, `> {}`"
+
+
 class Word(NamedTuple):
     """A row of the table of words in docs/COMMAND.md: a word or an option with its value, the commands that have it, what it is, its values, and what is taken without it."""
 
@@ -83,7 +88,8 @@ def unknown_option(command: Command, word: str) -> str:
     if others:
         return f"`{name}` is an option of {listed(others)}, and not of `{command.name}`: {has}"
     near = nearest(name, command.options)
-    return f"`{command.name}` has no option `{name}`: {has}" + (f"; `{near}` is meant, perhaps" if near else "")
+    more = "; what it prints goes to standard output: `> F`" if name in ("-o", "--output") else f"; `{near}` is meant, perhaps" if near else ""
+    return f"`{command.name}` has no option `{name}`: {has}{more}"
 
 
 def options(command: Command, words: List[str]) -> Tuple[Optional[str], List[str]]:
@@ -127,6 +133,8 @@ def wrong(words: List[str]) -> Optional[str]:
         return "a word is no UTF-8"
     if not words:
         return f"there is no word: the first one is a command, {listed(known, 'or')}"
+    if words[0] in OF_TAPA:
+        return f"`{words[0]}` is a command of TAPA's own `tapa`; here `{OF_TAPA[words[0]]}` does its work (docs/FROM_TAPA.md, \"Commands\")"
     if words[0] not in known:
         near = nearest(words[0], known)
         return f"`{words[0]}` is no command: there are {listed(known)}" + (f"; `{near}` is meant, perhaps" if near else "")
@@ -138,7 +146,8 @@ def wrong(words: List[str]) -> Optional[str]:
         return f"`{command.words[len(plain)]}` is missing" + (f" behind `{plain[-1]}`" if plain else "")
     most = len(command.words) + len(command.more)
     if len(plain) > most:
-        return f"`{plain[most]}` is one word too many: `{command.name}` takes {listed(command.words + command.more)}"
+        dumped = next((words[at + 1] for at in range(len(words) - 1) if words[at] == "--vcd" and words[at + 1] in plain), None)
+        return f"`{plain[most]}` is one word too many: `{command.name}` takes {listed(command.words + command.more)}" + (f"; {NO_FILE.format(dumped)}" if dumped else "")
     if command.name == "gen":
         fault = value(command, "N", plain[0])
         return f"N: {fault}" if fault else None

@@ -90,7 +90,8 @@ def try_wrong(trial):
 def try_words(trial):
     """Wrong words, files and runs are told in a line."""
     for words, status, part in ((["--help"], 0, "tools/testbench.py SRC TOP"), ([], 2, ""), (["x.cpp", "T", "--waits", "never"], 2, "none, late, random, data"),
-                                (["none.cpp", "T"], 1, "none.cpp: No such file"), (["examples/vector_add.cpp", "VecAdd"], 1, "J2 scalars.n"),
+                                (["none.cpp", "T"], 1, "none.cpp: No such file"), (["examples/vector_add.cpp", "VecAdd"], 1, "tapa: {}: J2 scalars.n"),
+                                (["examples/vector_add.cpp", "VecAdd", "examples/systolic.json"], 1, "tapa: examples/systolic.json: J2 scalars.n"),
                                 (["examples/too_shallow.cpp", "TooShallow", "--device", "examples/devices/two_slots.json"], 1, "the run stops"),
                                 (["examples/refused/divisor.cpp", "Top"], 1, ": C9 divisor")):
         got, out, err = made(trial, words)

@@ -164,6 +164,27 @@ def try_ends(trial):
         trial.check(f"what is said of {name}", all(it in told for it in wanted.splitlines()) and wanted and NEVER not in told, f"   {told}")
 
 
+def try_other_sorts(trial):
+    """A file of another sort than the command takes, and a dump's name behind `--vcd`."""
+    path, data = trial.put("e.cpp", PLAN_TOP), trial.put("e.json", '{"scalars": {"rows": 3}}')
+    text = trial.put("e.v", trial.run(["build", path, "T"]).out)
+    dump = trial.put("e.vcd", trial.run(["cosim", text, "--vcd"]).out)
+    for words, wanted in (
+        (["cosim", path], "this looks like a TAPA source\n      = instead: a Verilog text: `tapa build"),
+        (["cosim", data], "this looks like a data file"),
+        (["cosim", dump], "this looks like a value change dump"),
+        (["run", text, "T"], "this looks like a Verilog text\n      = instead: a TAPA source"),
+        (["run", data, "T"], "this looks like a data file"),
+        (["vcd", text, "q"], "this looks like a Verilog text\n      = instead: a value change dump: `tapa cosim"),
+        (["run", path, "T", path], f"instead: a data file: `tools/template.py {path} T > F.json`"),
+        (["cosim", text, "--vcd", f"{path}.vcd"], f"`--vcd` has no value: the dump goes to standard output, `> {path}.vcd`"),
+        (["run", trial.put("t.cpp", "void F(int n) { }\n"), "T"], "an upper-level task `T`, which invokes these"),
+        (["run", trial.put("u.cpp", ""), "T"], "a task's name as `TOP`"),
+    ):
+        _, told = explained(trial, words)
+        trial.check(f"the explanation of `tapa {' '.join(words)}`", wanted in told and NEVER not in told, f"   {told}")
+
+
 def try_files(trial):
     """Files that can't be read, a header that is skipped, and a top task that is not there."""
     folder = trial.folder.name
@@ -213,4 +234,5 @@ def try_all(trial):
     try_dumps(trial)
     try_ends(trial)
     try_files(trial)
+    try_other_sorts(trial)
     try_fronts(trial)

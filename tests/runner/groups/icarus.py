@@ -23,6 +23,10 @@ def try_report(trial):
     for name, word in (("i.vcd", " at_3 "), ("bench.v", "$dumpvars")):
         with open(f"{folder}/{name}", encoding="utf-8") as file:
             trial.check(f"icarus.py writes {name}", word in file.read())
+    bad = trial.put("bad.json", '{"scalars": {"n": 1}, "memories": {"a": 3}}')
+    for given, wanted in (([text], "{}: scalars has no n, a number, which the circuit takes"), ([text, bad], f"{bad}: memories has no a, a list of numbers, which the circuit takes"),
+                          ([text, text], f"{text}:1:1: no JSON: Expecting value"), ([bad], "this is no circuit that `tapa build` wrote: it has no module")):
+        trial.check_equal(f"what icarus.py {' '.join(given)} says", run_tool("tools/icarus.py", *given), (1, "", f"tools/icarus.py: {wanted}\n"))
 
 
 def try_memories(trial):

@@ -69,7 +69,12 @@ def butterfly():
     return "Butterfly", {"memories": {"from": flat, "to": [0] * 16}}, {"to": [outs[j][i] for i in range(4) for j in range(4)]}
 
 
-DESIGNS = {"vector_add": vector_add, "cannon": cannon, "bandwidth": bandwidth, "jacobi": jacobi, "page_rank": page_rank, "butterfly": butterfly, "fir": fir}
+def chain():
+    samples = [3, -1, 4, 1, -5]
+    return "Chain", {"scalars": {"n": 5}, "memories": {"samples": samples, "sums": [0] * 5}}, {"sums": [(1 + 2 + 3 + 4) * x for x in samples]}
+
+
+DESIGNS = {"vector_add": vector_add, "cannon": cannon, "bandwidth": bandwidth, "jacobi": jacobi, "page_rank": page_rank, "butterfly": butterfly, "fir": fir, "chain": chain}
 
 
 def edits_of(name):
@@ -172,8 +177,40 @@ def try_mended(trial):
             trial.check(f"prepare.py leaves {name} as it is", prepare_write.mended(text, f"{folder}/{name}") == text)
 
 
+LISTED = """using namespace tapa;
+constexpr int taps[2] = {1, 2};
+void P(ostream<int>& q) { int x[2] = {0, 1}; q << x[0] + taps[1]; }
+void C(istream<int>& q) { q.read(); }
+void T() {
+  stream<int> q("q");
+  task().invoke(P, q).invoke(C, q);
+}
+void U() {
+  tapa::streams<int, 3> r, s;
+  tapa::task().invoke<tapa::join, 2>(P, r).invoke(P, r).invoke<tapa::join, 3>(C, r)
+    .invoke<tapa::join, 3>(P, s).invoke<tapa::join, 3>(C, s);
+}
+"""
+CONSTRUCTS = {(1, "`using namespace`"), (2, "an array of the file"), (3, "a list of values"), (11, "an array of streams as one argument"), (11, "a counted invoke of a longer array")}
+# An array of which more elements are handed out than it has.
+KEPT = """void W() { tapa::streams<int, 2> q, r; tapa::task().invoke<tapa::join, 1>(P, q).invoke(P, q).invoke(P, q).invoke<tapa::join, 2>(C, r); }
+"""
+
+
+def try_listed(trial):
+    """The list of a source has each construct in its line, and none beside."""
+    path = trial.put("l.cpp", LISTED)
+    out = subprocess.run([sys.executable, os.path.join(ROOT, "tools/prepare.py"), path], capture_output=True, text=True, check=False).stdout
+    trial.check_equal("what is listed", {(int(line), construct) for line, construct in re.findall(r"^.*?:(\d+):\d+: (.*?): ", out, re.M)}, CONSTRUCTS)
+    before, after = context("tasks")
+    text = (before + KEPT + after).encode()
+    found = prepare_write.mended(text).decode()
+    trial.check("an array with too few elements stays", "invoke<tapa::join, 1>(P, q).invoke(P, q).invoke(P, q)" in found, f"   {found}")
+
+
 def try_all(trial):
     try_mended(trial)
+    try_listed(trial)
     for name in DESIGNS:
         try_design(trial, name)
         try_way(trial, name)

@@ -172,6 +172,9 @@ def try_words(trial):
     trial.check_equal("a profile of a dump", profiled(trial, source, "T", "--dump", path)["cycles"], cycles_of(trial, SLOW))
     status, _, err = run_tool(trial, "examples/vector_add.cpp", "VecAdd", "--dump", path)
     trial.check("a dump of another circuit", status == 1 and "is no dump of this source's circuit" in err and err.count("\n") == 1, f"   {err}")
+    for words, wanted in (([source, "U"], f"{source}:1:1: C1 unknown name"), (["examples/vector_add.cpp", "VecAdd"], "{}: J2 scalars.n"),
+                          (["examples/vector_add.cpp", "VecAdd", "examples/systolic.json"], "examples/systolic.json: J2 scalars.n")):
+        trial.check_equal(f"what profile.py {' '.join(words)} is told", run_tool(trial, *words)[1:], ("", f"tools/profile.py: tapa: {wanted}\n"))
     for words, wanted in ((["--help"], 0), ([], 2), (["a.cpp", "T", "--depth"], 2), (["none.cpp", "T"], 1), ([source, "U"], 1)):
         status, _, err = run_tool(trial, *words)
         trial.check(f"profile.py {' '.join(words)}", status == wanted and "Traceback" not in err, f"   {status} {err}")

@@ -34,6 +34,7 @@ def try_lines(trial):
     trial.check_equal("a report that is read", run_tool(trial, *VECTORS[:2], "--from", "-", given=ran), (0, ran.replace("4294967246", "-50").replace("4294967251", "-45"), ""))
     stopped = run_tool(trial, "examples/too_shallow.cpp", "TooShallow")
     trial.check("a run that stops", stopped[0] == 8 and stopped[2] == "tapa: Producer$0 waits to write data\ntapa: Consumer$1 waits to read ready\n" and "stopped 1" in stopped[1], f"   {stopped}")
+    trial.check("a circuit that stands still", "Consumer$1 0; the circuit is not done after " in stopped[1] and stopped[1].endswith(" cycles; its last tick was made in cycle 1\n"), f"   {stopped}")
 
 
 def try_past_end(trial):

@@ -1,4 +1,4 @@
-"""Every script of tools/: it is executable, answers `--help`, and ends in no traceback whatever its words and files are."""
+"""Every script of tools/: it is executable, answers `--help`, and ends in no traceback whatever its words, files and streams are."""
 import glob
 import os
 import random
@@ -36,6 +36,9 @@ def try_help(trial, path):
     trial.check(f"{name} answers --help", status == 0 and len(out) > 60 and not err, f"   {status} {err}")
     closed = subprocess.run(["sh", "-c", f"exec {path} --help | true"], cwd=ROOT, stdin=subprocess.DEVNULL, capture_output=True, check=False)
     trial.check(f"{name} --help ends where nobody reads it", b"Traceback" not in closed.stderr, f"   {closed.stderr[-300:]}")
+    for stream in ("<&-", ">&-"):
+        closed = subprocess.run(["sh", "-c", f"exec {path} --help {stream}"], cwd=ROOT, capture_output=True, check=False)
+        trial.check(f"{name} --help {stream} ends plainly", 0 <= closed.returncode <= 9 and b"Traceback" not in closed.stderr, f"   {closed.returncode} {closed.stderr[-300:]}")
 
 
 def random_file(some, folder, number):

@@ -175,6 +175,9 @@ def try_data_tools(trial):
             _, made, err = run_tool("template.py", source, top, "8")
             said = trial.run(["run", source, top, trial.put("t.json", made), "--steps", "10000"], ROOT)
             trial.check(f"the template of {name} is a data file of it", said.status in (0, 7, 8), f"   {said} {err}")
+    for words, status, part in ((["examples/vector_add.cpp", "Add"], 1, "Add invokes no task, so it is no top task: examples/vector_add.cpp has VecAdd"), (["examples/vector_add.cpp", "VecAdd", "65537"], 2, "CELLS: 65537 is no")):
+        said = run_tool("template.py", *words)
+        trial.check(f"template.py {' '.join(words)}", said[:2] == (status, "") and part in said[2], f"   {said}")
     said = trial.run(["run", "examples/vector_add.cpp", "VecAdd", "examples/vector_add.json"], ROOT)
     _, shown, _ = run_tool("signed.py", "examples/vector_add.cpp", "VecAdd", given=said.out.decode())
     wanted = said.out.decode().replace("4294967246", "-50").replace("4294967251", "-45")
@@ -246,6 +249,15 @@ def with_terminal(words, folder):
         shown += piece
     os.close(ours)
     return ran.wait(), out.decode(), shown.decode().replace("\r\n", "\n")
+
+
+def try_messages(trial):
+    """Tools that call the program pass on what it tells, on a terminal with its explanation."""
+    for tool in ("report", "profile", "look", "testbench"):
+        words = ["env", f"TAPA={trial.program}", sys.executable, f"tools/{tool}.py", "examples/vector_add.cpp", "VecAdd", "examples/systolic.json"]
+        status, out, shown = with_terminal(words, ROOT)
+        front = "tapa: examples/systolic.json: J2 scalars.n\n      = `scalars` has no `n`, a `uint64_t`: `VecAdd` needs a number for it\n"
+        trial.check(f"{tool}.py explains a message on a terminal", status in (1, 3) and out == "" and front in shown and "Traceback" not in shown, f"   {status} {shown}")
 
 
 def repository(trial, name, has_program=True):
@@ -334,6 +346,7 @@ def try_gate(trial):
 
 def try_all(trial):
     try_explain(trial)
+    try_messages(trial)
     try_gate(trial)
     try_script(trial)
     try_unproved(trial)
