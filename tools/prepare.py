@@ -6,8 +6,8 @@
     tools/prepare.py F.cpp --write          the same in place; F.cpp.orig keeps what was there
 
 Mechanical are headers beside the source, constants by `#define`, names of kinds, enumerations, `static`, labels, lists of values, parentheses around sizes, modes and names in invokes, `&` of streams,
-several steps in the head of a `for`, the elements that invokes take of an array one after another, functions of one expression and more; docs/FROM_TAPA.md has all constructs. What else a rule refuses, `tapa run F.cpp TOP` tells. The status is 0
-where nothing is left to change, and else 1.
+several steps in the head of a `for`, the elements that invokes take of an array one after another, functions of one expression and more; docs/FROM_TAPA.md has all constructs. What stands within
+templates, structs and functions is looked at once they are tasks. What else a rule refuses, `tapa run F.cpp TOP` tells. The status is 0 where nothing is left to change, and else 1.
 """
 import os
 import signal
