@@ -76,7 +76,7 @@ def try_types(trial):
     if not mypy:
         trial.note("there is no mypy here, so types were not looked at")
         return
-    ran = subprocess.run([mypy, "--strict", "--cache-dir=/dev/null", "tools/vechaqir"], cwd=ROOT, capture_output=True, text=True, check=False)
+    ran = subprocess.run([mypy, "--config-file", "tools/pyproject.toml", "--strict", "--cache-dir=/dev/null", "tools/vechaqir"], cwd=ROOT, capture_output=True, text=True, check=False)
     trial.check("mypy --strict of tools/vechaqir", ran.returncode == 0, ran.stdout[-3000:] + ran.stderr[-1000:])
 
 
