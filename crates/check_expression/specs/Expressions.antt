@@ -136,7 +136,7 @@ kind_of E (tree.conditional at c a b) = arm_kind (kind_of E a) (kind_of E b)
 
 -- ---- the flat form
 
--- a value of the first kind as one of the second: a conversion stands where the kinds differ
+-- a value of the first kind as one of the second: with a conversion where the kinds differ
 abbrev pub as_kind : Kind → Kind → FlatExpression → FlatExpression
 as_kind from to e = if same_kind from to then e else convert from to e
 
@@ -209,7 +209,7 @@ abbrev pub operand : Option Entity → Option Method → Meaning
 operand entity method = record { value = called_value (number_of entity) method; kind = call_kind (kind_of_entity entity) method }
 
 -- ---- constant expressions: literals, constants of the file, operators and casts (nullptr is a literal too, [lex.nullptr],
--- and stands only as an argument of a method)
+-- and is legal only as an argument of a method)
 
 -- a name in it is that of a constant
 abbrev pub is_constant_name : Option Entity → Bool
@@ -259,7 +259,7 @@ abbrev pub divisor_faults : Scope → Bool → Place → ExpressionTree → List
 divisor_faults E false at b = []
 divisor_faults E true at b = where_so (not (is_constant E b && nat_lt 0 (constant_value (value_of E b)))) (fault C9 at)
 
--- the right operand of && and || is a conditional place
+-- the right operand of && and || is evaluated conditionally
 abbrev pub is_logical : BinaryOperator → Bool
 is_logical (Value o) = false
 is_logical LogicalAnd = true
@@ -269,8 +269,8 @@ is_logical LogicalOr = true
 abbrev pub operand_faults : Option Entity → Bool → Option Method → Name → Name → List Broken
 operand_faults entity c method s m = call_faults entity method s m ++ no_value method m ++ where_so c (fault C8 m.place)
 
--- The faults of an expression in the order of the text. In a conditional place, which is the right operand of && or ||
--- or an arm of ?:, no operation on a stream or memory stands (C8): C++ would make it only where the operand is evaluated.
+-- The faults of an expression in the order of the text. An expression that is evaluated conditionally, which is the right operand of &&
+-- or || or an arm of ?:, has no operation on a stream or memory (C8): C++ would make it only where the operand is evaluated.
 abbrev pub faults_of : Scope → Bool → ExpressionTree → List Broken
 faults_of E c (tree.literal k n) = []
 faults_of E c (tree.boolean b) = []

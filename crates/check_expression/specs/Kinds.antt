@@ -3,7 +3,7 @@ use Rattle.std.specs.Prelude.{ℕ, Bool, ◌==◌}
 use Rattle.tapa_base.specs.declared.kind.Kind.{Kind}
 use Rattle.tapa_base.specs.declared.kind.Kind.TheVariants as kind
 
--- the place of a kind in the list of kinds
+-- the index of a kind in the list of kinds
 abbrev pub rank : Kind → ℕ
 rank kind.Bool = 0
 rank kind.I8 = 1

@@ -1,3 +1,4 @@
+// The values of constant expressions with their kinds, and the rule that a divisor is a constant other than 0.
 ghost use Rattle.std.specs.Prelude.{◌≡◌, ◌<◌, ◌%◌, ◌&&◌, IfSome, Some, nat_lt};
 ghost use Rattle.tapa_base.specs.Kinds.{values_of};
 ghost use Rattle.tapa_base.specs.Operators as operators;
@@ -5,7 +6,7 @@ ghost use Rattle.tapa_base.specs.Operators.{bit};
 ghost use Rattle.tapa_syntax.specs.declared.tree.BinaryOperator.TheVariants.{LogicalAnd, LogicalOr};
 ghost use Rattle.tapa_syntax.specs.Trees as tree;
 ghost use Rattle.tapa_syntax.specs.Typed as flat;
-ghost use Rattle.check_scope.specs.Answers.{Answers};
+ghost use Rattle.check_scope.specs.Answers.{ScopeAnswers};
 ghost use Rattle.check_expression.specs.Constants as spec;
 ghost use Rattle.check_expression.specs.Constants.{IsWithin};
 ghost use Rattle.check_expression.specs.Expressions as meaning;
@@ -216,14 +217,14 @@ fn is_divisor(scope: &Scope, value: &Expression) -> bool
     }
 }
 
-/// A divisor is a constant other than 0; it stands behind an operator.
+/// A divisor is a constant other than 0; `divides` says whether the operator before it divides.
 pub fn check_divisor(
     scope: &Scope,
     divides: bool,
     place: Place,
     value: &Expression,
 ) -> Result<(), CheckFault>
-    ensures { Answers (λ x. x) result (meaning.divisor_faults scope.now divides place (tree.expression value.now)) tt }
+    ensures { ScopeAnswers (λ x. x) result (meaning.divisor_faults scope.now divides place (tree.expression value.now)) tt }
 {
     if divides && !is_divisor(scope, value) {
         return Err(refused(CheckCode::C9, place));

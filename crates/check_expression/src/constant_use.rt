@@ -1,7 +1,8 @@
+// The rules where a constant is wanted: of the names and divisors in its expression, and of a constant that a file declares.
 ghost use Rattle.std.specs.Prelude.{◌∷◌, ◌++◌, ◌<◌, [], IfOk, Some};
 ghost use Rattle.tapa_base.specs.Kinds.{values_of};
 ghost use Rattle.tapa_syntax.specs.Trees as tree;
-ghost use Rattle.check_scope.specs.Answers.{Answers};
+ghost use Rattle.check_scope.specs.Answers.{ScopeAnswers};
 ghost use Rattle.check_expression.specs.Constants.{IsWithin, known_of, of_entity};
 ghost use Rattle.check_expression.specs.Expressions as meaning;
 ghost use Rattle.check_scope.specs.Faults.{doubled, name_faults};
@@ -16,7 +17,7 @@ use tapa_base::Kind;
 use tapa_syntax::{Expression, Name};
 
 fn check_name(scope: &Scope, role: Role, name: &Name) -> Result<(), CheckFault>
-    ensures { Answers (λ x. x) result (name_faults scope.now (fits role) name.now) tt }
+    ensures { ScopeAnswers (λ x. x) result (name_faults scope.now (fits role) name.now) tt }
 {
     scope.named(role, name)?;
     Ok(())
@@ -24,7 +25,7 @@ fn check_name(scope: &Scope, role: Role, name: &Name) -> Result<(), CheckFault>
 
 /// The names of a constant expression are those of constants, and its divisors are not 0.
 fn check_names(scope: &Scope, value: &Expression) -> Result<(), CheckFault>
-    ensures { Answers (λ x. x) result (meaning.constant_faults scope.now (tree.expression value.now)) tt }
+    ensures { ScopeAnswers (λ x. x) result (meaning.constant_faults scope.now (tree.expression value.now)) tt }
 {
     match value {
         Expression::Literal(_, _) => Ok(()),
@@ -53,7 +54,7 @@ fn check_names(scope: &Scope, value: &Expression) -> Result<(), CheckFault>
 
 /// A constant expression.
 pub fn known(scope: &Scope, value: &Expression) -> Result<Constant, CheckFault>
-    ensures value { Answers (λ c. c) result (meaning.constant_faults scope.now (tree.expression value.now)) (known_of scope.now (tree.expression value.now)) }
+    ensures value { ScopeAnswers (λ c. c) result (meaning.constant_faults scope.now (tree.expression value.now)) (known_of scope.now (tree.expression value.now)) }
     ensures within { IfOk result IsWithin }
 {
     check_names(scope, value)?;
@@ -65,7 +66,7 @@ pub fn known(scope: &Scope, value: &Expression) -> Result<Constant, CheckFault>
 
 /// The constant that a name is.
 pub(crate) fn known_name(scope: &Scope, name: &Name) -> Result<Constant, CheckFault>
-    ensures value { Answers (λ c. Some c) result (name_faults scope.now is_constant name.now) (of_entity (entity_of name.now.text scope.now)) }
+    ensures value { ScopeAnswers (λ c. Some c) result (name_faults scope.now is_constant name.now) (of_entity (entity_of name.now.text scope.now)) }
     ensures within { IfOk result IsWithin }
 {
     let entity = scope.named(Role::Constant, name)?;
@@ -83,7 +84,7 @@ pub fn check_constant(
     name: &Name,
     value: &Expression,
 ) -> Result<u64, CheckFault>
-    ensures value { Answers (λ n. n) result (doubled (file.now ∷ []) name.now ++ meaning.constant_faults (file.now ∷ []) (tree.expression value.now))
+    ensures value { ScopeAnswers (λ n. n) result (doubled (file.now ∷ []) name.now ++ meaning.constant_faults (file.now ∷ []) (tree.expression value.now))
         (meaning.constant_value (meaning.wanted (file.now ∷ []) kind (tree.expression value.now))) }
     ensures within { IfOk result (λ n. n < values_of kind) }
 {

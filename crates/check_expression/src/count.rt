@@ -1,7 +1,8 @@
+// The rules of counts: the depth of a stream and the number of cells of an array, each a constant within its limit.
 ghost use Rattle.std.specs.Prelude.{◌≡◌, ◌≤◌, IfOk};
 ghost use Rattle.tapa_base.specs.Kinds.{number};
 ghost use Rattle.tapa_syntax.specs.Trees as tree;
-ghost use Rattle.check_scope.specs.Answers.{Answers};
+ghost use Rattle.check_scope.specs.Answers.{ScopeAnswers};
 ghost use Rattle.check_expression.specs.Constants.{IsWithin};
 ghost use Rattle.check_expression.specs.Counts as counts;
 
@@ -14,7 +15,7 @@ use tapa_syntax::{Count, CountValue};
 const MOST_OF_COUNT: u32 = 4096;
 
 fn form(scope: &Scope, value: &CountValue) -> Result<Constant, CheckFault>
-    ensures value { Answers (λ c. number c.kind c.value) result (counts.form_faults scope.now (tree.count_form_of value.now)) (counts.form_number scope.now (tree.count_form_of value.now)) }
+    ensures value { ScopeAnswers (λ c. number c.kind c.value) result (counts.form_faults scope.now (tree.count_form_of value.now)) (counts.form_number scope.now (tree.count_form_of value.now)) }
     ensures within { IfOk result IsWithin }
 {
     match value {
@@ -39,7 +40,7 @@ fn natural(constant: Constant) -> u64
 
 /// A stream's depth or an array's number of cells.
 pub fn count_in(scope: &Scope, count: &Count) -> Result<u32, CheckFault>
-    ensures value { Answers (λ n. n) result (counts.count_faults scope.now (tree.count_of count.now)) (counts.count_of scope.now (tree.count_of count.now)) }
+    ensures value { ScopeAnswers (λ n. n) result (counts.count_faults scope.now (tree.count_of count.now)) (counts.count_of scope.now (tree.count_of count.now)) }
     ensures within { IfOk result (λ n. (1 ≤ n) × (n ≤ 4096)) }
 {
     let number = natural(form(scope, &count.value)?);

@@ -1,8 +1,9 @@
+// The rules of expressions, and the flat expression with its kind that each means.
 ghost use Rattle.std.specs.Prelude.{◌≡◌, ◌++◌, ◌%◌, ◌&&◌, Some, false};
 ghost use Rattle.tapa_base.specs.Kinds.{values_of};
 ghost use Rattle.tapa_syntax.specs.Flat.{flat_expression, literal};
 ghost use Rattle.tapa_syntax.specs.Trees as tree;
-ghost use Rattle.check_scope.specs.Answers.{Answers};
+ghost use Rattle.check_scope.specs.Answers.{ScopeAnswers};
 ghost use Rattle.check_expression.specs.Expressions as meaning;
 ghost use Rattle.check_scope.specs.Scopes.{entity_of, has_cells, is_memory};
 ghost use Rattle.check_scope.specs.declared.fault.CheckCode.TheVariants.{C8};
@@ -47,9 +48,9 @@ fn literal_value(kind: Kind, number: u64) -> Typed
     }
 }
 
-/// A name of something that has cells. In a conditional place it is no memory.
+/// A name of something that has cells. Where it is evaluated conditionally it is no memory.
 fn cells(scope: &Scope, conditional: bool, name: &Name) -> Result<Entity, CheckFault>
-    ensures { Answers (λ entity. Some entity) result
+    ensures { ScopeAnswers (λ entity. Some entity) result
         (faults.name_faults scope.now has_cells name.now ++ faults.where_so (conditional && is_memory (entity_of name.now.text scope.now)) (faults.fault C8 name.now.place))
         (entity_of name.now.text scope.now) }
 {
@@ -91,7 +92,7 @@ fn called<'a>(
     name: &Name,
     method: Option<StreamMethod<'a>>,
 ) -> Result<Typed, CheckFault>
-    ensures { Answers meaning.typed result
+    ensures { ScopeAnswers meaning.typed result
         (meaning.operand_faults (entity_of stream.now.text scope.now) conditional (methods.method_view method.entry) stream.now name.now)
         (meaning.operand (entity_of stream.now.text scope.now) (methods.method_view method.entry)) }
 {
@@ -105,14 +106,14 @@ fn called<'a>(
     Ok(called_value(call))
 }
 
-/// An expression. In a conditional place no operation on a stream or memory stands.
+/// An expression. One that is evaluated conditionally has no operation on a stream or memory.
 pub fn check_expression(
     alloc: Global,
     scope: &Scope,
     conditional: bool,
     value: &Expression,
 ) -> Result<Typed, CheckFault>
-    ensures { Answers meaning.typed result (meaning.faults_of scope.now conditional (tree.expression value.now)) (meaning.meaning_of scope.now (tree.expression value.now)) }
+    ensures { ScopeAnswers meaning.typed result (meaning.faults_of scope.now conditional (tree.expression value.now)) (meaning.meaning_of scope.now (tree.expression value.now)) }
 {
     match value {
         Expression::Literal(kind, number) => Ok(literal_value(*kind, *number)),
@@ -179,7 +180,7 @@ pub fn check_wanted(
     kind: Kind,
     value: &Expression,
 ) -> Result<Expr, CheckFault>
-    ensures { Answers flat_expression result (meaning.faults_of scope.now false (tree.expression value.now)) (meaning.wanted scope.now kind (tree.expression value.now)) }
+    ensures { ScopeAnswers flat_expression result (meaning.faults_of scope.now false (tree.expression value.now)) (meaning.wanted scope.now kind (tree.expression value.now)) }
 {
     let value = check_expression(alloc, scope, false, value)?;
     as_kind(alloc, value, kind)

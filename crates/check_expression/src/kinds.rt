@@ -1,3 +1,4 @@
+// The kind that an operator is done in, and the kind that the arms of a choice share.
 ghost use Rattle.std.specs.Prelude.{◌≡◌};
 ghost use Rattle.check_expression.specs.Kinds as spec;
 ghost use Rattle.check_expression.specs.Expressions as meaning;

@@ -1,6 +1,7 @@
+// The methods of streams: their names and arguments, the direction that each needs, and the rules of a call.
 ghost use Rattle.std.specs.Prelude.{◌≡◌, [], Some, bytes_eq, map};
 ghost use Rattle.tapa_syntax.specs.Trees as tree;
-ghost use Rattle.check_scope.specs.Answers.{Answers};
+ghost use Rattle.check_scope.specs.Answers.{ScopeAnswers};
 ghost use Rattle.check_expression.specs.Expressions as meaning;
 ghost use Rattle.check_expression.specs.Methods as methods;
 ghost use Rattle.check_scope.specs.Scopes.{entity_of, kind_of_entity, number_of};
@@ -99,7 +100,7 @@ pub(crate) fn gives_value(method: StreamMethod) -> bool
 
 /// The direction of a method is the stream's.
 fn check_direction(writes: bool, method: StreamMethod, stream: &Name) -> Result<(), CheckFault>
-    ensures { Answers (λ x. x) result (meaning.wrong_direction writes (methods.method method.entry) stream.now) tt }
+    ensures { ScopeAnswers (λ x. x) result (meaning.wrong_direction writes (methods.method method.entry) stream.now) tt }
 {
     if of_output(method) == writes {
         Ok(())
@@ -114,7 +115,7 @@ fn check_method<'a>(
     stream: &Name,
     name: &Name,
 ) -> Result<StreamMethod<'a>, CheckFault>
-    ensures { Answers (λ m. Some (methods.method m)) result (meaning.method_faults writes (methods.method_view method.entry) stream.now name.now) (methods.method_view method.entry) }
+    ensures { ScopeAnswers (λ m. Some (methods.method m)) result (meaning.method_faults writes (methods.method_view method.entry) stream.now name.now) (methods.method_view method.entry) }
 {
     match method {
         None => Err(refused(CheckCode::C6, name.place)),
@@ -132,7 +133,7 @@ pub fn check_call<'a>(
     name: &Name,
     method: Option<StreamMethod<'a>>,
 ) -> Result<StreamCall<'a>, CheckFault>
-    ensures { Answers methods.call_view result
+    ensures { ScopeAnswers methods.call_view result
         (meaning.call_faults (entity_of stream.now.text scope.now) (methods.method_view method.entry) stream.now name.now)
         (methods.method_view method.entry, kind_of_entity (entity_of stream.now.text scope.now), number_of (entity_of stream.now.text scope.now)) }
 {

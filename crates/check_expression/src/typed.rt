@@ -1,10 +1,11 @@
+// Flat expressions with their kinds: conversions, operators, choices, and the values of names, cells of arrays and words of memories.
 ghost use Rattle.std.specs.Prelude.{◌≡◌, [], Some};
 ghost use Rattle.tapa_base.specs.declared.kind.Kind.TheVariants as kind;
 ghost use Rattle.tapa_base.specs.declared.op.Op.TheVariants as op;
 ghost use Rattle.tapa_syntax.specs.declared.tree.BinaryOperator.TheVariants.{LogicalAnd, LogicalOr};
 ghost use Rattle.tapa_syntax.specs.Flat as flat;
 ghost use Rattle.tapa_syntax.specs.Flat.{flat_expression};
-ghost use Rattle.check_scope.specs.Answers.{Answers};
+ghost use Rattle.check_scope.specs.Answers.{ScopeAnswers};
 ghost use Rattle.check_expression.specs.Expressions as meaning;
 ghost use Rattle.check_scope.specs.Scopes.{kind_of_entity, number_of};
 
@@ -21,9 +22,9 @@ pub struct Typed {
     pub kind: Kind,
 }
 
-/// A value where one of a kind is wanted: a conversion stands where the kinds differ.
+/// A value where one of a kind is wanted: with a conversion where the kinds differ.
 pub fn as_kind(alloc: Global, value: Typed, to: Kind) -> Result<Expr, CheckFault>
-    ensures { Answers flat_expression result [] (meaning.as_kind value.kind to (flat_expression value.value)) }
+    ensures { ScopeAnswers flat_expression result [] (meaning.as_kind value.kind to (flat_expression value.value)) }
 {
     let Typed { value, kind } = value;
     if same_kind(kind, to) {
@@ -38,7 +39,7 @@ pub fn as_kind(alloc: Global, value: Typed, to: Kind) -> Result<Expr, CheckFault
 
 /// A conversion that the source names.
 pub(crate) fn cast(alloc: Global, to: Kind, value: Typed) -> Result<Typed, CheckFault>
-    ensures { Answers meaning.typed result [] (record { value = meaning.as_kind value.kind to (flat_expression value.value); kind = to }) }
+    ensures { ScopeAnswers meaning.typed result [] (record { value = meaning.as_kind value.kind to (flat_expression value.value); kind = to }) }
 {
     let value = as_kind(alloc, value, to)?;
     Ok(Typed { value, kind: to })
@@ -46,7 +47,7 @@ pub(crate) fn cast(alloc: Global, to: Kind, value: Typed) -> Result<Typed, Check
 
 /// An operator on two values, which are converted to the kind in which it is done.
 pub fn operated(alloc: Global, op: Op, left: Typed, right: Typed) -> Result<Expr, CheckFault>
-    ensures { Answers flat_expression result [] (meaning.operated op left.kind right.kind (flat_expression left.value) (flat_expression right.value)) }
+    ensures { ScopeAnswers flat_expression result [] (meaning.operated op left.kind right.kind (flat_expression left.value) (flat_expression right.value)) }
 {
     let kind = operated_kind(op, left.kind, right.kind);
     let left = as_kind(alloc, left, kind)?;
@@ -60,7 +61,7 @@ pub fn operated(alloc: Global, op: Op, left: Typed, right: Typed) -> Result<Expr
 }
 
 fn conjunction(alloc: Global, left: Typed, right: Typed) -> Result<Expr, CheckFault>
-    ensures { Answers flat_expression result [] (meaning.binary_value LogicalAnd left.kind right.kind (flat_expression left.value) (flat_expression right.value)) }
+    ensures { ScopeAnswers flat_expression result [] (meaning.binary_value LogicalAnd left.kind right.kind (flat_expression left.value) (flat_expression right.value)) }
 {
     let left = as_kind(alloc, left, Kind::Bool)?;
     let right = as_kind(alloc, right, Kind::Bool)?;
@@ -68,7 +69,7 @@ fn conjunction(alloc: Global, left: Typed, right: Typed) -> Result<Expr, CheckFa
 }
 
 fn disjunction(alloc: Global, left: Typed, right: Typed) -> Result<Expr, CheckFault>
-    ensures { Answers flat_expression result [] (meaning.binary_value LogicalOr left.kind right.kind (flat_expression left.value) (flat_expression right.value)) }
+    ensures { ScopeAnswers flat_expression result [] (meaning.binary_value LogicalOr left.kind right.kind (flat_expression left.value) (flat_expression right.value)) }
 {
     let left = as_kind(alloc, left, Kind::Bool)?;
     let right = as_kind(alloc, right, Kind::Bool)?;
@@ -94,7 +95,7 @@ pub(crate) fn binary(
     left: Typed,
     right: Typed,
 ) -> Result<Typed, CheckFault>
-    ensures { Answers meaning.typed result [] (record {
+    ensures { ScopeAnswers meaning.typed result [] (record {
       value = meaning.binary_value operator left.kind right.kind (flat_expression left.value) (flat_expression right.value);
       kind = meaning.binary_kind operator left.kind right.kind;
     }) }
@@ -109,7 +110,7 @@ pub(crate) fn binary(
 }
 
 fn negated(alloc: Global, kind: Kind, value: Expr) -> Result<Expr, CheckFault>
-    ensures { Answers flat_expression result [] (flat.apply op.Sub kind (flat.literal kind 0) (flat_expression value)) }
+    ensures { ScopeAnswers flat_expression result [] (flat.apply op.Sub kind (flat.literal kind 0) (flat_expression value)) }
 {
     Ok(Expr::Apply {
         op: Op::Sub,
@@ -135,7 +136,7 @@ pub(crate) fn prefixed(
     operator: PrefixOperator,
     value: Typed,
 ) -> Result<Typed, CheckFault>
-    ensures { Answers meaning.typed result [] (record {
+    ensures { ScopeAnswers meaning.typed result [] (record {
       value = meaning.prefix_value operator value.kind (flat_expression value.value);
       kind = meaning.prefix_kind operator value.kind;
     }) }
@@ -158,7 +159,7 @@ pub(crate) fn chosen(
     first: Typed,
     second: Typed,
 ) -> Result<Typed, CheckFault>
-    ensures { Answers meaning.typed result [] (record {
+    ensures { ScopeAnswers meaning.typed result [] (record {
       value = flat.choice (meaning.as_kind test.kind kind.Bool (flat_expression test.value))
           (meaning.as_kind first.kind (meaning.arm_kind first.kind second.kind) (flat_expression first.value))
           (meaning.as_kind second.kind (meaning.arm_kind first.kind second.kind) (flat_expression second.value));
@@ -223,7 +224,7 @@ pub(crate) fn named_value(entity: Entity) -> Typed
 
 /// A cell of an array, or a word of a memory.
 pub(crate) fn element(alloc: Global, entity: Entity, index: Typed) -> Result<Typed, CheckFault>
-    ensures { Answers meaning.typed result [] (record {
+    ensures { ScopeAnswers meaning.typed result [] (record {
       value = meaning.cell_value (Some entity) (meaning.as_kind index.kind kind.U64 (flat_expression index.value));
       kind = kind_of_entity (Some entity);
     }) }

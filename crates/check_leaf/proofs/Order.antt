@@ -7,15 +7,15 @@ use Rattle.tapa_syntax.specs.Trees as tree
 use Rattle.check_scope.specs.declared.fault.Broken.{Broken}
 use Rattle.check_scope.specs.declared.fault.CheckFault.{CheckFault}
 use Rattle.check_scope.specs.declared.fault.CheckFault.TheVariants.{At, OutOfMemory}
-use Rattle.check_scope.specs.Answers.{Answers, IsFirst}
+use Rattle.check_scope.specs.Answers.{ScopeAnswers, IsFirstBroken}
 use Rattle.check_leaf.specs.Statements.{Frame, statement_faults, statements_faults, after}
 
 -- what a check that answers an error says, whatever the part means
 abbrev pub Refused : {B : Type 0} → CheckFault → List Broken → B → Type 0
-Refused {B} e fs m = Answers {A = Unit {0}} {B = B} (λ x. m) (Err e) fs m
+Refused {B} e fs m = ScopeAnswers {A = Unit {0}} {B = B} (λ x. m) (Err e) fs m
 
 pub same : {B D : Type 0} (e : CheckFault) (fs gs : List Broken) (m : B) (n : D) → fs ≡ gs → Refused e fs m → Refused e gs n
-same (At b) fs gs m n q h = subst (λ xs. IsFirst xs b) q h
+same (At b) fs gs m n q h = subst (λ xs. IsFirstBroken xs b) q h
 same OutOfMemory fs gs m n q h = tt
 
 -- a part that is refused is before those behind it

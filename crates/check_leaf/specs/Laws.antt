@@ -22,4 +22,5 @@ AreGlobal (d ∷ rest) = IsGlobal d.1 × AreGlobal rest
 
 -- a task without faults means a leaf in which each name is bound and each value has its kind
 abbrev pub LegalLeavesAreWellFormed : Type 0
-LegalLeavesAreWellFormed = (file : Block) → AreGlobal file → (t : TaskTree) (ss : Statements) (leaf : Leaf) → leaf_faults file t ss ≡ [] → flat_leaf leaf ≡ leaf_of file t ss → IsLeaf leaf
+LegalLeavesAreWellFormed =
+    (file : Block) → AreGlobal file → (t : TaskTree) (ss : Statements) (leaf : Leaf) → leaf_faults file t ss ≡ [] → flat_leaf leaf ≡ leaf_of file t ss → IsLeaf leaf

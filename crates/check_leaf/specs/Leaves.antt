@@ -90,7 +90,7 @@ leaf_made name h code = record {
   code = code;
 }
 
--- behind the statements
+-- what a task has declared after its statements
 abbrev pub ended : Head → Statements → Head
 ended h ss = record { frame = after_all h.frame ss; streams = h.streams; memories = h.memories; scalars = h.scalars }
 

@@ -31,7 +31,7 @@ use Rattle.check_expression.specs.Expressions.{Method, peeks, tests_end, writes,
 use Rattle.check_expression.specs.Expressions.{operated, operated_kind, faults_of, divides, divisor_faults}
 use Rattle.check_expression.specs.Counts.{count_of, count_faults}
 
--- What a task has declared where a statement stands: the names in scope, and the kinds of its variables and its arrays so
+-- What a task has declared before a statement: the names in scope, and the kinds of its variables and its arrays so
 -- far, which are numbered in order of declaration.
 pub record Frame : Type 0 where
   pub scope : Scope
@@ -42,7 +42,7 @@ pub record Frame : Type 0 where
 abbrev pub opened : Frame → Frame
 opened f = record { scope = f.scope ++ [] ∷ []; vars = f.vars; arrays = f.arrays }
 
--- behind a block the names are those before it, and numbers go on
+-- after a block the names are those before it, and numbers go on
 abbrev pub closed : Frame → Frame → Frame
 closed f g = record { scope = f.scope; vars = g.vars; arrays = g.arrays }
 
@@ -77,7 +77,7 @@ declarator_faults f (tree.plain x) = variable_faults f x
 declarator_faults f (tree.initialized x e) = variable_faults f x ++ faults_of f.scope false e
 declarator_faults f (tree.array x count) = doubled f.scope x ++ count_faults f.scope count ++ array_faults f (count_of f.scope count) count.place
 
--- a name is in scope from behind its initialiser on
+-- a name is in scope from the end of its initialiser on
 abbrev pub after_declarator : Bool → Kind → Frame → DeclaratorTree → Frame
 after_declarator free k f (tree.plain x) = with_variable free k x f
 after_declarator free k f (tree.initialized x e) = with_variable free k x f
@@ -110,7 +110,7 @@ declaration_faults f d = declarators_faults (not d.constant) d.kind f d.names
 abbrev pub declaration_code : Frame → DeclarationTree → List FlatStatement
 declaration_code f d = declarators_code (not d.constant) d.kind f d.names
 
--- ---- places that are assigned
+-- ---- targets of assignments
 
 abbrev pub place_name : PlaceTree → Name
 place_name (tree.variable_place x) = x
@@ -289,12 +289,12 @@ abbrev mutual
   after_all f tree.no_statement = f
   after_all f (tree.statement_then s ss) = after_all (after f s) ss
 
--- C3: break and continue stand in a loop (ISO C++ [stmt.break], [stmt.cont])
+-- C3: break and continue are in a loop (ISO C++ [stmt.break], [stmt.cont])
 abbrev pub jump_faults : Bool → Place → List Broken
 jump_faults in_loop at = where_so (not in_loop) (fault C3 at)
 
 abbrev mutual
-  -- the faults of a statement in the order of the text; whether it stands in a loop
+  -- the faults of a statement in the order of the text; l says whether it is in a loop
   pub statement_faults : Bool → Frame → StatementTree → List Broken
   statement_faults l f (tree.attributed attributes s) = statement_faults l f s
   statement_faults l f tree.empty = []

@@ -1,10 +1,10 @@
--- What parts of a task stand for.
+-- What parts of a task denote.
 use Rattle.std.specs.Prelude.{ℕ, ◌^◌, ◌-◌, min, List, ◌++◌, map, Result}
 use Rattle.tapa_syntax.specs.declared.program.Stmt.{Stmt}
 use Rattle.tapa_syntax.specs.Flat.{FlatExpression, FlatStatement, flat_expression, flat_statement}
 use Rattle.check_scope.specs.declared.fault.Broken.{Broken}
 use Rattle.check_scope.specs.declared.fault.CheckFault.{CheckFault}
-use Rattle.check_scope.specs.Answers.{Answers}
+use Rattle.check_scope.specs.Answers.{ScopeAnswers}
 use Rattle.check_leaf.specs.declared.target.Target.{Target}
 use Rattle.check_leaf.specs.declared.target.Target.TheVariants.{Variable, Cell, Word}
 use Rattle.check_leaf.specs.Statements as task
@@ -29,8 +29,8 @@ HeadPart = Frame × List FlatStatement × FlatExpression × List FlatStatement
 
 -- code is added that a part means, and a frame is left
 abbrev pub Adds : Result (Unit {0}) CheckFault → Frame → List Stmt → List Stmt → List Broken → Frame → List FlatStatement → Type 0
-Adds result f before after faults g code = Answers {B = Part} (λ x. (f, map flat_statement after)) result faults (g, map flat_statement before ++ code)
+Adds result f before after faults g code = ScopeAnswers {B = Part} (λ x. (f, map flat_statement after)) result faults (g, map flat_statement before ++ code)
 
--- the same where the frame is the one before
+-- code is added that a part means, and the frame stays
 abbrev pub Appends : Result (Unit {0}) CheckFault → List Stmt → List Stmt → List Broken → List FlatStatement → Type 0
-Appends result before after faults code = Answers (λ x. map flat_statement after) result faults (map flat_statement before ++ code)
+Appends result before after faults code = ScopeAnswers (λ x. map flat_statement after) result faults (map flat_statement before ++ code)

@@ -1,10 +1,11 @@
+// The rules of actions, and their flat code: calls of stream methods, writes, reads, assignments, increments and decrements.
 ghost use Rattle.std.specs.Prelude.{List, ◌≡◌, ◌++◌, ◌∷◌, [], false, map};
 ghost use Rattle.std.specs.List.{flat_map};
 ghost use Rattle.tapa_syntax.specs.Flat as flat;
 ghost use Rattle.tapa_syntax.specs.Flat.{flat_statement};
 ghost use Rattle.tapa_syntax.specs.Trees as tree;
 ghost use Rattle.check_scope.specs.declared.fault.Broken.{Broken};
-ghost use Rattle.check_scope.specs.Answers.{Answers};
+ghost use Rattle.check_scope.specs.Answers.{ScopeAnswers};
 ghost use Rattle.check_expression.specs.Expressions.{faults_of, wanted, kind_of, value_of, divisor_faults};
 ghost use Rattle.check_leaf.specs.Statements as task;
 ghost use Rattle.check_leaf.specs.Views.{Appends};
@@ -76,7 +77,7 @@ fn assignment(
     place: Place,
     value: &Expression,
 ) -> Result<Stmt, CheckFault>
-    ensures { Answers flat_statement result
+    ensures { ScopeAnswers flat_statement result
         (task.place_faults scope.now (tree.place_expression_of target.now) ++ divisor_faults scope.now (task.assignment_divides operator) place
         (tree.expression value.now) ++ faults_of scope.now false (tree.expression value.now))
         (task.assigned (task.target_of scope.now (tree.place_expression_of target.now)) operator (kind_of scope.now (tree.expression value.now)) (value_of scope.now (tree.expression value.now))) }
@@ -93,7 +94,7 @@ fn step(
     step: StepOperator,
     target: &PlaceExpression,
 ) -> Result<Stmt, CheckFault>
-    ensures { Answers flat_statement result (task.step_faults scope.now step (tree.place_expression_of target.now))
+    ensures { ScopeAnswers flat_statement result (task.step_faults scope.now step (tree.place_expression_of target.now))
         (task.stepped (task.target_of scope.now (tree.place_expression_of target.now)) step) }
 {
     let increment = step == StepOperator::Increment;
@@ -103,7 +104,7 @@ fn step(
 
 /// One statement more, if it is a legal one.
 fn push(statement: Result<Stmt, CheckFault>, code: &mut Vec<Stmt>) -> Result<(), CheckFault>
-    ensures { (faults : List Broken) (meaning : flat.FlatStatement) → Answers flat_statement statement faults meaning → Appends result code.old.items code.new.items faults (meaning ∷ []) }
+    ensures { (faults : List Broken) (meaning : flat.FlatStatement) → ScopeAnswers flat_statement statement faults meaning → Appends result code.old.items code.new.items faults (meaning ∷ []) }
 {
     code.push(statement?)?;
     Ok(())

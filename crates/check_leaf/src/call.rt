@@ -1,6 +1,7 @@
+// The rules of a call of a stream's method as a statement, and its flat code.
 ghost use Rattle.std.specs.Prelude.{◌≡◌, ◌++◌, ◌∷◌, [], map};
 ghost use Rattle.tapa_syntax.specs.Flat.{flat_statement};
-ghost use Rattle.check_scope.specs.Answers.{Answers};
+ghost use Rattle.check_scope.specs.Answers.{ScopeAnswers};
 ghost use Rattle.check_expression.specs.Expressions.{call_faults};
 ghost use Rattle.check_expression.specs.Methods.{method_view};
 ghost use Rattle.check_scope.specs.Scopes.{kind_of_entity, number_of, entity_of};
@@ -19,7 +20,7 @@ pub(crate) fn called<'a>(
     name: &Name,
     method: Option<StreamMethod<'a>>,
 ) -> Result<Stmt, CheckFault>
-    ensures { Answers flat_statement result
+    ensures { ScopeAnswers flat_statement result
         (call_faults (entity_of stream.now.text scope.now) (method_view method.entry) stream.now name.now ++ task.given_faults scope.now (method_view method.entry))
         (task.called scope.now (kind_of_entity (entity_of stream.now.text scope.now)) (number_of (entity_of stream.now.text scope.now)) (method_view method.entry)) }
 {

@@ -1,3 +1,4 @@
+// The rules of declarations of variables and arrays in a leaf task, and the code that gives them their first values.
 ghost use Rattle.std.specs.Prelude.{◌≡◌, ◌<◌, ◌∷◌, ◌++◌, [], length, map, not};
 ghost use Rattle.tapa_syntax.specs.Flat as flat;
 ghost use Rattle.tapa_syntax.specs.Flat.{flat_expression};

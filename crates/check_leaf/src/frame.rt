@@ -1,5 +1,6 @@
+// The declarations of a leaf task so far: the names in scope, the variables and the arrays, within their limits.
 ghost use Rattle.std.specs.Prelude.{◌≡◌, ◌<◌, ◌≤◌, ◌+◌, ◌∷◌, ◌++◌, [], IfOk, length};
-ghost use Rattle.check_scope.specs.Answers.{Answers};
+ghost use Rattle.check_scope.specs.Answers.{ScopeAnswers};
 ghost use Rattle.check_scope.specs.Faults.{doubled};
 ghost use Rattle.check_scope.specs.Scopes.{Block, Scope as Blocks, IsSound, declaring};
 ghost use Rattle.check_leaf.specs.Statements as task;
@@ -42,7 +43,7 @@ impl<'a> Model for Frame<'a> {
 impl<'a> Frame<'a> {
     /// A task of a file begins.
     pub(crate) fn new(alloc: Global, file: &'a Names) -> Result<Self, CheckFault>
-        ensures { Answers (λ f. f) result [] (record { scope = file.now ∷ [] ∷ []; vars = []; arrays = [] }) }
+        ensures { ScopeAnswers (λ f. f) result [] (record { scope = file.now ∷ [] ∷ []; vars = []; arrays = [] }) }
     {
         let mut scope = Scope::new(alloc, file);
         scope.enter(alloc)?;
@@ -78,7 +79,7 @@ impl<'a> Frame<'a> {
     /// A block begins.
     pub(crate) fn enter(&mut self) -> Result<(), CheckFault>
         ensures deep { IfOk result (λ x. 2 < length self.new.scope) }
-        ensures value { Answers (λ x. self.new) result [] (task.opened self.old) }
+        ensures value { ScopeAnswers (λ x. self.new) result [] (task.opened self.old) }
     {
         self.scope.enter(self.alloc)
     }
@@ -94,14 +95,14 @@ impl<'a> Frame<'a> {
     /// One declaration more, which is no variable and no array, of a name that the block does not declare yet.
     pub(crate) fn declare(&mut self, name: &Name, entity: Entity) -> Result<(), CheckFault>
         requires { IsSound entity }
-        ensures { Answers (λ x. self.new) result (doubled self.old.scope name.now) (task.with_name name.now.text entity self.old) }
+        ensures { ScopeAnswers (λ x. self.new) result (doubled self.old.scope name.now) (task.with_name name.now.text entity self.old) }
     {
         self.scope.declare(self.alloc, name, entity)
     }
 
     /// A name that may be declared as a variable.
     pub(crate) fn check_variable(&self, name: &Name) -> Result<(), CheckFault>
-        ensures value { Answers (λ x. x) result (task.variable_faults self.now name.now) tt }
+        ensures value { ScopeAnswers (λ x. x) result (task.variable_faults self.now name.now) tt }
         ensures new { IfOk result (λ x. doubled self.now.scope name.now ≡ []) }
         ensures room { IfOk result (λ x. length self.now.vars < 1024) }
     {
@@ -121,7 +122,7 @@ impl<'a> Frame<'a> {
     ) -> Result<u32, CheckFault>
         requires new { doubled self.old.scope name.now ≡ [] }
         requires room { length self.old.vars < 1024 }
-        ensures { Answers {B = Numbered} (λ n. (n, self.new)) result [] (length self.old.vars, task.with_variable free kind name.now self.old) }
+        ensures { ScopeAnswers {B = Numbered} (λ n. (n, self.new)) result [] (length self.old.vars, task.with_variable free kind name.now self.old) }
     {
         let number = self.vars.len() as u32;
         let entity = Entity::Variable { free, kind, number };
@@ -133,7 +134,7 @@ impl<'a> Frame<'a> {
     /// An array of this many cells may be declared.
     pub(crate) fn check_array(&self, cells: u32, place: Place) -> Result<(), CheckFault>
         requires { cells ≤ 4096 }
-        ensures value { Answers (λ x. x) result (task.array_faults self.now cells place) tt }
+        ensures value { ScopeAnswers (λ x. x) result (task.array_faults self.now cells place) tt }
         ensures room { IfOk result (λ x. task.all_cells self.now.arrays + cells ≤ 65536) }
     {
         if self.cells + cells > MOST_CELLS {
@@ -153,7 +154,7 @@ impl<'a> Frame<'a> {
         requires new { doubled self.old.scope name.now ≡ [] }
         requires cells { 1 ≤ cells }
         requires room { task.all_cells self.old.arrays + cells ≤ 65536 }
-        ensures { Answers {B = Numbered} (λ n. (n, self.new)) result [] (length self.old.arrays, task.with_array free kind name.now cells self.old) }
+        ensures { ScopeAnswers {B = Numbered} (λ n. (n, self.new)) result [] (length self.old.arrays, task.with_array free kind name.now cells self.old) }
     {
         let number = self.arrays.len() as u32;
         let entity = Entity::Array { free, kind, number };

@@ -1,7 +1,8 @@
+// The rules of a leaf task: its parameters, its statements and its count of tick places; and the flat leaf that it means.
 ghost use Rattle.std.specs.Prelude.{◌≡◌, [], map};
 ghost use Rattle.tapa_syntax.specs.Flat.{flat_leaf, flat_statement};
 ghost use Rattle.tapa_syntax.specs.Trees as tree;
-ghost use Rattle.check_scope.specs.Answers.{Answers};
+ghost use Rattle.check_scope.specs.Answers.{ScopeAnswers};
 ghost use Rattle.check_scope.specs.Faults.{doubled};
 ghost use Rattle.check_leaf.specs.Leaves as leaf;
 ghost use Rattle.check_leaf.specs.Statements as task;
@@ -29,7 +30,7 @@ struct Head<'a> {
 
 impl<'a> Head<'a> {
     fn new(alloc: Global, file: &'a Names) -> Result<Self, CheckFault>
-        ensures { Answers head_of result [] (leaf.task_begins file.now) }
+        ensures { ScopeAnswers head_of result [] (leaf.task_begins file.now) }
     {
         Ok(Head {
             frame: Frame::new(alloc, file)?,
@@ -40,7 +41,7 @@ impl<'a> Head<'a> {
     }
 
     fn stream(&mut self, writes: bool, kind: Kind, name: &Name) -> Result<(), CheckFault>
-        ensures { Answers (λ x. head_of self.new) result (doubled self.old.frame.scope name.now) (leaf.with_stream writes kind name.now (head_of self.old)) }
+        ensures { ScopeAnswers (λ x. head_of self.new) result (doubled self.old.frame.scope name.now) (leaf.with_stream writes kind name.now (head_of self.old)) }
     {
         let number = number_of(self.streams.len())?;
         let entity = Entity::Stream {
@@ -54,7 +55,7 @@ impl<'a> Head<'a> {
     }
 
     fn memory(&mut self, free: bool, kind: Kind, name: &Name) -> Result<(), CheckFault>
-        ensures { Answers (λ x. head_of self.new) result (doubled self.old.frame.scope name.now) (leaf.with_memory free kind name.now (head_of self.old)) }
+        ensures { ScopeAnswers (λ x. head_of self.new) result (doubled self.old.frame.scope name.now) (leaf.with_memory free kind name.now (head_of self.old)) }
     {
         let number = number_of(self.memories.len())?;
         let entity = Entity::Memory { free, kind, number };
@@ -64,7 +65,7 @@ impl<'a> Head<'a> {
     }
 
     fn scalar(&mut self, free: bool, kind: Kind, name: &Name) -> Result<(), CheckFault>
-        ensures { Answers (λ x. head_of self.new) result (task.variable_faults self.old.frame name.now) (leaf.with_scalar free kind name.now (head_of self.old)) }
+        ensures { ScopeAnswers (λ x. head_of self.new) result (task.variable_faults self.old.frame name.now) (leaf.with_scalar free kind name.now (head_of self.old)) }
     {
         self.frame.check_variable(name)?;
         let number = self.frame.add_variable(free, kind, name)?;
@@ -73,7 +74,7 @@ impl<'a> Head<'a> {
     }
 
     fn parameter(&mut self, parameter: &Parameter) -> Result<(), CheckFault>
-        ensures { Answers (λ x. head_of self.new) result (leaf.parameter_faults (head_of self.old) parameter.now) (leaf.after_parameter (head_of self.old) parameter.now) }
+        ensures { ScopeAnswers (λ x. head_of self.new) result (leaf.parameter_faults (head_of self.old) parameter.now) (leaf.after_parameter (head_of self.old) parameter.now) }
     {
         match parameter {
             Parameter::InputStream(kind, name) => self.stream(false, *kind, name),
@@ -92,7 +93,7 @@ impl<'a> Head<'a> {
     }
 
     fn parameters(&mut self, parameters: &[Parameter]) -> Result<(), CheckFault>
-        ensures { Answers (λ x. head_of self.new) result (leaf.parameters_faults (head_of self.old) parameters.now) (leaf.after_parameters (head_of self.old) parameters.now) }
+        ensures { ScopeAnswers (λ x. head_of self.new) result (leaf.parameters_faults (head_of self.old) parameters.now) (leaf.after_parameters (head_of self.old) parameters.now) }
     {
         for parameter in parameters {
             self.parameter(parameter)?;
@@ -103,7 +104,7 @@ impl<'a> Head<'a> {
 
 /// A task has no more tick places than the limit allows.
 fn check_size(code: &[Stmt], end: Place) -> Result<(), CheckFault>
-    ensures { Answers (λ x. x) result (leaf.size_faults (map flat_statement code.now) end) tt }
+    ensures { ScopeAnswers (λ x. x) result (leaf.size_faults (map flat_statement code.now) end) tt }
 {
     if places_in(code) >= u64::from(MOST_PLACES) {
         return Err(over(MOST_PLACES, end));
@@ -140,7 +141,7 @@ pub fn check_leaf(
     task: &TaskDeclaration,
     statements: &[Statement],
 ) -> Result<Leaf, CheckFault>
-    ensures { Answers flat_leaf result
+    ensures { ScopeAnswers flat_leaf result
         (leaf.leaf_faults file.now (tree.task_of task.now) (tree.statements (map tree.statement statements.now)))
         (leaf.leaf_of file.now (tree.task_of task.now) (tree.statements (map tree.statement statements.now))) }
 {

@@ -1,10 +1,11 @@
+// The rules of statements, and their flat code: blocks, choices, loops, jumps, declarations and actions.
 ghost use Rattle.std.specs.Prelude.{if◌then◌else◌, List, ◌≡◌, ◌<◌, ◌∷◌, ◌++◌, [], IfOk, false, true, length, map};
 ghost use Rattle.tapa_base.specs.declared.kind.Kind.TheVariants as kind;
 ghost use Rattle.tapa_syntax.specs.Flat as flat;
 ghost use Rattle.tapa_syntax.specs.Flat.{FlatStatement, flat_expression, flat_statement, in_row};
 ghost use Rattle.tapa_syntax.specs.Trees as tree;
 ghost use Rattle.check_scope.specs.declared.fault.Broken.{Broken};
-ghost use Rattle.check_scope.specs.Answers.{Answers};
+ghost use Rattle.check_scope.specs.Answers.{ScopeAnswers};
 ghost use Rattle.check_expression.specs.Expressions.{faults_of, wanted};
 ghost use Rattle.check_scope.specs.Faults.{name_faults};
 ghost use Rattle.check_scope.specs.Scopes.{is_input, number_of, entity_of};
@@ -23,14 +24,14 @@ use tapa_syntax::{Action, Expr, Expression, ForHead, ForStart, Name, Statement, 
 
 /// A test, which is converted to `bool`.
 fn test(frame: &Frame, value: &Expression) -> Result<Expr, CheckFault>
-    ensures { Answers flat_expression result (faults_of frame.now.scope false (tree.expression value.now)) (wanted frame.now.scope kind.Bool (tree.expression value.now)) }
+    ensures { ScopeAnswers flat_expression result (faults_of frame.now.scope false (tree.expression value.now)) (wanted frame.now.scope kind.Bool (tree.expression value.now)) }
 {
     check_wanted(frame.alloc(), frame.scope(), Kind::Bool, value)
 }
 
 /// That a stream is not at its end of transaction (TAPA: `TAPA_WHILE_NOT_EOT`).
 fn not_at_end(frame: &Frame, stream: &Name) -> Result<Expr, CheckFault>
-    ensures { Answers flat_expression result (name_faults frame.now.scope is_input stream.now) (flat.negation (flat.is_end (number_of (entity_of stream.now.text frame.now.scope)))) }
+    ensures { ScopeAnswers flat_expression result (name_faults frame.now.scope is_input stream.now) (flat.negation (flat.is_end (number_of (entity_of stream.now.text frame.now.scope)))) }
 {
     let entity = frame.scope().named(Role::Input, stream)?;
     let end = Expr::Eot(entity_number(entity));
@@ -59,15 +60,15 @@ struct Turn {
     step: Vec<Stmt>,
 }
 
-/// A choice without `else`, whose statement was read or refused. These stand outside the recursion, so that no branch is
-/// made there while the other parts are alive.
+/// A choice without `else`, whose statement was read or refused. The functions that build choices are outside the recursion, so
+/// that no branch is made there while the other parts are alive.
 fn push_if(
     alloc: Global,
     test: Expr,
     first: Result<Vec<Stmt>, CheckFault>,
     code: &mut Vec<Stmt>,
 ) -> Result<(), CheckFault>
-    ensures { (f g : FrameValue) (faults : List Broken) (inner : List FlatStatement) → Answers {B = Part} (λ c. (f, map flat_statement c.items)) first faults (g, inner)
+    ensures { (f g : FrameValue) (faults : List Broken) (inner : List FlatStatement) → ScopeAnswers {B = Part} (λ c. (f, map flat_statement c.items)) first faults (g, inner)
         → Adds result f code.old.items code.new.items faults g (flat.branch (flat_expression test) (in_row inner) (in_row []) ∷ []) }
 {
     let first = first?;
@@ -80,7 +81,7 @@ fn push_if_else(
     second: Result<Vec<Stmt>, CheckFault>,
     code: &mut Vec<Stmt>,
 ) -> Result<(), CheckFault>
-    ensures { (f g : FrameValue) (faults : List Broken) (inner : List FlatStatement) → Answers {B = Part} (λ c. (f, map flat_statement c.items)) second faults (g, inner)
+    ensures { (f g : FrameValue) (faults : List Broken) (inner : List FlatStatement) → ScopeAnswers {B = Part} (λ c. (f, map flat_statement c.items)) second faults (g, inner)
         → Adds result f code.old.items code.new.items faults g (flat.branch (flat_expression turn.test) (in_row (map flat_statement turn.step.items)) (in_row inner) ∷ []) }
 {
     let second = second?;
@@ -94,7 +95,7 @@ fn push_loop(
     body: Result<Vec<Stmt>, CheckFault>,
     code: &mut Vec<Stmt>,
 ) -> Result<(), CheckFault>
-    ensures { (f g : FrameValue) (faults : List Broken) (inner : List FlatStatement) → Answers {B = Part} (λ c. (f, map flat_statement c.items)) body faults (g, inner)
+    ensures { (f g : FrameValue) (faults : List Broken) (inner : List FlatStatement) → ScopeAnswers {B = Part} (λ c. (f, map flat_statement c.items)) body faults (g, inner)
         → Adds result f code.old.items code.new.items faults g (flat.loop (flat_expression turn.test) (in_row inner) (in_row (map flat_statement turn.step.items)) ∷ []) }
 {
     let body = body?;
@@ -103,7 +104,7 @@ fn push_loop(
     Ok(())
 }
 
-/// What stands first in the head of a `for`.
+/// The first part of the head of a `for`.
 fn start(frame: &mut Frame, start: &ForStart, code: &mut Vec<Stmt>) -> Result<(), CheckFault>
     ensures { Adds result frame.new code.old.items code.new.items (task.start_faults frame.old (tree.start_of start.now))
         (task.after_start frame.old (tree.start_of start.now)) (task.start_code frame.old (tree.start_of start.now)) }
@@ -117,7 +118,7 @@ fn start(frame: &mut Frame, start: &ForStart, code: &mut Vec<Stmt>) -> Result<()
 
 /// The test of a `for`: one without a test goes on.
 fn loop_test(frame: &Frame, value: &Option<Expression>) -> Result<Expr, CheckFault>
-    ensures { Answers flat_expression result (task.test_faults frame.now.scope (tree.option_of tree.expression value.now)) (task.test_of frame.now.scope (tree.option_of tree.expression value.now)) }
+    ensures { ScopeAnswers flat_expression result (task.test_faults frame.now.scope (tree.option_of tree.expression value.now)) (task.test_of frame.now.scope (tree.option_of tree.expression value.now)) }
 {
     match value {
         Some(value) => test(frame, value),
@@ -127,7 +128,7 @@ fn loop_test(frame: &Frame, value: &Option<Expression>) -> Result<Expr, CheckFau
 
 /// What is done between two turns of a `for`.
 fn loop_step(frame: &Frame, done: &Option<Action>) -> Result<Vec<Stmt>, CheckFault>
-    ensures { Answers (λ code. map flat_statement code.items) result (task.next_faults frame.now.scope (tree.option_of tree.action_of done.now))
+    ensures { ScopeAnswers (λ code. map flat_statement code.items) result (task.next_faults frame.now.scope (tree.option_of tree.action_of done.now))
         (task.next_code frame.now.scope (tree.option_of tree.action_of done.now)) }
 {
     let mut code = Vec::new(frame.alloc());
@@ -140,7 +141,7 @@ fn loop_step(frame: &Frame, done: &Option<Action>) -> Result<Vec<Stmt>, CheckFau
 /// The head of a `for`, which is a block.
 fn head(frame: &mut Frame, head: &ForHead, code: &mut Vec<Stmt>) -> Result<Turn, CheckFault>
     ensures deep { IfOk result (λ turn. 2 < length frame.new.scope) }
-    ensures value { Answers {B = HeadPart} (λ turn. (frame.new, map flat_statement code.new.items, flat_expression turn.test, map flat_statement turn.step.items)) result
+    ensures value { ScopeAnswers {B = HeadPart} (λ turn. (frame.new, map flat_statement code.new.items, flat_expression turn.test, map flat_statement turn.step.items)) result
         (task.head_faults frame.old (tree.head_of head.now)) (
           task.in_head frame.old (tree.head_of head.now),
           map flat_statement code.old.items ++ task.start_code (task.opened frame.old) (tree.head_of head.now).start,
@@ -158,7 +159,7 @@ fn head(frame: &mut Frame, head: &ForHead, code: &mut Vec<Stmt>) -> Result<Turn,
 /// The code of a substatement, which is a block of its own (ISO C++ [stmt.select], [stmt.iter]).
 #[cycle(statements)]
 fn body(frame: &mut Frame, in_loop: bool, inner: &Statement) -> Result<Vec<Stmt>, CheckFault>
-    ensures { Answers {B = Part} (λ code. (frame.new, map flat_statement code.items)) result (task.statement_faults in_loop (task.opened frame.old) (tree.statement inner.now))
+    ensures { ScopeAnswers {B = Part} (λ code. (frame.new, map flat_statement code.items)) result (task.statement_faults in_loop (task.opened frame.old) (tree.statement inner.now))
         (task.closed frame.old (task.after (task.opened frame.old) (tree.statement inner.now)), task.code_of (task.opened frame.old) (tree.statement inner.now)) }
 {
     frame.enter()?;
@@ -199,7 +200,7 @@ fn counted(
     push_loop(turn, body(frame, true, inner), code)
 }
 
-/// A statement; whether it stands in a loop.
+/// A statement; whether it is in a loop.
 #[cycle(statements)]
 fn statement(
     frame: &mut Frame,

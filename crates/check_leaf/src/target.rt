@@ -1,7 +1,8 @@
+// The targets of assignments, increments and reads: variables, cells of arrays and words of memories, and the code that sets them.
 ghost use Rattle.std.specs.Prelude.{◌≡◌, ◌++◌, ◌&&◌, [], Some};
 ghost use Rattle.tapa_syntax.specs.Flat.{flat_expression, flat_statement};
 ghost use Rattle.tapa_syntax.specs.Trees as tree;
-ghost use Rattle.check_scope.specs.Answers.{Answers};
+ghost use Rattle.check_scope.specs.Answers.{ScopeAnswers};
 ghost use Rattle.check_scope.specs.declared.fault.CheckCode.TheVariants.{C3};
 ghost use Rattle.check_scope.specs.Faults as faults;
 ghost use Rattle.check_scope.specs.Roles.{fits};
@@ -35,7 +36,7 @@ fn assigned_entity(
     increment: bool,
     name: &Name,
 ) -> Result<Entity, CheckFault>
-    ensures { Answers (λ entity. Some entity) result
+    ensures { ScopeAnswers (λ entity. Some entity) result
         (faults.name_faults scope.now (fits role) name.now ++ faults.where_so (increment && task.is_bool (kind_of_entity (entity_of name.now.text scope.now))) (faults.fault C3 name.now.place))
         (entity_of name.now.text scope.now) }
 {
@@ -68,7 +69,7 @@ pub(crate) fn check_target(
     increment: bool,
     place: &PlaceExpression,
 ) -> Result<Target, CheckFault>
-    ensures { Answers flat_target result (task.changed_faults scope.now increment (tree.place_expression_of place.now)) (task.target_of scope.now (tree.place_expression_of place.now)) }
+    ensures { ScopeAnswers flat_target result (task.changed_faults scope.now increment (tree.place_expression_of place.now)) (task.target_of scope.now (tree.place_expression_of place.now)) }
 {
     match place {
         PlaceExpression::Variable(name) => {
@@ -85,7 +86,7 @@ pub(crate) fn check_target(
 
 /// An assignment.
 fn set_target(alloc: Global, target: Target, value: Typed) -> Result<Stmt, CheckFault>
-    ensures { Answers flat_statement result [] (task.set_target (flat_target target) value.kind (flat_expression value.value)) }
+    ensures { ScopeAnswers flat_statement result [] (task.set_target (flat_target target) value.kind (flat_expression value.value)) }
 {
     match target {
         Target::Variable(kind, number) => Ok(Stmt::Set(number, as_kind(alloc, value, kind)?)),
@@ -110,7 +111,7 @@ fn change_variable(
     op: Op,
     value: Typed,
 ) -> Result<Stmt, CheckFault>
-    ensures { Answers flat_statement result [] (task.change_target (task.in_variable kind number) op value.kind (flat_expression value.value)) }
+    ensures { ScopeAnswers flat_statement result [] (task.change_target (task.in_variable kind number) op value.kind (flat_expression value.value)) }
 {
     let before = Typed {
         value: Expr::Var(number),
@@ -126,7 +127,7 @@ fn change_variable(
 
 /// An assignment with an operator (ISO C++ [expr.ass]).
 fn change_target(alloc: Global, target: Target, op: Op, value: Typed) -> Result<Stmt, CheckFault>
-    ensures { Answers flat_statement result [] (task.change_target (flat_target target) op value.kind (flat_expression value.value)) }
+    ensures { ScopeAnswers flat_statement result [] (task.change_target (flat_target target) op value.kind (flat_expression value.value)) }
 {
     match target {
         Target::Variable(kind, number) => change_variable(alloc, kind, number, op, value),
@@ -160,7 +161,7 @@ pub(crate) fn assigned(
     operator: AssignmentOperator,
     value: Typed,
 ) -> Result<Stmt, CheckFault>
-    ensures { Answers flat_statement result [] (task.assigned (flat_target target) operator value.kind (flat_expression value.value)) }
+    ensures { ScopeAnswers flat_statement result [] (task.assigned (flat_target target) operator value.kind (flat_expression value.value)) }
 {
     match operator {
         AssignmentOperator::Plain => set_target(alloc, target, value),
@@ -180,7 +181,7 @@ fn target_kind(target: &Target) -> Kind
 
 /// `++` or `--`.
 pub(crate) fn stepped(alloc: Global, target: Target, step: StepOperator) -> Result<Stmt, CheckFault>
-    ensures { Answers flat_statement result [] (task.stepped (flat_target target) step) }
+    ensures { ScopeAnswers flat_statement result [] (task.stepped (flat_target target) step) }
 {
     let kind = target_kind(&target).promoted();
     let one = Typed {

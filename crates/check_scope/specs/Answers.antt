@@ -4,12 +4,12 @@ use Rattle.check_scope.specs.declared.fault.Broken.{Broken}
 use Rattle.check_scope.specs.declared.fault.CheckFault.{CheckFault}
 use Rattle.check_scope.specs.declared.fault.CheckFault.TheVariants.{At, OutOfMemory}
 
-abbrev pub IsFirst : List Broken → Broken → Type 0
-IsFirst [] b = ⊥
-IsFirst (a ∷ rest) b = a ≡ b
+abbrev pub IsFirstBroken : List Broken → Broken → Type 0
+IsFirstBroken [] b = ⊥
+IsFirstBroken (a ∷ rest) b = a ≡ b
 
--- nothing is broken and the answer stands for the meaning, or it is the first rule that is broken, unless memory ran out
-abbrev pub Answers : {A B : Type 0} → (A → B) → Result A CheckFault → List Broken → B → Type 0
-Answers view (Ok x) faults meaning = (faults ≡ []) × (view x ≡ meaning)
-Answers view (Err (At b)) faults meaning = IsFirst faults b
-Answers view (Err OutOfMemory) faults meaning = Unit {0}
+-- nothing is broken and the answer denotes the meaning, or it is the first rule that is broken, unless memory ran out
+abbrev pub ScopeAnswers : {A B : Type 0} → (A → B) → Result A CheckFault → List Broken → B → Type 0
+ScopeAnswers view (Ok x) faults meaning = (faults ≡ []) × (view x ≡ meaning)
+ScopeAnswers view (Err (At b)) faults meaning = IsFirstBroken faults b
+ScopeAnswers view (Err OutOfMemory) faults meaning = Unit {0}

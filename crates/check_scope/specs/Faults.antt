@@ -19,7 +19,7 @@ over limit place = record { code = C11; place = place; limit = Some limit } ∷ 
 abbrev pub where_so : Bool → List Broken → List Broken
 where_so b faults = if b then faults else []
 
--- C1: a name that is used is declared before its use (ISO C++ [basic.lookup.unqual]); C3: it is of an entity that may stand there
+-- C1: a name that is used is declared before its use (ISO C++ [basic.lookup.unqual]); C3: it is of an entity that is legal there
 abbrev pub wrong_entity : (Entity → Bool) → Place → Option Entity → List Broken
 wrong_entity fits place None = fault C1 place
 wrong_entity fits place (Some s) = where_so (not (fits s)) (fault C3 place)

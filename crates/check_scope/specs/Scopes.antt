@@ -1,4 +1,4 @@
--- The names that are in scope at a place of a source (ISO C++ [basic.scope.block], [basic.lookup.unqual]).
+-- The names that are in scope at a position of a source (ISO C++ [basic.scope.block], [basic.lookup.unqual]).
 use Rattle.std.specs.Prelude.{ℕ, ◌<◌, List, [], ◌∷◌, ◌++◌, Bool, true, false, Option, Some, None, bytes_eq, map, Vec, if◌then◌else◌}
 use Rattle.std.specs.declared.alloc.Global.{Global}
 use Rattle.tapa_base.specs.declared.kind.Kind.{Kind}

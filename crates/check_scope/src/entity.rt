@@ -1,3 +1,4 @@
+// What a name may be declared as: a constant, scalar, array, memory, stream or task, with its value, number or position.
 use tapa_base::Kind;
 
 /// What a name is declared as.

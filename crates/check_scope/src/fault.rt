@@ -1,3 +1,4 @@
+// The rules of a source beyond its grammar, and the fault that reports a broken rule with its place.
 ghost use Rattle.std.specs.Prelude.{◌≡◌, None, Some};
 ghost use Rattle.check_scope.specs.declared.fault.CheckCode.TheVariants.{C11};
 ghost use Rattle.check_scope.specs.declared.fault.CheckFault.TheVariants.{At, OutOfMemory};
@@ -22,7 +23,7 @@ pub enum CheckCode {
     C6,
     /// A memory of the top task that is not bound to exactly one instance.
     C7,
-    /// An operation on a stream or memory in a conditional place.
+    /// An operation on a stream or memory in an operand or arm that is evaluated conditionally.
     C8,
     /// A divisor that is no constant, or is 0.
     C9,

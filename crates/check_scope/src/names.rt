@@ -1,6 +1,6 @@
 //! What a block declares.
 ghost use Rattle.std.specs.Prelude.{◌≡◌, ◌++◌, ◌∷◌, [], IfSome};
-ghost use Rattle.check_scope.specs.Answers.{Answers};
+ghost use Rattle.check_scope.specs.Answers.{ScopeAnswers};
 ghost use Rattle.check_scope.specs.Faults.{doubled};
 ghost use Rattle.check_scope.specs.Scopes.{IsSound, in_block};
 
@@ -49,7 +49,7 @@ impl Names {
     /// One declaration more, of a name that is not declared yet.
     pub fn declare(&mut self, alloc: Global, name: &Name, entity: Entity) -> Result<(), CheckFault>
         requires { IsSound entity }
-        ensures { Answers (λ x. self.new) result (doubled (self.old ∷ []) name.now) (self.old ++ (name.now.text, entity) ∷ []) }
+        ensures { ScopeAnswers (λ x. self.new) result (doubled (self.old ∷ []) name.now) (self.old ++ (name.now.text, entity) ∷ []) }
     {
         if self.get(&name.text).is_some() {
             return Err(refused(CheckCode::C2, name.place));
@@ -62,7 +62,7 @@ impl Names {
 
 /// A copy of a name.
 pub fn copied(alloc: Global, name: &Text) -> Result<Text, CheckFault>
-    ensures { Answers (λ text. text) result [] name.now }
+    ensures { ScopeAnswers (λ text. text) result [] name.now }
 {
     Ok(name.copy(alloc)?)
 }

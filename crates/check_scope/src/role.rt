@@ -1,3 +1,4 @@
+// The roles that a name may be used in, and which entities fit each.
 ghost use Rattle.std.specs.Prelude.{◌≡◌};
 ghost use Rattle.check_scope.specs.Roles as role;
 

@@ -1,5 +1,6 @@
+// The names in scope: blocks that are entered and left, what is declared in them, and what a name means there.
 ghost use Rattle.std.specs.Prelude.{◌≡◌, ◌<◌, ◌≤◌, ◌+◌, ◌∷◌, ◌++◌, [], IfSome, IfOk, Some, length};
-ghost use Rattle.check_scope.specs.Answers.{Answers};
+ghost use Rattle.check_scope.specs.Answers.{ScopeAnswers};
 ghost use Rattle.check_scope.specs.Faults as faults;
 ghost use Rattle.check_scope.specs.Roles.{fits};
 ghost use Rattle.check_scope.specs.Scopes as scope;
@@ -45,7 +46,7 @@ impl<'a> Scope<'a> {
     /// A block begins.
     pub fn enter(&mut self, alloc: Global) -> Result<(), CheckFault>
         ensures count { length self.old ≤ length self.new }
-        ensures value { Answers (λ x. self.new) result [] (self.old ++ [] ∷ []) }
+        ensures value { ScopeAnswers (λ x. self.new) result [] (self.old ++ [] ∷ []) }
     {
         self.blocks.push(Names::new(alloc))?;
         Ok(())
@@ -81,7 +82,7 @@ impl<'a> Scope<'a> {
 
     /// What a name that has a role is declared as.
     pub fn named(&self, role: Role, name: &Name) -> Result<Entity, CheckFault>
-        ensures value { Answers (λ entity. Some entity) result (faults.name_faults self.now (fits role) name.now) (scope.entity_of name.now.text self.now) }
+        ensures value { ScopeAnswers (λ entity. Some entity) result (faults.name_faults self.now (fits role) name.now) (scope.entity_of name.now.text self.now) }
         ensures sound { IfOk result IsSound }
     {
         match self.entity(&name.text) {
@@ -93,7 +94,7 @@ impl<'a> Scope<'a> {
 
     /// A name that the innermost block does not declare yet.
     pub fn check_new(&self, name: &Name) -> Result<(), CheckFault>
-        ensures { Answers (λ x. x) result (faults.doubled self.now name.now) tt }
+        ensures { ScopeAnswers (λ x. x) result (faults.doubled self.now name.now) tt }
     {
         match self.entity_here(&name.text) {
             Some(_) => Err(refused(CheckCode::C2, name.place)),
@@ -107,7 +108,7 @@ impl<'a> Scope<'a> {
         requires some { 1 < length self.old }
         requires sound { IsSound entity }
         ensures count { length self.new ≡ length self.old }
-        ensures value { Answers (λ x. self.new) result (faults.doubled self.old name.now) (scope.declaring name.now.text entity self.old) }
+        ensures value { ScopeAnswers (λ x. self.new) result (faults.doubled self.old name.now) (scope.declaring name.now.text entity self.old) }
     {
         declare_in_last(alloc, &mut self.blocks, name, entity)
     }
@@ -122,7 +123,7 @@ fn declare_in_last(
     requires some { 0 < length blocks.old }
     requires sound { IsSound entity }
     ensures count { length blocks.new ≡ length blocks.old }
-    ensures value { Answers (λ x. blocks.new) result (faults.doubled blocks.old name.now) (scope.declaring name.now.text entity blocks.old) }
+    ensures value { ScopeAnswers (λ x. blocks.new) result (faults.doubled blocks.old name.now) (scope.declaring name.now.text entity blocks.old) }
 {
     let last = blocks.len() - 1;
     let block = &mut blocks[last];

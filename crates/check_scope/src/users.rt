@@ -1,7 +1,7 @@
 // Which instance something is bound to, where it may be one alone.
 
 ghost use Rattle.std.specs.Prelude.{◌≡◌, ◌<◌, ℕ, List, [], IfOk, length, get_or, if◌then◌else◌, ◌==◌};
-ghost use Rattle.check_scope.specs.Answers.{Answers};
+ghost use Rattle.check_scope.specs.Answers.{ScopeAnswers};
 ghost use Rattle.check_scope.specs.One.{one_faults, the_one};
 ghost use Rattle.check_scope.specs.Users.{users_of, with_user};
 ghost use Rattle.check_scope.specs.declared.users.Users.{Users as Among};
@@ -33,7 +33,7 @@ impl Users {
 
     /// The one instance that something is bound to.
     pub fn only(self, code: CheckCode, place: Place) -> Result<u32, CheckFault>
-        ensures { (bound : List ℕ) → self ≡ users_of bound → Answers (λ n. n) result (one_faults code place bound) (the_one bound) }
+        ensures { (bound : List ℕ) → self ≡ users_of bound → ScopeAnswers (λ n. n) result (one_faults code place bound) (the_one bound) }
     {
         match self {
             Users::One(instance) => Ok(instance),
@@ -50,9 +50,9 @@ pub struct UserTable {
 }
 
 impl UserTable {
-    /// So many streams or memories, to which nothing is bound yet.
+    /// `count` streams or memories, to which nothing is bound yet.
     pub fn new(alloc: Global, count: usize) -> Result<Self, CheckFault>
-        ensures count { Answers (λ table. length table.rows.items) result [] count }
+        ensures count { ScopeAnswers (λ table. length table.rows.items) result [] count }
         ensures each { IfOk result (λ table. (s : ℕ) (d : Among) → s < count → get_or table.rows.items s d ≡ Nobody) }
     {
         Ok(UserTable {

@@ -1,5 +1,5 @@
 -- What the tasks of a legal file mean: the leaf of a leaf task; the streams and the invocations of an upper-level task,
--- with what each name in them stands for.
+-- with what each name in them denotes.
 use Rattle.std.specs.Prelude.{ℕ, ◌+◌, Bool, List, [], ◌∷◌, Option, Some, None, bytes_eq, if◌then◌else◌}
 use Rattle.tapa_base.specs.declared.text.Place.{Place}
 use Rattle.tapa_syntax.specs.declared.tree.Parameter.{Parameter}

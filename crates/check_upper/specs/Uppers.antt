@@ -200,7 +200,7 @@ invoked_task E x = number_of (entity_of x E)
 abbrev pub invoked_parameters : Scope → List Task → TaskTree → List ℕ → List Parameter
 invoked_parameters E tasks self x = if bytes_eq x self.name.text then self.parameters else parameters_of (slice_get tasks (invoked_task E x))
 
--- C3: a task is invoked with as many arguments as it has parameters; C10: and not by itself
+-- C3: a task is invoked with one argument for each of its parameters; C10: and not by itself
 abbrev pub callee_faults : Scope → List Parameter → Bool → InvocationTree → List Broken
 callee_faults E parameters is_self i =
     where_so (not (length parameters == length i.arguments)) (fault C3 i.task.place) ++ (where_so is_self (fault C10 i.task.place) ++ arguments_faults E parameters i.arguments)

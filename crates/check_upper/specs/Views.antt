@@ -1,4 +1,4 @@
--- What tasks stand for.
+-- What tasks denote.
 use Rattle.std.specs.Prelude.{map}
 use Rattle.tapa_syntax.specs.Trees.{task_of}
 use Rattle.tapa_syntax.specs.Flat.{flat_leaf}

@@ -1,6 +1,7 @@
+// The rules of the arguments of an invocation, each for its parameter, and what the parameters are bound to.
 ghost use Rattle.std.specs.Prelude.{◌≡◌, Some, map};
 ghost use Rattle.tapa_syntax.specs.Trees as tree;
-ghost use Rattle.check_scope.specs.Answers.{Answers};
+ghost use Rattle.check_scope.specs.Answers.{ScopeAnswers};
 ghost use Rattle.check_scope.specs.Faults.{wrong_entity};
 ghost use Rattle.check_scope.specs.Scopes.{IsSound, entity_of};
 ghost use Rattle.check_upper.specs.Uppers as upper;
@@ -102,7 +103,7 @@ fn named_binding(kind: Kind, entity: Entity) -> Binding
 }
 
 fn name_argument(scope: &Scope, parameter: &Parameter, name: &Name) -> Result<Binding, CheckFault>
-    ensures { Answers (λ binding. binding) result (wrong_entity (upper.is_bound_to parameter.now) name.now.place (entity_of name.now.text scope.now))
+    ensures { ScopeAnswers (λ binding. binding) result (wrong_entity (upper.is_bound_to parameter.now) name.now.place (entity_of name.now.text scope.now))
         (upper.named_binding (upper.parameter_kind parameter.now) (entity_of name.now.text scope.now)) }
 {
     match scope.entity(&name.text) {
@@ -115,14 +116,14 @@ fn name_argument(scope: &Scope, parameter: &Parameter, name: &Name) -> Result<Bi
     }
 }
 
-/// An argument that is no single name: a constant expression, for a scalar.
+/// An argument that is more than one name: a constant expression, for a scalar.
 fn constant_argument(
     scope: &Scope,
     parameter: &Parameter,
     place: Place,
     value: &Expression,
 ) -> Result<Binding, CheckFault>
-    ensures { Answers (λ binding. binding) result (upper.constant_argument_faults scope.now parameter.now place (tree.expression value.now))
+    ensures { ScopeAnswers (λ binding. binding) result (upper.constant_argument_faults scope.now parameter.now place (tree.expression value.now))
         (upper.constant_binding scope.now (upper.parameter_kind parameter.now) (tree.expression value.now)) }
 {
     if !is_scalar(parameter) && evaluated(scope, value).is_some() {
@@ -137,7 +138,7 @@ fn argument(
     parameter: &Parameter,
     argument: &InvocationArgument,
 ) -> Result<Binding, CheckFault>
-    ensures { Answers (λ binding. binding) result (upper.argument_faults scope.now parameter.now argument.now.place (tree.expression argument.now.value))
+    ensures { ScopeAnswers (λ binding. binding) result (upper.argument_faults scope.now parameter.now argument.now.place (tree.expression argument.now.value))
         (upper.binding_of scope.now (upper.parameter_kind parameter.now) (tree.expression argument.now.value)) }
 {
     match &argument.value {
@@ -153,7 +154,7 @@ pub(crate) fn arguments(
     parameters: &[Parameter],
     arguments: &[InvocationArgument],
 ) -> Result<Vec<Binding>, CheckFault>
-    ensures { Answers (λ bindings. bindings.items) result (upper.arguments_faults scope.now parameters.now (map tree.argument_of arguments.now))
+    ensures { ScopeAnswers (λ bindings. bindings.items) result (upper.arguments_faults scope.now parameters.now (map tree.argument_of arguments.now))
         (upper.bindings_of scope.now parameters.now (map tree.argument_of arguments.now)) }
 {
     let mut bindings = Vec::new(alloc);

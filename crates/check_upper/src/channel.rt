@@ -1,6 +1,7 @@
+// The rules of the streams that an upper-level task declares: their names, kinds and depths.
 ghost use Rattle.std.specs.Prelude.{◌≡◌, ◌<◌, [], length, map};
 ghost use Rattle.tapa_syntax.specs.Trees as tree;
-ghost use Rattle.check_scope.specs.Answers.{Answers};
+ghost use Rattle.check_scope.specs.Answers.{ScopeAnswers};
 ghost use Rattle.check_scope.specs.Faults.{doubled};
 ghost use Rattle.check_upper.specs.Signatures.{channels_of};
 ghost use Rattle.check_upper.specs.Uppers as upper;
@@ -23,7 +24,7 @@ pub(crate) struct Channels<'a> {
 }
 
 fn depth_of(scope: &Scope, depth: &Option<Count>) -> Result<u32, CheckFault>
-    ensures { Answers (λ n. n) result (upper.depth_faults scope.now (tree.option_of tree.count_of depth.now)) (upper.depth_of scope.now (tree.option_of tree.count_of depth.now)) }
+    ensures { ScopeAnswers (λ n. n) result (upper.depth_faults scope.now (tree.option_of tree.count_of depth.now)) (upper.depth_of scope.now (tree.option_of tree.count_of depth.now)) }
 {
     match depth {
         None => Ok(USUAL_DEPTH),
@@ -41,7 +42,7 @@ impl<'a> Channels<'a> {
     ) -> Result<(), CheckFault>
         requires { 1 < length self.old.scope }
         ensures count { length self.new.scope ≡ length self.old.scope }
-        ensures value { Answers (λ x. channels_of self.new) result (doubled self.old.scope name.now) (upper.with_channel kind depth (channels_of self.old) name.now) }
+        ensures value { ScopeAnswers (λ x. channels_of self.new) result (doubled self.old.scope name.now) (upper.with_channel kind depth (channels_of self.old) name.now) }
     {
         let number = number_of(self.streams.len())?;
         self.scope
@@ -64,7 +65,7 @@ impl<'a> Channels<'a> {
     ) -> Result<(), CheckFault>
         requires { 1 < length self.old.scope }
         ensures count { length self.new.scope ≡ length self.old.scope }
-        ensures value { Answers (λ x. channels_of self.new) result (upper.channels_faults kind depth (channels_of self.old) names.now)
+        ensures value { ScopeAnswers (λ x. channels_of self.new) result (upper.channels_faults kind depth (channels_of self.old) names.now)
             (upper.with_channels kind depth (channels_of self.old) names.now) }
     {
         for name in names {
@@ -76,7 +77,7 @@ impl<'a> Channels<'a> {
     fn stream(&mut self, alloc: Global, stream: &StreamDeclaration) -> Result<(), CheckFault>
         requires { 1 < length self.old.scope }
         ensures count { length self.new.scope ≡ length self.old.scope }
-        ensures value { Answers (λ x. channels_of self.new) result (upper.stream_faults (channels_of self.old) (tree.stream_of stream.now))
+        ensures value { ScopeAnswers (λ x. channels_of self.new) result (upper.stream_faults (channels_of self.old) (tree.stream_of stream.now))
             (upper.after_stream (channels_of self.old) (tree.stream_of stream.now)) }
     {
         let depth = depth_of(&self.scope, &stream.depth)?;
@@ -90,7 +91,7 @@ impl<'a> Channels<'a> {
         streams: &[StreamDeclaration],
     ) -> Result<(), CheckFault>
         requires { 1 < length self.old.scope }
-        ensures { Answers (λ x. channels_of self.new) result (upper.streams_faults (channels_of self.old) (map tree.stream_of streams.now))
+        ensures { ScopeAnswers (λ x. channels_of self.new) result (upper.streams_faults (channels_of self.old) (map tree.stream_of streams.now))
             (upper.after_streams (channels_of self.old) (map tree.stream_of streams.now)) }
     {
         for stream in streams {

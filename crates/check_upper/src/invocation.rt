@@ -1,6 +1,7 @@
+// The rules of an upper-level task and of its invocations: the task that each names, whether it is detached, and its arguments.
 ghost use Rattle.std.specs.Prelude.{◌≡◌, map, slice_get};
 ghost use Rattle.tapa_syntax.specs.Trees as tree;
-ghost use Rattle.check_scope.specs.Answers.{Answers};
+ghost use Rattle.check_scope.specs.Answers.{ScopeAnswers};
 ghost use Rattle.check_scope.specs.Faults.{wrong_entity};
 ghost use Rattle.check_scope.specs.Scopes.{entity_of};
 ghost use Rattle.check_upper.specs.Tasks as spec;
@@ -15,9 +16,9 @@ use check_scope::{CheckCode, CheckFault, Entity, Names, Scope, refused};
 use std::alloc::Global;
 use tapa_syntax::{Invocation, Name, Parameter, StreamDeclaration, TaskDeclaration};
 
-/// Whether an invocation of this mode is detached: the modes are `tapa::join` and `tapa::detach`, and without one it joins.
+/// Whether an invocation of this mode is detached: the modes are `tapa::join` and `tapa::detach`, and without one it is waited for.
 fn is_detached(mode: &Option<Name>) -> Result<bool, CheckFault>
-    ensures { Answers (λ detached. detached) result (upper.mode_faults mode.now) (upper.is_detached mode.now) }
+    ensures { ScopeAnswers (λ detached. detached) result (upper.mode_faults mode.now) (upper.is_detached mode.now) }
 {
     let Some(mode) = mode else {
         return Ok(false);
@@ -33,7 +34,7 @@ fn is_detached(mode: &Option<Name>) -> Result<bool, CheckFault>
 
 /// The number of the task that a name means.
 fn task_number(scope: &Scope, name: &Name) -> Result<u32, CheckFault>
-    ensures { Answers (λ n. n) result (wrong_entity upper.is_task name.now.place (entity_of name.now.text scope.now)) (upper.invoked_task scope.now name.now.text) }
+    ensures { ScopeAnswers (λ n. n) result (wrong_entity upper.is_task name.now.place (entity_of name.now.text scope.now)) (upper.invoked_task scope.now name.now.text) }
 {
     match scope.entity(&name.text) {
         Some(Entity::Task { number }) => Ok(number),
@@ -51,7 +52,7 @@ fn parameters_at<'t>(tasks: &'t [Task], number: usize) -> &'t [Parameter]
     }
 }
 
-/// As many arguments as parameters, each fit for its parameter, and not of the task itself.
+/// One argument for each parameter, each fit for its parameter, and not of the task itself.
 fn bindings_of(
     alloc: Global,
     scope: &Scope,
@@ -59,7 +60,7 @@ fn bindings_of(
     is_self: bool,
     invocation: &Invocation,
 ) -> Result<Vec<Binding>, CheckFault>
-    ensures { Answers (λ bindings. bindings.items) result (upper.callee_faults scope.now parameters.now is_self (tree.invocation_of invocation.now))
+    ensures { ScopeAnswers (λ bindings. bindings.items) result (upper.callee_faults scope.now parameters.now is_self (tree.invocation_of invocation.now))
         (upper.bindings_of scope.now parameters.now (map tree.argument_of invocation.now.arguments.items)) }
 {
     let place = invocation.task.place;
@@ -79,7 +80,7 @@ fn invocation(
     own: &TaskDeclaration,
     invocation: &Invocation,
 ) -> Result<Invoked, CheckFault>
-    ensures { Answers invocation_view result (upper.invocation_faults scope.now (map task_view tasks.now) (tree.task_of own.now) (tree.invocation_of invocation.now))
+    ensures { ScopeAnswers invocation_view result (upper.invocation_faults scope.now (map task_view tasks.now) (tree.task_of own.now) (tree.invocation_of invocation.now))
         (upper.invocation_of scope.now (map task_view tasks.now) (tree.task_of own.now) (tree.invocation_of invocation.now)) }
 {
     let detached = is_detached(&invocation.mode)?;
@@ -105,7 +106,7 @@ fn invocations(
     own: &TaskDeclaration,
     invoked: &[Invocation],
 ) -> Result<Vec<Invoked>, CheckFault>
-    ensures { Answers (λ made. map invocation_view made.items) result
+    ensures { ScopeAnswers (λ made. map invocation_view made.items) result
         (upper.invocations_faults scope.now (map task_view tasks.now) (tree.task_of own.now) (map tree.invocation_of invoked.now))
         (upper.invocations_of scope.now (map task_view tasks.now) (tree.task_of own.now) (map tree.invocation_of invoked.now)) }
 {
@@ -125,7 +126,7 @@ pub fn check_upper(
     streams: &[StreamDeclaration],
     invoked: &[Invocation],
 ) -> Result<Body, CheckFault>
-    ensures { Answers body_view result
+    ensures { ScopeAnswers body_view result
         (upper.upper_faults file.now (map task_view tasks.now) (tree.task_of own.now) (map tree.stream_of streams.now) (map tree.invocation_of invoked.now))
         (upper.upper_of file.now (map task_view tasks.now) (tree.task_of own.now) (map tree.stream_of streams.now) (map tree.invocation_of invoked.now)) }
 {

@@ -1,5 +1,6 @@
+// The rules of the parameters of an upper-level task, and the scope that has them: streams, memories and scalars by position.
 ghost use Rattle.std.specs.Prelude.{◌≡◌, ◌<◌, ◌+◌, [], IfOk, length};
-ghost use Rattle.check_scope.specs.Answers.{Answers};
+ghost use Rattle.check_scope.specs.Answers.{ScopeAnswers};
 ghost use Rattle.check_scope.specs.Faults.{doubled};
 ghost use Rattle.check_upper.specs.Signatures.{signature_of};
 ghost use Rattle.check_upper.specs.Uppers as upper;
@@ -21,7 +22,7 @@ pub(crate) struct Signature<'a> {
 impl<'a> Signature<'a> {
     fn new(alloc: Global, file: &'a Names) -> Result<Self, CheckFault>
         ensures some { IfOk result (λ h. 1 < length h.scope) }
-        ensures value { Answers signature_of result [] (upper.task_begins file.now) }
+        ensures value { ScopeAnswers signature_of result [] (upper.task_begins file.now) }
     {
         let mut scope = Scope::new(alloc, file);
         scope.enter(alloc)?;
@@ -42,7 +43,7 @@ impl<'a> Signature<'a> {
     ) -> Result<(), CheckFault>
         requires { 1 < length self.old.scope }
         ensures count { length self.new.scope ≡ length self.old.scope }
-        ensures value { Answers (λ x. signature_of self.new) result (doubled self.old.scope name.now) (upper.with_stream writes kind name.now (signature_of self.old)) }
+        ensures value { ScopeAnswers (λ x. signature_of self.new) result (doubled self.old.scope name.now) (upper.with_stream writes kind name.now (signature_of self.old)) }
     {
         let number = self.streams;
         let entity = Entity::Stream {
@@ -64,7 +65,7 @@ impl<'a> Signature<'a> {
     ) -> Result<(), CheckFault>
         requires { 1 < length self.old.scope }
         ensures count { length self.new.scope ≡ length self.old.scope }
-        ensures value { Answers (λ x. signature_of self.new) result (doubled self.old.scope name.now) (upper.with_memory free kind name.now (signature_of self.old)) }
+        ensures value { ScopeAnswers (λ x. signature_of self.new) result (doubled self.old.scope name.now) (upper.with_memory free kind name.now (signature_of self.old)) }
     {
         let number = self.memories;
         let entity = Entity::Memory { free, kind, number };
@@ -82,7 +83,7 @@ impl<'a> Signature<'a> {
     ) -> Result<(), CheckFault>
         requires { 1 < length self.old.scope }
         ensures count { length self.new.scope ≡ length self.old.scope }
-        ensures value { Answers (λ x. signature_of self.new) result (doubled self.old.scope name.now) (upper.with_scalar free kind name.now (signature_of self.old)) }
+        ensures value { ScopeAnswers (λ x. signature_of self.new) result (doubled self.old.scope name.now) (upper.with_scalar free kind name.now (signature_of self.old)) }
     {
         let number = self.scalars;
         let entity = Entity::Variable { free, kind, number };
@@ -94,7 +95,7 @@ impl<'a> Signature<'a> {
     fn parameter(&mut self, alloc: Global, parameter: &Parameter) -> Result<(), CheckFault>
         requires { 1 < length self.old.scope }
         ensures count { length self.new.scope ≡ length self.old.scope }
-        ensures value { Answers (λ x. signature_of self.new) result (doubled self.old.scope (upper.parameter_name parameter.now)) (upper.after_parameter (signature_of self.old) parameter.now) }
+        ensures value { ScopeAnswers (λ x. signature_of self.new) result (doubled self.old.scope (upper.parameter_name parameter.now)) (upper.after_parameter (signature_of self.old) parameter.now) }
     {
         match parameter {
             Parameter::InputStream(kind, name) => self.stream(alloc, false, *kind, name),
@@ -113,14 +114,14 @@ impl<'a> Signature<'a> {
     }
 }
 
-/// The names in scope behind a task's parameters.
+/// The names in scope after a task's parameters.
 pub(crate) fn scope_of<'a>(
     alloc: Global,
     file: &'a Names,
     parameters: &[Parameter],
 ) -> Result<Scope<'a>, CheckFault>
     ensures some { IfOk result (λ scope. 1 < length scope) }
-    ensures value { Answers (λ scope. scope) result (upper.parameters_faults (upper.task_begins file.now) parameters.now) (upper.after_parameters (upper.task_begins file.now) parameters.now).scope }
+    ensures value { ScopeAnswers (λ scope. scope) result (upper.parameters_faults (upper.task_begins file.now) parameters.now) (upper.after_parameters (upper.task_begins file.now) parameters.now).scope }
 {
     let mut signature = Signature::new(alloc, file)?;
     for parameter in parameters {

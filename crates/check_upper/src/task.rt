@@ -1,3 +1,4 @@
+// Checked tasks: the streams that an upper-level task declares, its invocations, and what their arguments are bound to.
 use tapa_base::{Kind, Place, Text};
 use tapa_syntax::{Leaf, TaskDeclaration};
 

@@ -17,13 +17,13 @@ use Rattle.sim_output.specs.Reports.{IsSimulatedSo}
 use Rattle.tapa_words.specs.Words.{default_cycles}
 use Rattle.vlog_design.specs.Designs.{DesignTree, TopOf}
 use Rattle.vlog_tree.specs.Cycle.{Cycle, Path}
-use Rattle.vlog_tree.specs.Environment.{Environment, ShapeTree, FitsShape, RunsIn, IsDone, shape_of, widths}
+use Rattle.vlog_tree.specs.Environment.{Environment, ShapeTree, FitsShape, RunsIn, RaisesDone, shape_of, widths}
 use Rattle.vlog_tree.specs.Form.{ModuleTree}
 use Rattle.hw_top_lines.specs.Legal.{scalar_ports, memory_ports}
 use Rattle.hw_top.specs.Circuits.{IsCircuitOf}
 use Rattle.hw_top_laws.specs.kahn.Carries.{CarriesStreams}
 use Rattle.hw_top_laws.specs.kahn.Clock.{counts}
-use Rattle.command_network.specs.Network.{IsDoneIn}
+use Rattle.command_network.specs.Network.{IsCircuitDoneIn}
 use Rattle.command_network.specs.Nothing.{no_values, no_environment}
 
 -- every element of a list of equal ones
@@ -70,12 +70,12 @@ circuit_fits program design env circuit is m at =
     (subst (λ (t : ModuleTree). FitsShape (no_environment program) (shape_of t)) same (shape_fits program (shape_of circuit.top) circuit.scalars circuit.memories))
 
 -- done is raised in just the cycles before which by the timed counts every joined instance has ended
-by_cycle : (program : Program) (env : Environment) (nets : ℕ → Path → Cycle) → CarriesStreams program [] env nets → (n : ℕ) → 1 ≤ n → IsDone (λ k. nets k []) n ↔ HaveJoinedEnded (network_of program env.scalars env.memories) (counts program [] env n)
+by_cycle : (program : Program) (env : Environment) (nets : ℕ → Path → Cycle) → CarriesStreams program [] env nets → (n : ℕ) → 1 ≤ n → RaisesDone (λ k. nets k []) n ↔ HaveJoinedEnded (network_of program env.scalars env.memories) (counts program [] env n)
 by_cycle program env nets carries zero some = absurd (omega arith)
 by_cycle program env nets carries (suc n) some = carries.done n
 
 -- a circuit that is done first in a cycle is so by the timed counts
-pub done_in : (program : Program) (design : DesignTree) (cycle : ℕ) → IsCircuitOf program [] design → IsSimulatedSo design (no_environment program) default_cycles (Some cycle) → IsDoneIn program cycle
+pub done_in : (program : Program) (design : DesignTree) (cycle : ℕ) → IsCircuitOf program [] design → IsSimulatedSo design (no_environment program) default_cycles (Some cycle) → IsCircuitDoneIn program cycle
 done_in program design cycle circuit (report, is) =
     let env = no_environment program in
     let top : TopOf design circuit.top = circuit.is_top in
@@ -83,7 +83,7 @@ done_in program design cycle circuit (report, is) =
     let same : is.top ≡ circuit.top = cc in
     let carries : CarriesStreams program [] env is.nets =
     circuit.carries env (shape_fits program (shape_of circuit.top) circuit.scalars circuit.memories) is.nets (subst (λ (m : ModuleTree). RunsIn design.modules m env is.nets) same is.run.runs_in) in
-    let by_counts : (n : ℕ) → 1 ≤ n → IsDone (λ k. is.nets k []) n ↔ HaveJoinedEnded (network program (no_values program)) (counts program [] env n) =
+    let by_counts : (n : ℕ) → 1 ≤ n → RaisesDone (λ k. is.nets k []) n ↔ HaveJoinedEnded (network program (no_values program)) (counts program [] env n) =
     λ n some. by_cycle program env is.nets carries n some in
     record {
       simulated = (design, circuit, (report, is));

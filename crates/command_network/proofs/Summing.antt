@@ -4,7 +4,7 @@ use Rattle.tapa_syntax.specs.declared.program.Program.{Program}
 use Rattle.run_program.specs.declared.totals.Totals.{Totals}
 use Rattle.command_network.specs.declared.lines.Summary.{Summary}
 use Rattle.command_source.specs.Refusal.{Refusal}
-use Rattle.command_network.specs.Network.{IsProgramIn, IsDoneIn, HasTotals, IsSummaryOf, IsNotRun, IsNotDone, IsUntold}
+use Rattle.command_network.specs.Network.{IsProgramIn, IsCircuitDoneIn, HasTotals, IsSummaryOf, IsNotRun, IsNotDone, IsUntold}
 
 module _ (layers : ℕ) (program : Program) (means : IsProgramIn layers program) where
   pub not_run : (ran : Program) → ran ≡ program → (why : Refusal) → IsNotRun ran why → IsUntold layers why
@@ -14,7 +14,7 @@ module _ (layers : ℕ) (program : Program) (means : IsProgramIn layers program)
   not_done ran seen same also totals run why h =
       inr (program, means, inr (totals, subst (λ (p : Program). HasTotals p totals) same run, subst (λ (p : Program). IsNotDone p why) also h))
 
-  pub summed : (ran seen : Program) → ran ≡ program → seen ≡ program → (tasks streams cycles : ℕ) (totals : Totals) → tasks ≡ length program.instances.items → streams ≡ length program.streams.items → HasTotals ran totals → IsDoneIn seen cycles
+  pub summed : (ran seen : Program) → ran ≡ program → seen ≡ program → (tasks streams cycles : ℕ) (totals : Totals) → tasks ≡ length program.instances.items → streams ≡ length program.streams.items → HasTotals ran totals → IsCircuitDoneIn seen cycles
       → IsSummaryOf layers (record { tasks = tasks; streams = streams; ticks = totals.ticks; tokens = totals.tokens; sum = totals.sum; cycles = cycles })
   summed ran seen same also tasks streams cycles totals has_tasks has_streams run done = record {
     program = program;
@@ -22,5 +22,5 @@ module _ (layers : ℕ) (program : Program) (means : IsProgramIn layers program)
     tasks = has_tasks;
     streams = has_streams;
     run = subst (λ (p : Program). HasTotals p totals) same run;
-    done = subst (λ (p : Program). IsDoneIn p cycles) also done;
+    done = subst (λ (p : Program). IsCircuitDoneIn p cycles) also done;
   }

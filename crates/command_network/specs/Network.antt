@@ -26,12 +26,12 @@ abbrev pub IsProgramIn : ℕ → Program → Type 0
 IsProgramIn layers program = IsProgramOf (network_text layers) network_top program
 
 -- the program's circuit, without added latencies, is done first in this cycle, or in none up to the limit
-abbrev pub IsDoneAt : Program → Option ℕ → Type 0
-IsDoneAt program at = (design : DesignTree) × IsCircuitOf program [] design × IsSimulatedSo design (no_environment program) default_cycles at
+abbrev pub IsCircuitDoneAt : Program → Option ℕ → Type 0
+IsCircuitDoneAt program at = (design : DesignTree) × IsCircuitOf program [] design × IsSimulatedSo design (no_environment program) default_cycles at
 
--- it is done first in this cycle, which is the first one before which by the timed counts every joined instance has ended
-pub record IsDoneIn (program : Program) (cycle : ℕ) : Type 0 where
-  pub simulated : IsDoneAt program (Some cycle)
+-- it is done first in this cycle, the first one before which by the timed counts every instance that is waited for has ended
+pub record IsCircuitDoneIn (program : Program) (cycle : ℕ) : Type 0 where
+  pub simulated : IsCircuitDoneAt program (Some cycle)
   pub ended : HaveJoinedEnded (network program (no_values program)) (counts program [] (no_environment program) cycle)
   pub first : (n : ℕ) → 1 ≤ n → n < cycle → HaveJoinedEnded (network program (no_values program)) (counts program [] (no_environment program) n) → ⊥
 
@@ -39,7 +39,7 @@ pub record IsDoneIn (program : Program) (cycle : ℕ) : Type 0 where
 abbrev pub HasTotals : Program → Totals → Type 0
 HasTotals program totals = IsTotalled program (no_values program) default_limit totals
 
--- the numbers of the network of so many layers
+-- the numbers of the network of `layers` layers
 pub record IsSummaryOf (layers : ℕ) (s : Summary) : Type 0 where
   pub program : Program
   pub means : IsProgramIn layers program
@@ -49,13 +49,13 @@ pub record IsSummaryOf (layers : ℕ) (s : Summary) : Type 0 where
   -- the ticks of its run, and the tokens of its streams
   pub run : HasTotals program (record { ticks = s.ticks; tokens = s.tokens; sum = s.sum })
   -- the cycle in which its circuit is done
-  pub done : IsDoneIn program s.cycles
+  pub done : IsCircuitDoneIn program s.cycles
 
 -- the text of the summary
 abbrev pub HasSummary : ℕ → List ℕ → Type 0
 HasSummary layers told = (s : Summary) × IsSummaryOf layers s × (told ≡ joined (summary_lines s))
 
--- what stands for the file in messages
+-- the name of the file in messages
 abbrev pub network_file : List ℕ
 network_file = codes "gen"
 
@@ -65,16 +65,16 @@ IsUnmade layers (Source file place code) = (file ≡ network_file) × IsRefusedS
 IsUnmade layers Memory = ⊤
 IsUnmade layers _ = ⊥
 
--- why a program's run does not end: its joined instances make more ticks than a run may, or it stops
+-- why a program's run does not end: its instances that are waited for make more ticks than a run may, or it stops
 abbrev pub IsNotRun : Program → Refusal → Type 0
 IsNotRun program (Ticks most) = (most ≡ default_limit) × LimitRun program (no_values program) default_limit
 IsNotRun program (Stopped lines) = (report : List ℕ) × StoppedRun program (no_values program) default_limit report lines
 IsNotRun program Memory = ⊤
 IsNotRun program _ = ⊥
 
--- why its circuit is not done: it is not within so many cycles
+-- why its circuit is not done: it is not within the default limit of cycles
 abbrev pub IsNotDone : Program → Refusal → Type 0
-IsNotDone program (Undone most) = (most ≡ default_cycles) × IsDoneAt program None
+IsNotDone program (Undone most) = (most ≡ default_cycles) × IsCircuitDoneAt program None
 IsNotDone program Memory = ⊤
 IsNotDone program _ = ⊥
 
@@ -86,6 +86,6 @@ IsNotSummed program why = IsNotRun program why ⊎ ((totals : Totals) × HasTota
 abbrev pub IsUntold : ℕ → Refusal → Type 0
 IsUntold layers why = IsUnmade layers why ⊎ ((program : Program) × IsProgramIn layers program × IsNotSummed program why)
 
--- why no summary was written whole: there is none, and nothing was written; or a write failed, and a front part stands
+-- why no summary was written whole: there is none, and nothing was written; or a write failed after a prefix
 abbrev pub IsNotPut : ℕ → Written → Written → Refusal → Type 0
 IsNotPut layers old new why = (IsUntold layers why × (new.bytes ≡ old.bytes)) ⊎ ((why ≡ Write) × Rose old.failed new.failed × HasPartOfText old new (HasSummary layers))

@@ -1,4 +1,4 @@
--- What a program runs on where nothing is given, and what stands around its circuit. The top task of a generated network has no
+-- What a program runs on where nothing is given, and the environment of its circuit. The top task of a generated network has no
 -- parameters, so there is nothing to give; of any program each scalar is 0, each memory has no cells, and is always ready.
 use Rattle.std.specs.Prelude.{[], length, replicate}
 use Rattle.tapa_syntax.specs.declared.program.Program.{Program}

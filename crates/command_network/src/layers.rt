@@ -15,13 +15,13 @@ const MIDDLE: &[u8] =
 const SINK: &[u8] =
     b"void Dst(tapa::istream<uint64_t>& x, tapa::istream<uint64_t>& y) {\n  uint64_t t = 0; for (uint64_t i = 0; i < 100; ++i) { t += x.read() + y.read(); } }\n";
 
-// How many tasks stand in a layer.
+// The number of tasks in a layer.
 const PLACES: u32 = 4;
 
 // What a line of the top task is for.
 #[derive(Clone, Copy)]
 pub(crate) enum Part {
-    /// The two streams from a place of a layer.
+    /// The two streams from a position of a layer.
     Streams,
     /// A task of the first layer.
     Sources,
@@ -31,7 +31,7 @@ pub(crate) enum Part {
     Sinks,
 }
 
-// The name of a stream: its letter, its layer and its place.
+// The name of a stream: its letter, its layer and its position there.
 fn stream_name(alloc: Global, letter: &str, layer: u32, place: u32) -> Result<String, AllocError>
     ensures { IfOk result (λ name. string_bytes name ≡ stream_name letter.now layer place) }
 {
@@ -51,7 +51,7 @@ fn middle_line(alloc: Global, layer: u32, place: u32) -> Result<String, AllocErr
     format!(in alloc; "    .invoke(Mid, {first}, {second}, {third}, {fourth})\n")
 }
 
-// A line of the top task at a place of a layer.
+// A line of the top task at a position of a layer.
 fn line(alloc: Global, part: Part, layer: u32, place: u32) -> Result<String, AllocError>
     requires layer { layer ≤ 126 }
     requires place { place ≤ 3 }
@@ -68,7 +68,7 @@ fn line(alloc: Global, part: Part, layer: u32, place: u32) -> Result<String, All
     }
 }
 
-// Adds a line for each place of a layer.
+// Adds a line for each position of a layer.
 fn add_row(alloc: Global, part: Part, layer: u32, text: &mut Vec<u8>) -> Result<(), AllocError>
     requires { layer ≤ 126 }
     ensures { OnOk result (text.new.items ≡ text.old.items ++ row_of part layer) }
@@ -80,7 +80,7 @@ fn add_row(alloc: Global, part: Part, layer: u32, text: &mut Vec<u8>) -> Result<
     Ok(())
 }
 
-// Adds the rows of so many layers.
+// Adds the rows of `layers` layers.
 fn add_rows(alloc: Global, part: Part, layers: u32, text: &mut Vec<u8>) -> Result<(), AllocError>
     requires { layers ≤ 127 }
     ensures { OnOk result (text.new.items ≡ text.old.items ++ each_below layers (row_of part)) }
@@ -91,7 +91,7 @@ fn add_rows(alloc: Global, part: Part, layers: u32, text: &mut Vec<u8>) -> Resul
     Ok(())
 }
 
-// The text of the network of so many layers.
+// The text of the network of `layers` layers.
 fn text_of(alloc: Global, layers: u32) -> Result<Vec<u8>, AllocError>
     requires { layers ≤ 126 }
     ensures { IfOk result (λ text. text.items ≡ network_text layers) }
@@ -109,7 +109,7 @@ fn text_of(alloc: Global, layers: u32) -> Result<Vec<u8>, AllocError>
     Ok(text)
 }
 
-/// The text of the network of so many layers, 0 to 126, between four tasks that write and four that read: a program whose top
+/// The text of the network of `layers` layers, 0 to 126, between four tasks that write and four that read: a program whose top
 /// task is `Gen`. It is no longer than a source may be.
 pub fn generate(alloc: Global, layers: u32) -> Result<Vec<u8>, OutOfMemory>
     requires { layers ≤ 126 }

@@ -1,4 +1,4 @@
-// What is told of a network.
+// The lines of a network's summary.
 ghost use Rattle.std.specs.Prelude.{◌≡◌, map, IfOk};
 ghost use Rattle.command_network.specs.Summaries.{number_line, summary_lines as summary_lines_lem};
 

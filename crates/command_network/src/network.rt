@@ -15,7 +15,7 @@ use std::sync::Wait;
 use std::thread::Threads;
 use tapa_files::Sink;
 
-/// Generates the network of so many layers, runs its program by the workers of a crew, builds and simulates its circuit, and writes
+/// Generates the network of `layers` layers, runs its program by the workers of a crew, builds and simulates its circuit, and writes
 /// the summary, a line at a time. The first step that refuses decides, and nothing is written before all of them are done.
 pub fn put_network<'a, R: Threads + Wait + Sync, G: Gate, O: Sink>(
     crew: &Crew<'_, R, G>,

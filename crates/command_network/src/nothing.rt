@@ -1,4 +1,4 @@
-// What a program runs on where nothing is given, and what stands around its circuit.
+// What a program runs on where nothing is given, and the environment of its circuit.
 ghost use Rattle.std.specs.Prelude.{◌≡◌, [], replicate, length, IfOk};
 ghost use Rattle.vlog_design.specs.Environments.{environment_of, lists_of};
 ghost use Rattle.net_core.specs.Bounded.{values_of};

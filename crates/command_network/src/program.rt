@@ -16,10 +16,10 @@ use tapa_syntax::Program;
 // The name of the top task.
 const TOP: &str = "Gen";
 
-// What stands for the file in messages.
+// The name of the file in messages.
 const FILE: &str = "gen";
 
-/// The program of the network of so many layers, which is read as a source is.
+/// The program of the network of `layers` layers, which is read as a source is.
 pub(crate) fn network_program<'a>(alloc: Global, layers: u32) -> Result<Program, Refusal<'a>>
     requires { layers ≤ most_layers }
     ensures means { IfOk result (IsProgramOf (network_text layers) network_top) }

@@ -6,7 +6,7 @@ ghost use Rattle.tapa_syntax.specs.OwnNames.{HasOwnNames};
 ghost use Rattle.tapa_words.specs.Words.{most_layers, default_limit};
 ghost use Rattle.run_program.specs.Totals.{IsTotalled};
 ghost use Rattle.command_source.specs.Meaning.{refusal_of};
-ghost use Rattle.command_network.specs.Network.{IsDoneIn, IsNotRun, IsNotDone, IsSummaryOf, IsUntold};
+ghost use Rattle.command_network.specs.Network.{IsCircuitDoneIn, IsNotRun, IsNotDone, IsSummaryOf, IsUntold};
 ghost use Rattle.command_network.specs.Nothing.{no_values};
 
 use crate::lines::Summary;
@@ -58,7 +58,7 @@ fn totals_of<'a, R: Threads + Wait + Sync, G: Gate>(
 fn cycles_of<'a>(alloc: Global, program: &Program) -> Result<u64, Refusal<'a>>
     requires well_formed { IsWellFormed program.now }
     requires names { HasOwnNames program.now }
-    ensures done { IfOk result (IsDoneIn program.now) }
+    ensures done { IfOk result (IsCircuitDoneIn program.now) }
     ensures refused { IfErr result (λ refusal. IsNotDone program.now (refusal_of refusal)) }
 {
     let design = match circuit_of(alloc, program, &[]) {
@@ -76,7 +76,7 @@ fn cycles_of<'a>(alloc: Global, program: &Program) -> Result<u64, Refusal<'a>>
     }
 }
 
-/// The numbers of the network of so many layers: of its program, of the run of that by the workers of a crew, and of the simulation
+/// The numbers of the network of `layers` layers: of its program, of the run of that by the workers of a crew, and of the simulation
 /// of its circuit. The first of these that refuses decides.
 pub(crate) fn summary_of<'a, R: Threads + Wait + Sync, G: Gate>(
     crew: &Crew<'_, R, G>,

@@ -11,10 +11,10 @@ use Rattle.task_graph.specs.Uses.{nothing}
 use Rattle.plan_device.specs.declared.device.Device.{Device}
 use Rattle.slot_plan.specs.declared.floorplan.PlanFault.TheVariants.{NoFit, TooMany}
 use Rattle.slot_plan.specs.Causes.{open_slots, free_groups, AreUsed}
-use Rattle.slot_plan.specs.Least.{Beats}
 use Rattle.slot_plan.specs.Plan.{need_of, cost, IsPlanOf}
+use Rattle.slot_plan.proofs.Beating.{beat_both}
 use Rattle.slot_plan.proofs.Uses.{amount_or}
-use Rattle.slot_split.proofs.Single.{not_after_both, one_halving_plan, halves_or_fails, fails_at_one_level}
+use Rattle.slot_split.proofs.Single.{one_halving_plan, halves_or_fails, fails_at_one_level}
 use Rattle.plan_report.specs.Added.{AreAdded}
 use Rattle.plan_report.proofs.OneAdded.{one_added}
 use Rattle.command_source.specs.Refusal.{Refusal, Usage, Read, Write, TooLong, Source, Data, Ticks, Stopped, Device as BadDevice, TooManyPlans, NoPlan, NoRoom, NoHalving, Verilog, DesignData, Undone, Dump, Memory}
@@ -23,12 +23,6 @@ use Rattle.command_plans.specs.OnePlan.{PlansAreOne, RefusalsAreOne, PlannedOrRe
 use Rattle.command_plans.proofs.OneFirstFit.{one_by_all, one_blamed, never_blamed}
 
 -- ---- one plan
-
-beat_both : (g : Graph) (d : Device) (p q : List ℕ) → length p ≡ length q → Beats g d p q → Beats g d q p → p ≡ q
-beat_both g d p q e a b =
-    let x = a.cheap in
-    let y = b.cheap in
-    not_after_both p q e (a.first (omega arith)) (b.first (omega arith))
 
 slots_one : (g : Graph) (d : Device) (mode : PlanMode) (p q : List ℕ) → IsPlanFor g d mode p → IsPlanFor g d mode q → p ≡ q
 slots_one g d Exact p q a b = beat_both g d p q (a.1.plan.whole ∙ sym b.1.plan.whole) (a.1.beats q b.1.plan) (b.1.beats p a.1.plan)

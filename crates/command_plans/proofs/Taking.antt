@@ -4,7 +4,7 @@ use Rattle.tapa_files.specs.Outside.{Files}
 use Rattle.tapa_files.specs.Take.{IsFileOf}
 use Rattle.tapa_syntax.specs.declared.program.Program.{Program}
 use Rattle.task_graph.specs.declared.Graph.{Graph}
-use Rattle.plan_device.specs.Answer.{IsCause as IsCauseOfDevice}
+use Rattle.plan_device.specs.Answer.{IsDeviceCause as IsCauseOfDevice}
 use Rattle.plan_device.specs.Faults as device
 use Rattle.plan_device.specs.declared.fault.DeviceFault.{DeviceFault as FaultOfDevice}
 use Rattle.plan_device.specs.declared.fault.DeviceFault.TheVariants as device_fault

@@ -24,7 +24,7 @@ RefusalsAreOne = (g : Graph) (d : Device) (mode : PlanMode) (why other : Refusal
 abbrev pub PlannedOrRefused : Type 0
 PlannedOrRefused = (g : Graph) (d : Device) (mode : PlanMode) (p : Plan) (why : Refusal) → why ≢ Memory → IsFound g d mode p → IsUnplanned g d mode why → ⊥
 
--- what a circuit adds to a stream by the plan of a mode, balanced, is the latency and the balance that the lines of the plan tell of it
+-- what a circuit adds to a stream by the plan of a mode, balanced, is the latency and the balance that the lines of the plan show
 abbrev pub BuildAddsWhatPlanPrints : Type 0
 BuildAddsWhatPlanPrints =
     (program : Program) (g : Graph) (d : Device) (mode : PlanMode) (p q : Plan) (lines : List (List ℕ)) (told : List ℕ) → IsFound g d mode p → IsFound g d mode q

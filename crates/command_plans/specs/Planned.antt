@@ -18,7 +18,7 @@ use Rattle.slot_plan.specs.declared.floorplan.Mode.TheVariants as floorplan_mode
 use Rattle.slot_plan.specs.declared.floorplan.Plan.{Plan}
 use Rattle.slot_plan.specs.declared.floorplan.PlanFault.{PlanFault}
 use Rattle.slot_plan.specs.declared.floorplan.PlanFault.TheVariants.{NoFit, TooMany}
-use Rattle.slot_plan.specs.Causes.{IsPlanBy, IsCause, AreUsed}
+use Rattle.slot_plan.specs.Causes.{IsPlanBy, IsPlanCause, AreUsed}
 use Rattle.slot_plan.specs.Plan.{IsPlanOf, cost}
 use Rattle.slot_split.specs.declared.planning.SplitFault.TheVariants as split_fault
 use Rattle.slot_split.specs.Causes.{IsSplitCause}
@@ -39,8 +39,8 @@ IsPlanFor graph device Split slots = IsHalvingPlan graph device slots
 
 -- why a mode finds none; halving has two parts for each free group to be in
 abbrev pub IsFaultOf : Graph → Device → PlanMode → PlanFault → Type 0
-IsFaultOf graph device Exact fault = IsCause graph device floorplan_mode.Exact fault
-IsFaultOf graph device Fit fault = IsCause graph device floorplan_mode.Fit fault
+IsFaultOf graph device Exact fault = IsPlanCause graph device floorplan_mode.Exact fault
+IsFaultOf graph device Fit fault = IsPlanCause graph device floorplan_mode.Fit fault
 IsFaultOf graph device Split (TooMany slots free) = (slots ≡ 2) × IsSplitCause graph device (split_fault.TooMany free)
 IsFaultOf graph device Split _ = ⊥
 
@@ -75,7 +75,7 @@ pub record IsCircuitBy (program : Program) (graph : Graph) (device : Device) (pl
 abbrev pub IsPlanText : Graph → Device → Plan → List ℕ → Type 0
 IsPlanText graph device plan told = (lines : List (List ℕ)) × AreLinesOf graph device plan lines × (told ≡ joined lines)
 
--- what is told by a plan: its lines, or a circuit
+-- the output of a plan: its lines, or a circuit
 abbrev pub IsToldBy : PlanAim → Program → Graph → Device → Plan → List ℕ → Type 0
 IsToldBy Lines program graph device plan told = IsPlanText graph device plan told
 IsToldBy (Circuit balanced) program graph device plan told = IsCircuitBy program graph device plan balanced told
@@ -120,7 +120,7 @@ pub record HasNoPlan (text top bytes : List ℕ) (mode : PlanMode) (why : Refusa
   pub asked : IsAskedOn text top bytes program graph device
   pub is : IsUnplanned graph device mode why
 
--- what is told by a plan of the source's program on the device
+-- the output of a plan of the source's program on the device
 pub record HasPlan (text top bytes : List ℕ) (mode : PlanMode) (aim : PlanAim) (told : List ℕ) : Type 0 where
   pub program : Program
   pub graph : Graph

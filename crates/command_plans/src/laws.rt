@@ -8,7 +8,7 @@ pub fn law_one_plan()
     ensures either { PlannedOrRefused }
 {}
 
-/// The circuit by a plan adds to its streams what the lines of the plan tell: the latency of the borders, and the balance.
+/// The circuit by a plan adds to its streams what the lines of the plan show: the latency of the borders, and the balance.
 pub fn law_build_adds_what_plan_prints()
     ensures { BuildAddsWhatPlanPrints }
 {}

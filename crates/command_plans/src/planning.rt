@@ -7,7 +7,7 @@ ghost use Rattle.task_graph.specs.declared.Graph.{Graph as GraphType};
 ghost use Rattle.task_graph.specs.Streams.{least_of};
 ghost use Rattle.plan_device.specs.Answer.{IsDeviceOf};
 ghost use Rattle.plan_device.specs.Devices.{IsDevice};
-ghost use Rattle.slot_plan.specs.Causes.{IsPlanBy, IsCause};
+ghost use Rattle.slot_plan.specs.Causes.{IsPlanBy, IsPlanCause};
 ghost use Rattle.slot_plan.specs.Plan.{IsPlanOf};
 ghost use Rattle.slot_plan.specs.declared.floorplan.PlanFault.{PlanFault as PlanFaultType};
 ghost use Rattle.slot_plan.specs.declared.floorplan.PlanFault.TheVariants.{NoFit};
@@ -114,7 +114,7 @@ fn planned_by<'a>(
     ensures plan { IfOk result (λ found. IsPlanOf graph.now device.now found.slot.items) }
     ensures found { (mode : PlanModeType) → ((slots : List ℕ) → IsPlanBy graph.now device.now by slots → IsPlanFor graph.now device.now mode slots)
         → IfOk result (λ found. IsFound graph.now device.now mode found) }
-    ensures refused { (mode : PlanModeType) → ((fault : PlanFaultType) → IsCause graph.now device.now by fault → IsFaultOf graph.now device.now mode fault)
+    ensures refused { (mode : PlanModeType) → ((fault : PlanFaultType) → IsPlanCause graph.now device.now by fault → IsFaultOf graph.now device.now mode fault)
         → IfErr result (λ refusal. IsUnplanned graph.now device.now mode (refusal_of refusal)) }
 {
     match plan(alloc, graph, device, by) {

@@ -14,7 +14,7 @@ use Rattle.tapa_parse_expression.specs.declared.fault.ParseCode.{ParseCode}
 use Rattle.tapa_parse.specs.Answers.{stopped_at, IsFile, IsRefusedSomewhere}
 use Rattle.tapa_parse.proofs.CompleteFiles.{one_tree}
 use Rattle.tapa_parse.proofs.Places.{file_or_refused}
-use Rattle.check_scope.specs.Answers.{IsFirst}
+use Rattle.check_scope.specs.Answers.{IsFirstBroken}
 use Rattle.check_scope.specs.declared.fault.Broken.{Broken}
 use Rattle.stream_arrays.specs.declared.fault.ArrayCode.{ArrayCode}
 use Rattle.stream_arrays.specs.declared.fault.ArrayFault.{ArrayFault}
@@ -44,7 +44,7 @@ parsed text lexemes h (inr (code, left, refused)) = inr (code, stopped_at text l
 -- a file breaks no rule or there is a first one
 checked : (text top : List ℕ) (items : List ItemTree) → HasFile text items → (faults : List Broken) → program_faults items top ≡ faults → Checked text top
 checked text top items h [] e = inl (record { items = items; file = h; legal = e })
-checked text top items h (b ∷ rest) e = inr (b, record { items = items; file = h; first = subst (λ (l : List Broken). IsFirst l b) (sym e) refl })
+checked text top items h (b ∷ rest) e = inr (b, record { items = items; file = h; first = subst (λ (l : List Broken). IsFirstBroken l b) (sym e) refl })
 
 text_legal_or_refused : (text top : List ℕ) → IsLegalText text top ⊎ IsRefusedTextSomehow text top
 text_legal_or_refused text top = of_lexed (lexemes_or_refusal text)
@@ -76,8 +76,8 @@ no_file text items code place h k =
     let spelled = subst (λ (l : List Lexeme). IsTreeOf (symbols_of text l) items) same h.spelled in
     (file_or_refused (symbols_of text k.lexemes)).1 (items, spelled, h.within) (code, k.refused.0, k.refused.2)
 
-not_first : (faults : List Broken) (broken : Broken) → faults ≡ [] → IsFirst faults broken → ⊥
-not_first faults broken none first = subst (λ (l : List Broken). IsFirst l broken) none first
+not_first : (faults : List Broken) (broken : Broken) → faults ≡ [] → IsFirstBroken faults broken → ⊥
+not_first faults broken none first = subst (λ (l : List Broken). IsFirstBroken l broken) none first
 
 text_not_both : (text top : List ℕ) → IsLegalText text top → IsRefusedTextSomehow text top → ⊥
 text_not_both text top p (inl (code, place, h)) = not_both text p.file.lexemes code place p.file.are h

@@ -13,16 +13,16 @@ use Rattle.tapa_syntax.specs.Symbols.{symbols_of}
 use Rattle.tapa_syntax.specs.Trees.{ItemTree, file_of}
 use Rattle.tapa_parse_expression.specs.declared.fault.ParseCode.{ParseCode}
 use Rattle.tapa_parse.specs.declared.fault.ParseFault.TheVariants.{At, OutOfMemory}
-use Rattle.tapa_parse.specs.Answers.{Answers, Refuses}
+use Rattle.tapa_parse.specs.Answers.{ParserAnswers, Refuses}
 use Rattle.check_scope.specs.Answers as check
 use Rattle.check_scope.specs.declared.fault.Broken.{Broken}
 use Rattle.check_scope.specs.declared.fault.CheckFault.{CheckFault}
 use Rattle.check_scope.specs.declared.fault.CheckFault.TheVariants as check_fault
 use Rattle.stream_check.specs.Programs.{program_faults, program_of}
-use Rattle.command_source.specs.Source.{HasTree, HasNoTree, IsProgramOfText, IsRefusedText}
+use Rattle.command_source.specs.Source.{HasSourceTree, HasNoTree, IsProgramOfText, IsRefusedWrittenOut}
 use Rattle.command_source.specs.declared.source.SourceCode.TheVariants.{Rule}
 
-pub has_tree : (text : List ℕ) (lexemes seen : List Lexeme) (file : File) → HasLexemes text lexemes → seen ≡ lexemes → IsTreeOf (symbols_of text seen) (file_of file) × IsWithinLimits (file_of file) → HasTree text file
+pub has_tree : (text : List ℕ) (lexemes seen : List Lexeme) (file : File) → HasLexemes text lexemes → seen ≡ lexemes → IsTreeOf (symbols_of text seen) (file_of file) × IsWithinLimits (file_of file) → HasSourceTree text file
 has_tree text lexemes seen file are same found =
     record { lexemes = lexemes; are = are; spelled = subst (λ (l : List Lexeme). IsTreeOf (symbols_of text l) (file_of file)) same found.0; within = found.1 }
 
@@ -30,7 +30,7 @@ no_memory : (place : Place) (code : ParseCode) → At code place ≡ OutOfMemory
 no_memory place code e = cc
 
 pub has_no_tree : (text : List ℕ) (lexemes seen : List Lexeme) (place : Place) (code : ParseCode) → HasLexemes text lexemes → seen ≡ lexemes → Refuses text (symbols_of text seen) (At code place)
-    → ((items : List ItemTree) → IsTreeOf (symbols_of text seen) items → IsWithinLimits items → Answers (Err (At code place)) items) → HasNoTree text place code
+    → ((items : List ItemTree) → IsTreeOf (symbols_of text seen) items → IsWithinLimits items → ParserAnswers (Err (At code place)) items) → HasNoTree text place code
 has_no_tree text lexemes seen place code are same refused only = record {
   lexemes = lexemes;
   are = are;
@@ -40,10 +40,10 @@ has_no_tree text lexemes seen place code are same refused only = record {
 
 -- what the check of a file answers
 abbrev pub Checks : Result Program CheckFault → File → List ℕ → Type 0
-Checks result file top = check.Answers flat_program result (program_faults (file_of file) top) (program_of (file_of file) top)
+Checks result file top = check.ScopeAnswers flat_program result (program_faults (file_of file) top) (program_of (file_of file) top)
 
-pub program_of_tree : (text top : List ℕ) (program : Program) (file : File) → HasTree text file → Checks (Ok program) file top → IsProgramOfText text top program
+pub program_of_tree : (text top : List ℕ) (program : Program) (file : File) → HasSourceTree text file → Checks (Ok program) file top → IsProgramOfText text top program
 program_of_tree text top program file tree means = record { file = file; tree = tree; legal = means.0; means = means.1 }
 
-pub breaks_first : (text top : List ℕ) (broken : Broken) (file : File) → HasTree text file → Checks (Err (check_fault.At broken)) file top → IsRefusedText text top broken.place (Rule broken.code broken.limit)
+pub breaks_first : (text top : List ℕ) (broken : Broken) (file : File) → HasSourceTree text file → Checks (Err (check_fault.At broken)) file top → IsRefusedWrittenOut text top broken.place (Rule broken.code broken.limit)
 breaks_first text top broken file tree first = record { file = file; tree = tree; first = first }

@@ -14,7 +14,7 @@ use Rattle.tapa_syntax.specs.declared.program.Program.{Program}
 use Rattle.tapa_syntax.specs.declared.program.Scalar.{Scalar}
 use Rattle.kahn_model.specs.Fits.{FitsInput}
 use Rattle.tapa_base.specs.Fits.{Fits}
-use Rattle.run_data.specs.Answer.{bits_of_ports, IsDataOf, IsCause}
+use Rattle.run_data.specs.Answer.{bits_of_ports, IsDataOf, IsDataCause}
 use Rattle.run_data.specs.declared.data.Data.{Data}
 use Rattle.run_data.specs.declared.data.DataFault.{DataFault}
 use Rattle.run_data.specs.declared.data.DataFault.TheVariants.{J1, J2, J3, J4, OutOfMemory}
@@ -59,7 +59,7 @@ gives_values program shape is text given d = record {
 }
 
 -- the fault of a text for the shape of a program is one for the program
-pub unfit : (program : Program) (shape : Shape) → IsShapeOf program shape → (text : List ℕ) (fault : DataFault) → IsCause text shape fault → IsUnfitBy program text fault
+pub unfit : (program : Program) (shape : Shape) → IsShapeOf program shape → (text : List ℕ) (fault : DataFault) → IsDataCause text shape fault → IsUnfitBy program text fault
 unfit program shape is text J1 h = h
 unfit program shape is text (J2 key) h = (shape, is, h)
 unfit program shape is text (J3 key) h = (shape, is, h)

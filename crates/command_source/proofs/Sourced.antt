@@ -17,29 +17,29 @@ use Rattle.stream_arrays.specs.declared.fault.ArrayCode.{ArrayCode}
 use Rattle.stream_arrays.specs.declared.fault.ArrayCode.TheVariants as arrays
 use Rattle.stream_arrays.specs.declared.fault.ArrayFault.{ArrayFault}
 use Rattle.stream_arrays.specs.Written.{written_out}
-use Rattle.check_scope.specs.Answers.{IsFirst}
+use Rattle.check_scope.specs.Answers.{IsFirstBroken}
 use Rattle.check_scope.specs.declared.fault.Broken.{Broken}
 use Rattle.stream_check.specs.Programs.{program_faults}
 use Rattle.command_source.specs.declared.source.SourceCode.{SourceCode}
 use Rattle.command_source.specs.declared.source.SourceCode.TheVariants.{L1, L2, L3, L4, A1, A2, A3, A4, P1, P2, Rule}
 use Rattle.command_source.specs.Codes.{parse_code}
-use Rattle.command_source.specs.Source.{HasTree, HasNoTree, IsProgramOfText, IsRefusedText, IsWrittenOut, HasArrayFault, IsUnwritten, IsRefusedSource, MeansNothing}
+use Rattle.command_source.specs.Source.{HasSourceTree, HasNoTree, IsProgramOfText, IsRefusedWrittenOut, IsWrittenOut, HasArrayFault, IsUnwritten, IsRefusedSource, MeansNothing}
 
 -- a text has one tree
-pub one_tree : (text : List ℕ) (file other : File) → HasTree text file → HasTree text other → file_of file ≡ file_of other
+pub one_tree : (text : List ℕ) (file other : File) → HasSourceTree text file → HasSourceTree text other → file_of file ≡ file_of other
 one_tree text file other a b =
     let same = one_list text a.lexemes b.lexemes a.are b.are in
     tree_is_one (symbols_of text b.lexemes) (file_of file) (file_of other) (subst (λ (l : List Lexeme). IsTreeOf (symbols_of text l) (file_of file)) same a.spelled) b.spelled
 
-pub no_tree : (text : List ℕ) (place : Place) (code : ParseCode) (file : File) → HasNoTree text place code → HasTree text file → ⊥
+pub no_tree : (text : List ℕ) (place : Place) (code : ParseCode) (file : File) → HasNoTree text place code → HasSourceTree text file → ⊥
 no_tree text place code file a b =
     let same = one_list text b.lexemes a.lexemes b.are a.are in
     a.none (file_of file) (subst (λ (l : List Lexeme). IsTreeOf (symbols_of text l) (file_of file)) same b.spelled) b.within
 
-not_first : (faults : List Broken) (broken : Broken) → faults ≡ [] → IsFirst faults broken → ⊥
-not_first faults broken none first = subst (λ (l : List Broken). IsFirst l broken) none first
+not_first : (faults : List Broken) (broken : Broken) → faults ≡ [] → IsFirstBroken faults broken → ⊥
+not_first faults broken none first = subst (λ (l : List Broken). IsFirstBroken l broken) none first
 
-text_means_nothing : (text top : List ℕ) (place : Place) (code : SourceCode) → IsRefusedText text top place code → (program : Program) → IsProgramOfText text top program → ⊥
+text_means_nothing : (text top : List ℕ) (place : Place) (code : SourceCode) → IsRefusedWrittenOut text top place code → (program : Program) → IsProgramOfText text top program → ⊥
 text_means_nothing text top place L1 h program p = not_both text p.tree.lexemes lex.L1 place p.tree.are h
 text_means_nothing text top place L2 h program p = not_both text p.tree.lexemes lex.L2 place p.tree.are h
 text_means_nothing text top place L3 h program p = not_both text p.tree.lexemes lex.L3 place p.tree.are h
@@ -94,6 +94,6 @@ means_nothing text top place code (inr (out, w, h)) = λ program p.
 
 -- ---- what the parser refuses
 
-pub refused_by_parser : (text top : List ℕ) (place : Place) (code : ParseCode) → HasNoTree text place code → IsRefusedText text top place (parse_code code)
+pub refused_by_parser : (text top : List ℕ) (place : Place) (code : ParseCode) → HasNoTree text place code → IsRefusedWrittenOut text top place (parse_code code)
 refused_by_parser text top place parse.P1 h = h
 refused_by_parser text top place parse.P2 h = h

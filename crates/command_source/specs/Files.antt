@@ -16,7 +16,7 @@ data_limit = 33554432
 abbrev pub verilog_limit : ℕ
 verilog_limit = 16777216
 
--- a file has no more bytes than it may, and this holds of them: of those of the named file where the files are told, and
+-- a file has no more bytes than it may, and this holds of them: of those of the named file where the files are known, and
 -- else of some bytes
 abbrev pub OfFile : Option Files → ℕ → List ℕ → (List ℕ → Type 0) → Type 0
 OfFile files most name P = (bytes : List ℕ) × IsFileOf files name bytes × (length bytes ≤ most) × P bytes
@@ -28,7 +28,7 @@ OfSource files name P = OfFile files source_limit name P
 abbrev pub no_data : List ℕ
 no_data = codes "{}"
 
--- the name that stands for the data in messages
+-- the name of the data in messages
 abbrev pub shown_name : Option (List ℕ) → List ℕ
 shown_name None = no_data
 shown_name (Some name) = name

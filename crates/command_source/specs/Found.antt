@@ -10,7 +10,7 @@ use Rattle.command_source.specs.Inputs.{HasDataFault}
 use Rattle.command_source.specs.Refusal.{Refusal, Read, TooLong, Source, Data, Verilog, Memory, VerilogFault}
 use Rattle.command_source.specs.Source.{IsRefusedSource}
 
--- why a file of so many bytes at most is not taken: it cannot be read, it is too long, or its text is refused in one of two ways
+-- why a file of at most `most` bytes is not taken: it cannot be read, it is too long, or its text is refused in one of two ways
 abbrev pub IsNotTaken : Option Files → (List ℕ → ℕ) → (List ℕ → ℕ) → List ℕ → ℕ → (List ℕ → Place → SourceCode → Type 0) → (List ℕ → VerilogFault → Type 0) → Refusal → Type 0
 IsNotTaken files reads_old reads_new name most refuses faulty (Read file) = (name ≡ file) × Rose (reads_old file) (reads_new file)
 IsNotTaken files reads_old reads_new name most refuses faulty (TooLong file limit) = (name ≡ file) × (limit ≡ most) × IsLongerThan files file most
@@ -21,7 +21,8 @@ IsNotTaken files reads_old reads_new name most refuses faulty _ = ⊥
 
 -- why a source on a shelf has no program
 abbrev pub IsNotFound : Option Files → (List ℕ → ℕ) → (List ℕ → ℕ) → List ℕ → List ℕ → Refusal → Type 0
-IsNotFound files reads_old reads_new source top refusal = IsNotTaken files reads_old reads_new source source_limit (λ text place code. IsRefusedSource text top place code) (λ text fault. ⊥) refusal
+IsNotFound files reads_old reads_new source top refusal =
+    IsNotTaken files reads_old reads_new source source_limit (λ text place code. IsRefusedSource text top place code) (λ text fault. ⊥) refusal
 
 -- why a program has no values from the data that are named
 abbrev pub IsNotGiven : Option Files → (List ℕ → ℕ) → (List ℕ → ℕ) → Program → Option (List ℕ) → Refusal → Type 0

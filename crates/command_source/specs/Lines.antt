@@ -15,11 +15,12 @@ use Rattle.command_source.specs.Source.{IsWrittenOut}
 abbrev pub line_feeds : Bytes → ℕ
 line_feeds text = length (filter (λ b. b == 10) text)
 
--- a written-out text has as many as the source
+-- a written-out text has the source's number of line feeds
 abbrev pub TextsKeepLines : Type 0
 TextsKeepLines = (text out : Bytes) → IsWrittenOut text out → line_feeds out ≡ line_feeds text
 
--- What is written of each form, or of a lexeme of none, has as many as stand in the source from its first byte to its last, whatever is known there.
+-- What is written of each form, or of a lexeme of none, has the number of line feeds of the source from its first byte to its last,
+-- whatever is known there.
 abbrev pub FormsKeepLines : Type 0
 FormsKeepLines =
     (text : Bytes) (lexemes before : List Lexeme) (l : Lexeme) (ls : List Lexeme) (s : Scope) (r : Step)
@@ -29,4 +30,5 @@ FormsKeepLines =
 -- a text that has a tree is written out as it is, where it isn't too long
 abbrev pub FilesStay : Type 0
 FilesStay =
-    (text : Bytes) (lexemes : List Lexeme) (items : List ItemTree) → HasLexemes text lexemes → IsTreeOf (symbols_of text lexemes) items → length text ≤ most → written_out text lexemes ≡ Ok text
+    (text : Bytes) (lexemes : List Lexeme) (items : List ItemTree) → HasLexemes text lexemes → IsTreeOf (symbols_of text lexemes) items → length text ≤ most
+    → written_out text lexemes ≡ Ok text

@@ -1,4 +1,4 @@
--- What values of the code stand for.
+-- What values of the code mean.
 use Rattle.std.specs.Prelude.{ℕ, List}
 use Rattle.run_data.specs.Data.{Misshapen, Misfit, Oversized}
 use Rattle.run_data.specs.declared.data.DataFault.{DataFault as FaultOfData}
@@ -17,7 +17,7 @@ use Rattle.command_source.specs.declared.refusal.Refusal.TheVariants.{NoHalving,
 use Rattle.command_source.specs.declared.refusal.DumpFault.{DumpFault}
 use Rattle.command_source.specs.declared.refusal.DumpFault.TheVariants.{NoDump, NoNet}
 
--- a fault of data, told of a file
+-- a fault of data, reported of a file
 abbrev pub data_refusal : List ℕ → FaultOfData → spec.Refusal
 data_refusal file J1 = spec.Data file NotJson
 data_refusal file (J2 key) = spec.Data file (Faulty (Misshapen key.items))
@@ -25,7 +25,7 @@ data_refusal file (J3 key) = spec.Data file (Faulty (Misfit key.items))
 data_refusal file (J4 key) = spec.Data file (Faulty (Oversized key.items))
 data_refusal file OutOfMemory = spec.Memory
 
--- a fault of a device file, told of it
+-- a fault of a device file, reported of it
 abbrev pub device_refusal : List ℕ → DeviceFault → spec.Refusal
 device_refusal file device_fault.J1 = spec.Device file NoJson
 device_refusal file (device_fault.J2 key) = spec.Device file (HasFault (device.Misshapen key.items))
@@ -36,7 +36,7 @@ device_refusal file (device_fault.K3 label) = spec.Device file (HasFault (device
 device_refusal file (device_fault.K4 label) = spec.Device file (HasFault (device.OnForbidden label.items))
 device_refusal file device_fault.OutOfMemory = spec.Memory
 
--- a fault of a Verilog text, told of it
+-- a fault of a Verilog text, reported of it
 abbrev pub verilog_refusal : List ℕ → VFault → spec.Refusal
 verilog_refusal file (verilog_fault.V1 place) = spec.Verilog file (spec.V1 place)
 verilog_refusal file (verilog_fault.V2 name) = spec.Verilog file (spec.V2 name)
@@ -46,7 +46,7 @@ verilog_refusal file (verilog_fault.V5 name) = spec.Verilog file (spec.V5 name)
 verilog_refusal file (verilog_fault.V6 name) = spec.Verilog file (spec.V6 name)
 verilog_refusal file verilog_fault.OutOfMemory = spec.Memory
 
--- a fault of the data of a design, told of a file
+-- a fault of the data of a design, reported of a file
 abbrev pub design_refusal : List ℕ → FaultOfData → spec.Refusal
 design_refusal file J1 = spec.DesignData file NotJson
 design_refusal file (J2 key) = spec.DesignData file (Faulty (Misshapen key.items))
@@ -54,7 +54,7 @@ design_refusal file (J3 key) = spec.DesignData file (Faulty (Misfit key.items))
 design_refusal file (J4 key) = spec.DesignData file (Faulty (Oversized key.items))
 design_refusal file OutOfMemory = spec.Memory
 
--- why a file shows nothing of a net, told of the file
+-- why a file shows nothing of a net, reported of the file
 abbrev pub dump_refusal : List ℕ → DumpFault → spec.Refusal
 dump_refusal file (NoDump place) = spec.Dump file (spec.NoDump place)
 dump_refusal file (NoNet name) = spec.Dump file (spec.NoNet name.now)

@@ -1,14 +1,14 @@
--- What contracts see of the outside at one moment: the files, the output and the errors.
+-- The state of the outside that contracts see: the files, the output and the errors.
 use Rattle.std.specs.Prelude.{ℕ, List, Option}
 use Rattle.tapa_files.specs.Outside.{Files}
 
--- what a sink holds, where it tells its bytes, and how often a write to it has failed
+-- what a sink holds, where its bytes are known, and how often a write to it has failed
 pub record Written : Type 0 where
   pub bytes : Option (List ℕ)
   pub failed : ℕ
 
 pub record Outside : Type 0 where
-  -- the files, where the shelf tells them
+  -- the files, where those of the shelf are known
   pub files : Option Files
   -- how often a read of each name has failed
   pub failed_reads : List ℕ → ℕ

@@ -1,4 +1,4 @@
--- Why a command was not carried out to its end, and what is told of it.
+-- Why a command was not carried out to its end, and what is reported of it.
 use Rattle.std.specs.Prelude.{ℕ, List, [], ◌++◌, Option, Some, None, codes, decimal, ⊤}
 use Rattle.tapa_base.specs.declared.text.Place.{Place}
 use Rattle.check_scope.specs.declared.fault.CheckCode.{CheckCode}
@@ -47,9 +47,9 @@ pub data Refusal : Type 0 where
   Source : (file : List ℕ) (place : Place) (code : SourceCode) → Refusal
   -- data are not what the program asks for
   Data : (file : List ℕ) (fault : DataFault) → Refusal
-  -- the joined instances of a run make more ticks than its limit, or never end
+  -- the instances of a run that are waited for make more ticks than its limit, or never end
   Ticks : (limit : ℕ) → Refusal
-  -- a run stopped, and each line tells what an instance waits for
+  -- a run stopped, and each line says what an instance waits for
   Stopped : (lines : List (List ℕ)) → Refusal
   -- a device file is not what the program asks for
   Device : (file : List ℕ) (fault : DeviceFault) → Refusal
@@ -65,7 +65,7 @@ pub data Refusal : Type 0 where
   Verilog : (file : List ℕ) (fault : VerilogFault) → Refusal
   -- data are not what the design asks for
   DesignData : (file : List ℕ) (fault : DataFault) → Refusal
-  -- a design is done in none of so many cycles
+  -- a design is not done within `limit` cycles
   Undone : (limit : ℕ) → Refusal
   -- a file has no dump with the net that is asked for
   Dump : (file : List ℕ) (fault : DumpFault) → Refusal
@@ -123,7 +123,7 @@ device_text (HasFault (device.Unknown name)) = codes "K2 " ++ name
 device_text (HasFault (device.Elsewhere label)) = codes "K3 " ++ label
 device_text (HasFault (device.OnForbidden label)) = codes "K4 " ++ label
 
--- the lines that tell it
+-- the lines that report it
 abbrev pub message_of : Refusal → List ℕ
 message_of Usage = codes "tapa: usage: tapa build|run|cosim|plan|gen|vcd\n"
 message_of (Read file) = codes "tapa: cannot read " ++ (file ++ codes "\n")

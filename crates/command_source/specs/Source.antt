@@ -19,7 +19,7 @@ use Rattle.tapa_parse.specs.declared.fault.ParseFault.TheVariants.{At}
 use Rattle.stream_arrays.specs.declared.fault.ArrayCode.{ArrayCode}
 use Rattle.stream_arrays.specs.declared.fault.ArrayCode.TheVariants as arrays
 use Rattle.stream_arrays.specs.Written.{written_out}
-use Rattle.check_scope.specs.Answers.{IsFirst}
+use Rattle.check_scope.specs.Answers.{IsFirstBroken}
 use Rattle.check_scope.specs.declared.fault.Broken.{Broken}
 use Rattle.stream_check.specs.Programs.{program_faults, program_of}
 use Rattle.command_source.specs.declared.source.SourceCode.{SourceCode}
@@ -36,7 +36,7 @@ IsUnlexed text place _ = ⊥
 -- ---- what a text is whose arrays are written out
 
 -- the text has lexemes, and this is the file that the grammar has for them, within the limits
-pub record HasTree (text : List ℕ) (file : File) : Type 0 where
+pub record HasSourceTree (text : List ℕ) (file : File) : Type 0 where
   pub lexemes : List Lexeme
   pub are : HasLexemes text lexemes
   pub spelled : IsTreeOf (symbols_of text lexemes) (file_of file)
@@ -45,7 +45,7 @@ pub record HasTree (text : List ℕ) (file : File) : Type 0 where
 -- the flat program of such a text and the name of its top task: the file breaks no rule and means this program
 pub record IsProgramOfText (text top : List ℕ) (program : Program) : Type 0 where
   pub file : File
-  pub tree : HasTree text file
+  pub tree : HasSourceTree text file
   pub legal : program_faults (file_of file) top ≡ []
   pub means : flat_program program ≡ program_of (file_of file) top
 
@@ -59,17 +59,17 @@ pub record HasNoTree (text : List ℕ) (place : Place) (code : ParseCode) : Type
 -- the text has a tree, and this is the first rule that it breaks with this top task
 pub record BreaksFirst (text top : List ℕ) (broken : Broken) : Type 0 where
   pub file : File
-  pub tree : HasTree text file
-  pub first : IsFirst (program_faults (file_of file) top) broken
+  pub tree : HasSourceTree text file
+  pub first : IsFirstBroken (program_faults (file_of file) top) broken
 
 -- the text is refused at this place by this rule: of the grammar, beyond it, or of the lexemes
-abbrev pub IsRefusedText : List ℕ → List ℕ → Place → SourceCode → Type 0
-IsRefusedText text top place P1 = HasNoTree text place parse.P1
-IsRefusedText text top place P2 = HasNoTree text place parse.P2
-IsRefusedText text top place (Rule code limit) = BreaksFirst text top (record { code = code; place = place; limit = limit })
-IsRefusedText text top place code = IsUnlexed text place code
+abbrev pub IsRefusedWrittenOut : List ℕ → List ℕ → Place → SourceCode → Type 0
+IsRefusedWrittenOut text top place P1 = HasNoTree text place parse.P1
+IsRefusedWrittenOut text top place P2 = HasNoTree text place parse.P2
+IsRefusedWrittenOut text top place (Rule code limit) = BreaksFirst text top (record { code = code; place = place; limit = limit })
+IsRefusedWrittenOut text top place code = IsUnlexed text place code
 
--- ---- what a source is: a text in which arrays may stand
+-- ---- what a source is: a text that may have arrays
 
 -- the text in which the arrays and counted invokes of a source are written out
 pub record IsWrittenOut (text out : List ℕ) : Type 0 where
@@ -103,7 +103,7 @@ pub record IsProgramOf (text top : List ℕ) (program : Program) : Type 0 where
 
 -- the source is refused at this place by this rule: it has no written-out text, or that is refused so
 abbrev pub IsRefusedSource : List ℕ → List ℕ → Place → SourceCode → Type 0
-IsRefusedSource text top place code = IsUnwritten text place code ⊎ OfWritten text (λ out. IsRefusedText out top place code)
+IsRefusedSource text top place code = IsUnwritten text place code ⊎ OfWritten text (λ out. IsRefusedWrittenOut out top place code)
 
 -- the source means no program
 abbrev pub MeansNothing : List ℕ → List ℕ → Type 0

@@ -1,4 +1,5 @@
--- What a source is, with the name of its top task: legal, or refused by the lexer, by the rules on arrays, by the grammar and its limits, or by a rule beyond it.
+-- What a source is, with the name of its top task: legal, or refused by the lexer, by the rules on arrays, by the grammar and its limits,
+-- or by a rule beyond it.
 use Rattle.std.specs.Prelude.{◌≡◌, ◌⊎◌, ℕ, List, []}
 use Rattle.tapa_base.specs.declared.text.Place.{Place}
 use Rattle.tapa_syntax.specs.declared.lexeme.Lexeme.{Lexeme}
@@ -12,7 +13,7 @@ use Rattle.tapa_lex.specs.Refusals.{IsRefused}
 use Rattle.tapa_parse_expression.specs.declared.fault.ParseCode.{ParseCode}
 use Rattle.tapa_parse.specs.Answers.{Refuses}
 use Rattle.tapa_parse.specs.declared.fault.ParseFault.TheVariants.{At}
-use Rattle.check_scope.specs.Answers.{IsFirst}
+use Rattle.check_scope.specs.Answers.{IsFirstBroken}
 use Rattle.check_scope.specs.declared.fault.Broken.{Broken}
 use Rattle.stream_arrays.specs.declared.fault.ArrayCode.{ArrayCode}
 use Rattle.stream_check.specs.Programs.{program_faults}
@@ -41,7 +42,7 @@ pub record IsUnread (text : List ℕ) (code : ParseCode) (place : Place) : Type 
 pub record BreaksRule (text top : List ℕ) (broken : Broken) : Type 0 where
   pub items : List ItemTree
   pub file : HasFile text items
-  pub first : IsFirst (program_faults items top) broken
+  pub first : IsFirstBroken (program_faults items top) broken
 
 abbrev pub IsRefusedTextSomehow : List ℕ → List ℕ → Type 0
 IsRefusedTextSomehow text top =

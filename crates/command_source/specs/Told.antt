@@ -1,4 +1,4 @@
--- How a refusal is told.
+-- How a refusal is reported.
 use Rattle.std.specs.Prelude.{◌≡◌, ◌⊎◌}
 use Rattle.std.specs.Io.KnownBytes.{Appends}
 use Rattle.tapa_files.specs.Outside.{Rose, AppendsPart}
@@ -12,7 +12,7 @@ use Rattle.command_source.specs.declared.status.Status.TheVariants.{Write}
 abbrev pub IsTold : Refusal → Status → Written → Written → Type 0
 IsTold refusal status before after = (status ≡ status_of refusal) × Appends before.bytes after.bytes (message_of refusal)
 
--- so it is, or a write failed and a front part of the lines stands
+-- so it is, or a write failed after a prefix of the lines
 abbrev pub IsToldAs : Refusal → Status → Written → Written → Type 0
 IsToldAs refusal status before after =
     IsTold refusal status before after

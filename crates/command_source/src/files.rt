@@ -87,7 +87,8 @@ pub fn read_values<'a, S: Shelf>(
     ensures gives { IfOk result (λ input. OfData (S.files shelf.old) (option_map (λ file. file.now) named.entry) (λ bytes. GivesValues program.now bytes (values_of input))) }
     ensures fits { IfOk result (λ input. FitsInput program.now (scalars_of input) (memories_of input)) }
     ensures asks { AsksForData S.files S.faults (option_map (λ file. file.now) named.entry) shelf.old shelf.new }
-    ensures refused { IfErr result (λ refusal. IsNotGiven (S.files shelf.old) (S.faults shelf.old) (S.faults shelf.new) program.now (option_map (λ file. file.now) named.entry) (refusal_of refusal)) }
+    ensures refused { IfErr result (λ refusal. IsNotGiven (S.files shelf.old) (S.faults shelf.old) (S.faults shelf.new) program.now
+        (option_map (λ file. file.now) named.entry) (refusal_of refusal)) }
 {
     match named {
         None => match read_input(alloc, program, NO_DATA.as_bytes()) {

@@ -27,13 +27,13 @@ pub fn law_labels_tell_parts_apart()
 {}
 
 /// In the program of each source that breaks no rule the instance of a memory that may be written is waited for, so that its
-/// cells are its last ones where the joined instances have ended.
+/// cells are its last ones where the instances that are waited for have ended.
 pub fn law_writers_are_joined()
     ensures { (items : List ItemTree) (top : List ℕ) → program_faults items top ≡ [] → HasJoinedWriters (program_of items top) }
 {}
 
-/// The text in which the arrays of a source are written out has as many line ends as the source, and what is written of each form has
-/// those that stand in it, so that what stands behind a form is on its own line there.
+/// The text in which the arrays of a source are written out has the source's number of line ends, and what is written of each form has
+/// that of the form, so that what comes after a form is on its own line there.
 pub fn law_written_out_keeps_lines()
     ensures texts { TextsKeepLines }
     ensures forms { FormsKeepLines }

@@ -17,6 +17,6 @@ pub use laws::{
     law_labels_tell_parts_apart, law_writers_are_joined, law_written_out_keeps_lines,
 };
 pub use program::{SourceFault, read_program};
-pub use refusal::{DumpFault, Refusal, put_lines, tell, tell_memory, tell_usage};
+pub use refusal::{DumpFault, Refusal, put_lines, report_no_memory, report_usage, tell};
 pub use source::SourceCode;
 pub use status::Status;

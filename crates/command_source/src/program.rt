@@ -4,7 +4,7 @@ ghost use Rattle.tapa_syntax.specs.Lexemes.{HasLexemes};
 ghost use Rattle.tapa_syntax.specs.WellFormed.{IsWellFormed};
 ghost use Rattle.command_source.specs.Refused.{IsLexicalCause, IsUnwrittenCause, IsTextCause, IsSourceCause};
 ghost use Rattle.command_source.specs.Codes.{lex_code, array_code, parse_code};
-ghost use Rattle.command_source.specs.Source.{HasTree, IsWrittenOut, IsProgramOfText, IsProgramOf};
+ghost use Rattle.command_source.specs.Source.{HasSourceTree, IsWrittenOut, IsProgramOfText, IsProgramOf};
 
 use crate::source::SourceCode;
 use check_scope::CheckFault;
@@ -94,7 +94,7 @@ fn written_text(alloc: Global, lexemes: &[Lexeme], text: &[u8]) -> Result<Vec<u8
 fn read_tree(alloc: Global, lexemes: &[Lexeme], text: &[u8]) -> Result<File, SourceFault>
     requires short { length text.now < 2 ^ 32 - 1 }
     requires lexed { HasLexemes text.now lexemes.now }
-    ensures found { IfOk result (HasTree text.now) }
+    ensures found { IfOk result (HasSourceTree text.now) }
     ensures refused { (top : List ℕ) → IfErr result (IsTextCause text.now top) }
 {
     match parse(alloc, lexemes, text) {

@@ -1,3 +1,4 @@
+// The refusals of commands: why a command ends without its work done, the lines that report it, and the status that it ends with.
 ghost use Rattle.std.specs.Prelude.{◌≡◌, ◌⊎◌, ◌++◌, codes, IfOk, OnOk, OnErr, ◌≤◌};
 ghost use Rattle.std.specs.Io.KnownBytes.{Appends};
 ghost use Rattle.tapa_files.specs.Outside.{AppendsPart, Rose};
@@ -44,20 +45,20 @@ pub enum Refusal<'a> {
         place: Place,
         code: SourceCode,
     },
-    /// What is wrong with the data, or want of memory in its place.
+    /// What is wrong with the data, or want of memory instead.
     Data {
         file: &'a str,
         fault: DataFault,
     },
-    /// The joined instances make more ticks than this, or never end.
+    /// The instances that are waited for make more ticks than this, or never end.
     Ticks {
         limit: u64,
     },
-    /// The run stopped; each line tells what an instance waits for.
+    /// The run stopped; each line says what an instance waits for.
     Stopped {
         lines: Vec<Vec<u8>>,
     },
-    /// What is wrong with a device file, or want of memory in its place.
+    /// What is wrong with a device file, or want of memory instead.
     Device {
         file: &'a str,
         fault: DeviceFault,
@@ -77,17 +78,17 @@ pub enum Refusal<'a> {
     NoHalving {
         level: u32,
     },
-    /// Why a Verilog text has no design, or want of memory in its place.
+    /// Why a Verilog text has no design, or want of memory instead.
     Verilog {
         file: &'a str,
         fault: VFault,
     },
-    /// What is wrong with the data of a design, or want of memory in its place.
+    /// What is wrong with the data of a design, or want of memory instead.
     DesignData {
         file: &'a str,
         fault: DataFault,
     },
-    /// The design is done in none of so many cycles.
+    /// The design is not done within this number of cycles.
     Undone {
         limit: u64,
     },
@@ -201,10 +202,10 @@ fn key_line(alloc: Global, file: &str, code: &[u8], key: &[u8]) -> Result<Vec<u8
     Ok(line)
 }
 
-// ---- telling
+// ---- reporting
 
 // Puts a line, and answers the status, or that it could not be put.
-fn tell_line<E: Sink>(line: &[u8], status: Status, err: &mut E) -> Status
+fn report_line<E: Sink>(line: &[u8], status: Status, err: &mut E) -> Status
     ensures { (why : Why) → line.now ≡ message_of why → status ≡ status_of why →
         IsToldAs why result (written (E.contents err.old) (E.faults err.old)) (written (E.contents err.new) (E.faults err.new)) }
 {
@@ -214,19 +215,19 @@ fn tell_line<E: Sink>(line: &[u8], status: Status, err: &mut E) -> Status
     }
 }
 
-// Puts a line that was made, and tells want of memory where it was not.
-fn tell_made<E: Sink>(line: Result<Vec<u8>, OutOfMemory>, status: Status, err: &mut E) -> Status
+// Puts a line that was made, and reports want of memory where it was not.
+fn report_made<E: Sink>(line: Result<Vec<u8>, OutOfMemory>, status: Status, err: &mut E) -> Status
     ensures { (why : Why) → IfOk line (λ made. made.items ≡ message_of why) → status ≡ status_of why →
         IsToldAs why result (written (E.contents err.old) (E.faults err.old)) (written (E.contents err.new) (E.faults err.new))
         ⊎ IsToldAs Why.Memory result (written (E.contents err.old) (E.faults err.old)) (written (E.contents err.new) (E.faults err.new)) }
 {
     match line {
-        Ok(line) => tell_line(&line, status, err),
-        Err(_) => tell_line(NO_MEMORY, Status::Memory, err),
+        Ok(line) => report_line(&line, status, err),
+        Err(_) => report_line(NO_MEMORY, Status::Memory, err),
     }
 }
 
-/// Puts lines, one a call. After an error a front part of them stands.
+/// Puts lines, one a call. After an error a prefix of them was put.
 pub fn put_lines<E: Sink>(err: &mut E, lines: &[Vec<u8>]) -> Result<(), WriteFault>
     ensures whole { OnOk result (Appends (E.contents err.old) (E.contents err.new) (joined (lines_in lines.now))) }
     ensures part { OnErr result (AppendsPart (E.contents err.old) (E.contents err.new) (joined (lines_in lines.now))) }
@@ -239,8 +240,8 @@ pub fn put_lines<E: Sink>(err: &mut E, lines: &[Vec<u8>]) -> Result<(), WriteFau
     Ok(())
 }
 
-// Tells what the instances of a stopped run wait for, a line each.
-fn tell_stopped<E: Sink>(lines: &[Vec<u8>], err: &mut E) -> Status
+// Reports what the instances of a stopped run wait for, a line each.
+fn report_stopped<E: Sink>(lines: &[Vec<u8>], err: &mut E) -> Status
     ensures { IsToldAs (Why.Stopped (lines_in lines.now)) result (written (E.contents err.old) (E.faults err.old)) (written (E.contents err.new) (E.faults err.new)) }
 {
     match put_lines(err, lines) {
@@ -249,8 +250,8 @@ fn tell_stopped<E: Sink>(lines: &[Vec<u8>], err: &mut E) -> Status
     }
 }
 
-// Tells a fault of a file by its code and what it names.
-fn tell_key<E: Sink>(
+// Reports a fault of a file by its code and what it names.
+fn report_key<E: Sink>(
     alloc: Global,
     file: &str,
     code: &[u8],
@@ -262,86 +263,86 @@ fn tell_key<E: Sink>(
         IsToldAs why result (written (E.contents err.old) (E.faults err.old)) (written (E.contents err.new) (E.faults err.new))
         ⊎ IsToldAs Why.Memory result (written (E.contents err.old) (E.faults err.old)) (written (E.contents err.new) (E.faults err.new)) }
 {
-    tell_made(key_line(alloc, file, code, key), status, err)
+    report_made(key_line(alloc, file, code, key), status, err)
 }
 
-// Tells a fault of data.
-fn tell_data<E: Sink>(alloc: Global, file: &str, fault: &DataFault, err: &mut E) -> Status
+// Reports a fault of data.
+fn report_data<E: Sink>(alloc: Global, file: &str, fault: &DataFault, err: &mut E) -> Status
     ensures { IsToldAs (data_refusal file.now fault.now) result (written (E.contents err.old) (E.faults err.old)) (written (E.contents err.new) (E.faults err.new))
         ⊎ IsToldAs Why.Memory result (written (E.contents err.old) (E.faults err.old)) (written (E.contents err.new) (E.faults err.new)) }
 {
     match fault {
-        DataFault::J1 => tell_key(alloc, file, b"J1", b"", Status::Data, err),
-        DataFault::J2(key) => tell_key(alloc, file, b"J2 ", key, Status::Data, err),
-        DataFault::J3(key) => tell_key(alloc, file, b"J3 ", key, Status::Data, err),
-        DataFault::J4(key) => tell_key(alloc, file, b"J4 ", key, Status::Data, err),
-        DataFault::OutOfMemory => tell_line(NO_MEMORY, Status::Memory, err),
+        DataFault::J1 => report_key(alloc, file, b"J1", b"", Status::Data, err),
+        DataFault::J2(key) => report_key(alloc, file, b"J2 ", key, Status::Data, err),
+        DataFault::J3(key) => report_key(alloc, file, b"J3 ", key, Status::Data, err),
+        DataFault::J4(key) => report_key(alloc, file, b"J4 ", key, Status::Data, err),
+        DataFault::OutOfMemory => report_line(NO_MEMORY, Status::Memory, err),
     }
 }
 
-// Tells a fault of the data of a design.
-fn tell_design_data<E: Sink>(alloc: Global, file: &str, fault: &DataFault, err: &mut E) -> Status
+// Reports a fault of the data of a design.
+fn report_design_data<E: Sink>(alloc: Global, file: &str, fault: &DataFault, err: &mut E) -> Status
     ensures { IsToldAs (design_refusal file.now fault.now) result (written (E.contents err.old) (E.faults err.old)) (written (E.contents err.new) (E.faults err.new))
         ⊎ IsToldAs Why.Memory result (written (E.contents err.old) (E.faults err.old)) (written (E.contents err.new) (E.faults err.new)) }
 {
     match fault {
-        DataFault::J1 => tell_key(alloc, file, b"J1", b"", Status::Data, err),
-        DataFault::J2(key) => tell_key(alloc, file, b"J2 ", key, Status::Data, err),
-        DataFault::J3(key) => tell_key(alloc, file, b"J3 ", key, Status::Data, err),
-        DataFault::J4(key) => tell_key(alloc, file, b"J4 ", key, Status::Data, err),
-        DataFault::OutOfMemory => tell_line(NO_MEMORY, Status::Memory, err),
+        DataFault::J1 => report_key(alloc, file, b"J1", b"", Status::Data, err),
+        DataFault::J2(key) => report_key(alloc, file, b"J2 ", key, Status::Data, err),
+        DataFault::J3(key) => report_key(alloc, file, b"J3 ", key, Status::Data, err),
+        DataFault::J4(key) => report_key(alloc, file, b"J4 ", key, Status::Data, err),
+        DataFault::OutOfMemory => report_line(NO_MEMORY, Status::Memory, err),
     }
 }
 
-// Tells why a Verilog text has no design.
-fn tell_verilog<E: Sink>(alloc: Global, file: &str, fault: &VFault, err: &mut E) -> Status
+// Reports why a Verilog text has no design.
+fn report_verilog<E: Sink>(alloc: Global, file: &str, fault: &VFault, err: &mut E) -> Status
     ensures { IsToldAs (verilog_refusal file.now fault.now) result (written (E.contents err.old) (E.faults err.old)) (written (E.contents err.new) (E.faults err.new))
         ⊎ IsToldAs Why.Memory result (written (E.contents err.old) (E.faults err.old)) (written (E.contents err.new) (E.faults err.new)) }
 {
     match fault {
-        VFault::V1(place) => tell_made(no_text_line(alloc, file, *place), Status::Source, err),
-        VFault::V2(name) => tell_key(alloc, file, b"V2 ", name.bytes(), Status::Source, err),
-        VFault::V3(name) => tell_key(alloc, file, b"V3 ", name.bytes(), Status::Source, err),
-        VFault::V4(name) => tell_key(alloc, file, b"V4 ", name.bytes(), Status::Source, err),
-        VFault::V5(name) => tell_key(alloc, file, b"V5 ", name.bytes(), Status::Source, err),
-        VFault::V6(name) => tell_key(alloc, file, b"V6 ", name.bytes(), Status::Source, err),
-        VFault::OutOfMemory => tell_line(NO_MEMORY, Status::Memory, err),
+        VFault::V1(place) => report_made(no_text_line(alloc, file, *place), Status::Source, err),
+        VFault::V2(name) => report_key(alloc, file, b"V2 ", name.bytes(), Status::Source, err),
+        VFault::V3(name) => report_key(alloc, file, b"V3 ", name.bytes(), Status::Source, err),
+        VFault::V4(name) => report_key(alloc, file, b"V4 ", name.bytes(), Status::Source, err),
+        VFault::V5(name) => report_key(alloc, file, b"V5 ", name.bytes(), Status::Source, err),
+        VFault::V6(name) => report_key(alloc, file, b"V6 ", name.bytes(), Status::Source, err),
+        VFault::OutOfMemory => report_line(NO_MEMORY, Status::Memory, err),
     }
 }
 
-// Tells why a file shows nothing of a net.
-fn tell_dump<E: Sink>(alloc: Global, file: &str, fault: &DumpFault<'_>, err: &mut E) -> Status
+// Reports why a file shows nothing of a net.
+fn report_dump<E: Sink>(alloc: Global, file: &str, fault: &DumpFault<'_>, err: &mut E) -> Status
     ensures { IsToldAs (dump_refusal file.now fault.now) result (written (E.contents err.old) (E.faults err.old)) (written (E.contents err.new) (E.faults err.new))
         ⊎ IsToldAs Why.Memory result (written (E.contents err.old) (E.faults err.old)) (written (E.contents err.new) (E.faults err.new)) }
 {
     match fault {
         DumpFault::NoDump(place) => {
-            tell_made(no_dump_line(alloc, file, *place), Status::Source, err)
+            report_made(no_dump_line(alloc, file, *place), Status::Source, err)
         }
         DumpFault::NoNet(name) => {
-            tell_key(alloc, file, b"X2 ", name.as_bytes(), Status::Source, err)
+            report_key(alloc, file, b"X2 ", name.as_bytes(), Status::Source, err)
         }
     }
 }
 
-// Tells a fault of a device file.
-fn tell_device<E: Sink>(alloc: Global, file: &str, fault: &DeviceFault, err: &mut E) -> Status
+// Reports a fault of a device file.
+fn report_device<E: Sink>(alloc: Global, file: &str, fault: &DeviceFault, err: &mut E) -> Status
     ensures { IsToldAs (device_refusal file.now fault.now) result (written (E.contents err.old) (E.faults err.old)) (written (E.contents err.new) (E.faults err.new))
         ⊎ IsToldAs Why.Memory result (written (E.contents err.old) (E.faults err.old)) (written (E.contents err.new) (E.faults err.new)) }
 {
     match fault {
-        DeviceFault::J1 => tell_key(alloc, file, b"J1", b"", Status::Data, err),
-        DeviceFault::J2(key) => tell_key(alloc, file, b"J2 ", key, Status::Data, err),
-        DeviceFault::J3(key) => tell_key(alloc, file, b"J3 ", key, Status::Data, err),
-        DeviceFault::K1(key) => tell_key(alloc, file, b"K1 ", key, Status::Data, err),
-        DeviceFault::K2(name) => tell_key(alloc, file, b"K2 ", name, Status::Data, err),
-        DeviceFault::K3(label) => tell_key(alloc, file, b"K3 ", label, Status::Data, err),
-        DeviceFault::K4(label) => tell_key(alloc, file, b"K4 ", label, Status::Data, err),
-        DeviceFault::OutOfMemory => tell_line(NO_MEMORY, Status::Memory, err),
+        DeviceFault::J1 => report_key(alloc, file, b"J1", b"", Status::Data, err),
+        DeviceFault::J2(key) => report_key(alloc, file, b"J2 ", key, Status::Data, err),
+        DeviceFault::J3(key) => report_key(alloc, file, b"J3 ", key, Status::Data, err),
+        DeviceFault::K1(key) => report_key(alloc, file, b"K1 ", key, Status::Data, err),
+        DeviceFault::K2(name) => report_key(alloc, file, b"K2 ", name, Status::Data, err),
+        DeviceFault::K3(label) => report_key(alloc, file, b"K3 ", label, Status::Data, err),
+        DeviceFault::K4(label) => report_key(alloc, file, b"K4 ", label, Status::Data, err),
+        DeviceFault::OutOfMemory => report_line(NO_MEMORY, Status::Memory, err),
     }
 }
 
-/// Tells a refusal, or want of memory in its place, and answers the status. A refusal that names nothing takes no memory.
+/// Reports a refusal, or want of memory instead, and answers the status. A refusal that names nothing takes no memory.
 pub fn tell<E: Sink>(alloc: Global, refusal: &Refusal<'_>, err: &mut E) -> Status
     ensures told { IsToldAs (refusal_of refusal.now) result (written (E.contents err.old) (E.faults err.old)) (written (E.contents err.new) (E.faults err.new))
         ⊎ IsToldAs Why.Memory result (written (E.contents err.old) (E.faults err.old)) (written (E.contents err.new) (E.faults err.new)) }
@@ -349,45 +350,45 @@ pub fn tell<E: Sink>(alloc: Global, refusal: &Refusal<'_>, err: &mut E) -> Statu
         IsToldAs (refusal_of refusal.now) result (written (E.contents err.old) (E.faults err.old)) (written (E.contents err.new) (E.faults err.new)) }
 {
     match refusal {
-        Refusal::Usage => tell_line(USAGE, Status::Usage, err),
-        Refusal::Read { file } => tell_made(read_line(alloc, file), Status::Read, err),
-        Refusal::Write => tell_line(NO_OUTPUT, Status::Write, err),
+        Refusal::Usage => report_line(USAGE, Status::Usage, err),
+        Refusal::Read { file } => report_made(read_line(alloc, file), Status::Read, err),
+        Refusal::Write => report_line(NO_OUTPUT, Status::Write, err),
         Refusal::TooLong { file, limit } => {
-            tell_made(long_line(alloc, file, *limit), Status::Limit, err)
+            report_made(long_line(alloc, file, *limit), Status::Limit, err)
         }
         Refusal::Source { file, place, code } => {
-            tell_made(source_line(alloc, file, *place, *code), Status::Source, err)
+            report_made(source_line(alloc, file, *place, *code), Status::Source, err)
         }
-        Refusal::Data { file, fault } => tell_data(alloc, file, fault, err),
-        Refusal::Ticks { limit } => tell_made(ticks_line(alloc, *limit), Status::Limit, err),
-        Refusal::Stopped { lines } => tell_stopped(lines, err),
-        Refusal::Device { file, fault } => tell_device(alloc, file, fault, err),
+        Refusal::Data { file, fault } => report_data(alloc, file, fault, err),
+        Refusal::Ticks { limit } => report_made(ticks_line(alloc, *limit), Status::Limit, err),
+        Refusal::Stopped { lines } => report_stopped(lines, err),
+        Refusal::Device { file, fault } => report_device(alloc, file, fault, err),
         Refusal::TooManyPlans { slots, free } => {
-            tell_made(plans_line(alloc, *slots, *free), Status::Data, err)
+            report_made(plans_line(alloc, *slots, *free), Status::Data, err)
         }
-        Refusal::NoPlan => tell_line(NO_PLAN, Status::NoPlan, err),
-        Refusal::NoRoom { label } => tell_made(room_line(alloc, label), Status::NoPlan, err),
+        Refusal::NoPlan => report_line(NO_PLAN, Status::NoPlan, err),
+        Refusal::NoRoom { label } => report_made(room_line(alloc, label), Status::NoPlan, err),
         Refusal::NoHalving { level } => {
-            tell_made(halving_line(alloc, *level), Status::NoPlan, err)
+            report_made(halving_line(alloc, *level), Status::NoPlan, err)
         }
-        Refusal::Verilog { file, fault } => tell_verilog(alloc, file, fault, err),
-        Refusal::DesignData { file, fault } => tell_design_data(alloc, file, fault, err),
-        Refusal::Undone { limit } => tell_made(undone_line(alloc, *limit), Status::Limit, err),
-        Refusal::Dump { file, fault } => tell_dump(alloc, file, fault, err),
-        Refusal::Memory => tell_line(NO_MEMORY, Status::Memory, err),
+        Refusal::Verilog { file, fault } => report_verilog(alloc, file, fault, err),
+        Refusal::DesignData { file, fault } => report_design_data(alloc, file, fault, err),
+        Refusal::Undone { limit } => report_made(undone_line(alloc, *limit), Status::Limit, err),
+        Refusal::Dump { file, fault } => report_dump(alloc, file, fault, err),
+        Refusal::Memory => report_line(NO_MEMORY, Status::Memory, err),
     }
 }
 
-/// Tells that the words are no command.
-pub fn tell_usage<E: Sink>(err: &mut E) -> Status
+/// Reports that the words are no command.
+pub fn report_usage<E: Sink>(err: &mut E) -> Status
     ensures { IsToldAs Why.Usage result (written (E.contents err.old) (E.faults err.old)) (written (E.contents err.new) (E.faults err.new)) }
 {
-    tell_line(USAGE, Status::Usage, err)
+    report_line(USAGE, Status::Usage, err)
 }
 
-/// Tells want of memory.
-pub fn tell_memory<E: Sink>(err: &mut E) -> Status
+/// Reports want of memory.
+pub fn report_no_memory<E: Sink>(err: &mut E) -> Status
     ensures { IsToldAs Why.Memory result (written (E.contents err.old) (E.faults err.old)) (written (E.contents err.new) (E.faults err.new)) }
 {
-    tell_line(NO_MEMORY, Status::Memory, err)
+    report_line(NO_MEMORY, Status::Memory, err)
 }

@@ -1,3 +1,4 @@
+// The codes of the rules that a source may break, each with the text that it is reported by.
 ghost use Rattle.std.specs.Prelude.{◌≡◌, IfOk, string_bytes};
 ghost use Rattle.command_source.specs.Refusal.{code_text, rule_text};
 

@@ -1,3 +1,4 @@
+// The statuses that a command may end with, and the exit code of each.
 ghost use Rattle.std.specs.Prelude.{◌≡◌};
 ghost use Rattle.command_source.specs.Status.{code_of};
 
@@ -18,16 +19,16 @@ pub enum Status {
     Read,
     /// Standard output or standard error could not be written to.
     Write,
-    /// A limit is passed: of a file's length, of the ticks of a run's joined instances, or of the cycles of a simulation.
+    /// A limit is passed: of a file's length, of the ticks of a run's instances that are waited for, or of the cycles of a simulation.
     Limit,
-    /// The program stopped at its declared depths before every joined instance had ended.
+    /// The program stopped at its declared depths before every instance that is waited for had ended.
     Stopped,
     /// Memory was wanting.
     Memory,
 }
 
 impl Status {
-    /// The number that the program ends with.
+    /// The program's exit code.
     pub fn code(self) -> u8
         ensures { result ≡ code_of self }
     {

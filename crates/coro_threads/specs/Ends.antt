@@ -14,6 +14,6 @@ pub record IsOf (o c : CaseState) : Type 0 where
   pub same : IsSameRun o c
   pub valid : IsValidCase c
 
--- nothing is left to do at this count: a claim of a case like o that stands at it, and of which no instance is out, answers Over
+-- nothing is left to do at this count: a claim of a case like o that is at it, and of which no instance is out, answers Over
 abbrev pub IsEndAt : CaseState → List ℕ → Type 0
 IsEndAt o counts = IsOver (network o) o.budget (count_of counts)

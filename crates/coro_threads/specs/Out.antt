@@ -7,13 +7,13 @@ use Rattle.net_case.specs.Batch.{IsSameLot}
 use Rattle.net_case.specs.declared.case_state.CaseState.{CaseState}
 use Rattle.net_case.specs.State.{net_of, IsOut}
 
--- the same run: its program, its input and its budget
+-- two states of one run: of one program, input and budget
 pub record IsSameRun (c c' : CaseState) : Type 0 where
   pub program : c'.program ≡ c.program
   pub input : c'.input ≡ c.input
   pub budget : c'.budget ≡ c.budget
 
--- a batch is out of the case: its instance stands where it began, and each other one has made at least as many ticks
+-- a batch is out of the case: its instance is at the count where it began, and each other one has made no fewer ticks than there
 pub record IsOutWith (c : CaseState) (b : Lot) : Type 0 where
   pub program : b.program ≡ c.program
   pub input : b.input ≡ c.input
@@ -29,7 +29,7 @@ pub record AreOut (c : CaseState) (bs : List Lot) : Type 0 where
   pub apart : (n m : ℕ) (a b : Lot) → slice_get bs n ≡ Some a → slice_get bs m ≡ Some b → a.instance ≡ b.instance → n ≡ m
   pub whole : (i : ℕ) → IsOut c i → (n : ℕ) × (b : Lot) × (slice_get bs n ≡ Some b) × (b.instance ≡ i)
 
--- the same batches, as they were or with more ticks
+-- two states of one list of batches, which may differ in their ticks
 pub record AreSameLots (old new : List Lot) : Type 0 where
   pub len : length new ≡ length old
   pub same : (n : ℕ) (a b : Lot) → slice_get old n ≡ Some a → slice_get new n ≡ Some b → IsSameLot a b

@@ -37,8 +37,8 @@ pub record HasBatch (o : CaseState) (v : View) (batch : Lot) : Type 0 where
   pub at : (i : ℕ) → slice_index batch.at i ≤ slice_index v.seen i
 
 -- no batch, and the count that was seen is an end
-abbrev pub IsDone : CaseState → View → Type 0
-IsDone o v = HasNothing v × IsEndAt o v.seen
+abbrev pub SeesTheEnd : CaseState → View → Type 0
+SeesTheEnd o v = HasNothing v × IsEndAt o v.seen
 
 -- what a worker is left with
 abbrev pub Finished : CaseState → View → Bool → Type 0
@@ -48,7 +48,7 @@ Finished o v short = HasNothing v × ((short ≡ true) ⊎ IsEndAt o v.seen)
 abbrev pub AfterClaim : {B : Type 0} → CaseState → View → Claimed B → Type 0
 AfterClaim o v (Work batch) = HasBatch o v batch
 AfterClaim o v Wait = HasNothing v
-AfterClaim o v (Over x) = IsDone o v
+AfterClaim o v (Over x) = SeesTheEnd o v
 
 -- what a turn does to the case
 abbrev pub Turns : {B : Type 0} → CaseState → Turned B → CaseState → Type 0

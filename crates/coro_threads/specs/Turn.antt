@@ -1,4 +1,4 @@
--- The rule of the turn, and what each step tells.
+-- The rule of the turn, and what each step reports.
 use Rattle.std.specs.Prelude.{◌≡◌, ◌≢◌, ◌⊎◌, ℕ, ◌+◌, ◌-◌, ◌<◌, ◌≤◌, suc, max, Bool, true, false, cond, eqb, List, [], ◌∷◌, length, slice_index, Option, Some, None}
 use mathlib.Core.Option.{some}
 use lib.ListN.{get_elem?}
@@ -31,7 +31,7 @@ total f [] = 0
 total f (v ∷ vs) = f v + total f vs
 
 -- ---- the rule
--- what a view knows, where the count stands at counts and the instances out are those of out
+-- what a view knows, where the count is `counts` and the instances out are those of `out`
 pub record Knows (o : CaseState) (counts : List ℕ) (out : List Bool) (v : View) : Type 0 where
   pub of_board : 0 < v.shares → v.origin ≡ Some o
   pub behind : (i : ℕ) → slice_index v.seen i ≤ slice_index counts i
@@ -49,7 +49,7 @@ Away s = (s.words ≡ 1 ∷ []) × (length s.homes ≡ 1) × (total turn_of s.vi
 
 -- between any two steps on the word: the case is at home where the turn is free, and else one seat has the turn; all shares are those
 -- of the workers; an instance is out exactly where one seat has its batch; and each seat knows what it says of itself, so that the
--- case has gone on at least as far as every seat saw, and stands where the seat saw it for the instance of the seat's batch and for
+-- case has gone on at least as far as every seat saw, and is where the seat saw it for the instance of the seat's batch and for
 -- all instances where the seat has the turn
 pub record Kept (o : CaseState) (workers : ℕ) (s : State (Option CaseState) View) : Type 0 where
   pub counts : List ℕ
@@ -77,7 +77,7 @@ larger [] ys = ys
 larger (x ∷ xs) [] = x ∷ xs
 larger (x ∷ xs) (y ∷ ys) = max x y ∷ larger xs ys
 
--- join: what the kept seat has, and what the other is left with
+-- join: the view of the seat that is kept, and that of the other
 abbrev pub joined : View → View → View
 joined v w = record v { seen = larger v.seen w.seen; shares = v.shares + w.shares }
 
@@ -110,7 +110,7 @@ taken v c = record v { turn = true; seen = c.counts; out = c.out }
 abbrev pub given : View → CaseState → View
 given v c = record v { turn = false; seen = c.counts; out = []; batch = batch_after v.batch v.out c.out }
 
--- what a take tells of the case
+-- what a take reports of the case
 pub record Finds (v : View) (c : CaseState) : Type 0 where
   pub of_board : (a : CaseState) → v.origin ≡ Some a → IsOf a c
   pub ahead : (i : ℕ) → slice_index v.seen i ≤ slice_index c.counts i
@@ -139,7 +139,7 @@ pub record MayGive (v : View) (c : CaseState) : Type 0 where
 abbrev pub Seated : Type 0
 Seated = Me (Option CaseState) View
 
--- a step from 0 to 1: it found 0 and has the case, or found 1 and changed nothing
+-- a step from 0 to 1: it began at 0 and has the case, or it was at 1 and changed nothing
 abbrev pub took : Step (Option CaseState) → Seated → ℕ → Seated → Type 0
 took st m n m' = (n ≡ 0 → (c : CaseState) × (m' ≡ (taken m.0 c, (0, Some c) ∷ [])) × Finds m.0 c) × (0 < n → m' ≡ m)
 

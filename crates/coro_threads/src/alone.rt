@@ -70,7 +70,7 @@ pub(crate) fn drive_new<B: Body + Drop>(alloc: Global, net: Net<B>, budget: u64)
     Run { net, end }
 }
 
-// Drives a net from where it stands to its end.
+// Drives a net from its count to its end.
 fn drive_on<B: Body + Drop>(alloc: Global, net: Net<B>, budget: u64, left: u64) -> Run<B>
     requires budget { budget ≤ 1000000000000 }
     requires within { IsWithin net budget left }
@@ -97,7 +97,7 @@ fn drive_on<B: Body + Drop>(alloc: Global, net: Net<B>, budget: u64, left: u64) 
     }
 }
 
-/// Drives a net from where it stands, to its end, or until its batches have grown and there is memory for a case of it.
+/// Drives a net from its count, to its end, or until its batches have grown and there is memory for a case of it.
 pub(crate) fn drive_small<B: Body + Drop>(
     alloc: Global,
     net: Net<B>,

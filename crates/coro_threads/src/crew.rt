@@ -19,7 +19,7 @@ use std::sync::Wait;
 use std::thread;
 use std::thread::Threads;
 
-/// Who runs a network: at most so many workers, 1 to 64, on a runtime that can start threads. Each passes the gate before it makes
+/// Who runs a network: at most `workers` workers, 1 to 64, on a runtime that can start threads. Each passes the gate before it makes
 /// ticks; one worker alone, which waits for no other, passes none.
 #[derive(Drop)]
 pub struct Crew<'a, R: Threads + Wait + Sync, G: Gate> {
@@ -28,7 +28,7 @@ pub struct Crew<'a, R: Threads + Wait + Sync, G: Gate> {
     pub workers: u32,
 }
 
-// So many workers are of use: where the gate lets everyone through at once, no more than there are instances and processors.
+// The number of workers that are of use: where the gate lets everyone through at once, at most those of instances and processors.
 fn of_use<R: Threads + Wait + Sync, G: Gate>(crew: &Crew<'_, R, G>, instances: usize) -> u32
     requires { (0 < crew.now.workers) × (crew.now.workers ≤ 64) }
     ensures some { (0 < result) × (result ≤ 64) }
@@ -55,7 +55,7 @@ fn closed<B: Body + Drop>(board: Board<B>, workers: Vec<Worker<B>>) -> Case<B>
     board.close(workers)
 }
 
-// So many workers share a case on a board, until nothing is left to do, a worker finds no memory for a batch, or batches are small.
+// `workers` workers share a case on a board, until nothing is left to do, a worker finds no memory for a batch, or batches are small.
 // Without memory for a board the case stays as it is.
 fn share<R: Threads + Wait + Sync, B: Body + Send + Drop, G: Gate>(
     rt: &R,

@@ -103,7 +103,7 @@ fn lone_slot<B: Body + Drop>(alloc: Global, case: Case<B>) -> Result<Vec<Option<
 }
 
 impl<B: Body + Drop> Board<B> {
-    /// A board for a case of which no instance is out, and as many workers as are asked for, each with a seat of its own. Where
+    /// A board for a case of which no instance is out, and `workers` workers, each with a seat of its own. Where
     /// there is no memory the case comes back.
     pub fn new(
         alloc: Global,

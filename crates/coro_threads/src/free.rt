@@ -14,12 +14,12 @@ use std::thread::Threads;
 // A batch whose instance made fewer ticks the last time is run within the turn.
 const SMALL: u64 = 256;
 
-// So many small batches are run within one turn.
+// The greatest number of small batches that are run within one turn.
 const MANY: u32 = 65_536;
 
 /// What a turn leaves a worker with that has no batch.
 pub enum Turned<B: Body> {
-    /// What its last claim found.
+    /// The result of its last claim.
     Found(Claimed<B>),
     /// Nothing: another worker has the turn, or waits for it.
     Left,

@@ -60,7 +60,7 @@ fn drive_in_rounds<R: Threads + Sync, B: Body + Send + Drop, G: Gate>(
     drive(rt, case, &mut batches, workers, gate)
 }
 
-/// Drives a new net as `settle` does, in rounds: in each of them every instance that may step makes ticks, in at most so many
+/// Drives a new net as `settle` does, in rounds: in each of them every instance that may step makes ticks, in at most `workers`
 /// threads, where each passes the gate before; then one thread hands on what they wrote. A round after one of few ticks runs
 /// in one thread. How it ends does not depend on the number of workers.
 pub fn run_rounds<R: Threads + Sync, B: Body + Send + Drop, G: Gate>(

@@ -23,7 +23,7 @@ pub struct Board<B: Body> {
     ghost crewed: { 0 < table.shared.key.workers },
 }
 
-/// One worker's place at a board. It stands for one worker, and has the slot while it holds the turn.
+/// One worker's seat at a board. It counts for one worker, and has the slot while it holds the turn.
 #[derive(Drop)]
 pub struct BoardSeat<B: Body> {
     pub(crate) seat: TableSeat<B>,
@@ -31,7 +31,7 @@ pub struct BoardSeat<B: Body> {
     ghost hand: { seat.me.1 ≡ hand_of seat.me.0.turn },
 }
 
-/// A worker of a crew. It is short where it gave up before the end: it found no memory for a batch, or batches were small for so long
+/// A worker of a crew. It is short where it gave up before the end: there was no memory for a batch, or batches were small for so long
 /// that one thread does better.
 #[derive(Drop)]
 pub struct Worker<B: Body> {

@@ -3,7 +3,7 @@ use std::sync::Wait;
 use std::sync::atomic::{AtomicU64, Ordering};
 
 /// Counters by which a worker sleeps only while there is nothing for it to do, and is woken only where one sleeps. No contract
-/// rests on them: each sleep may end for no reason.
+/// depends on them: each sleep may end for no reason.
 #[derive(Drop)]
 pub struct Signals {
     /// How many workers sleep until the turn is free, or are about to.

@@ -1,4 +1,4 @@
-// What the table tells, what a seat knows, and the steps between.
+// What the table reports, what a seat knows, and the steps between.
 use atomic_table::{Join, Play, Split, TableRule};
 use net_case::{Case, CaseState};
 use net_core::Body;
@@ -23,7 +23,7 @@ pub struct View {
     pub out: [bool; 0],
     /// The instance of the seat's batch.
     pub batch: Option<u64>,
-    /// How many of the workers the seat stands for.
+    /// The number of workers that the seat counts for.
     pub shares: u64,
 }
 

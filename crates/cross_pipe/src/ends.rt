@@ -2,7 +2,7 @@
 
 ghost use Rattle.std.specs.Prelude.{◌≡◌, ◌++◌, ◌∷◌, [], IfOk, codes};
 ghost use Rattle.std.specs.Str.{IsAscii};
-ghost use Rattle.hw_channel_lines.specs.Texts.{clocks as clocks_lem, fifo_ends as fifo_lem, relay_ends as relay_lem, joined_to};
+ghost use Rattle.hw_channel_lines.specs.Texts.{clocks as clocks_lem, fifo_connections as fifo_lem, relay_connections as relay_lem, connected_to};
 
 use hw_build::text;
 use std::alloc::{AllocError, Global};
@@ -16,7 +16,7 @@ fn join(
 ) -> Result<(), AllocError>
     requires port { IsAscii port.now }
     requires net { IsAscii net.now }
-    ensures { IfOk result (λ u. connections.new.items ≡ connections.old.items ++ joined_to port.now net.now ∷ []) }
+    ensures { IfOk result (λ u. connections.new.items ≡ connections.old.items ++ connected_to port.now net.now ∷ []) }
 {
     connections.push(Connection {
         port: text(alloc, port)?,
@@ -36,7 +36,7 @@ fn clocks(alloc: Global) -> Result<Vec<Connection>, AllocError>
 }
 
 /// The connections of a relay's instance, the nets of its ports in the order of its inputs and its outputs.
-pub fn relay_ends(
+pub fn relay_connections(
     alloc: Global,
     put: &[u8],
     din: &[u8],
@@ -64,7 +64,7 @@ pub fn relay_ends(
 }
 
 /// The connections of a FIFO's instance.
-pub fn fifo_ends(
+pub fn fifo_connections(
     alloc: Global,
     put: &[u8],
     din: &[u8],

@@ -1,4 +1,4 @@
-// A FIFO: a ring of places, read at its head.
+// A FIFO: a ring of entries, read at its head.
 
 ghost use Rattle.std.specs.Prelude.{◌≡◌, ◌<◌, ◌≤◌, ◌-◌, ◌∷◌, [], IfOk, codes};
 ghost use Rattle.std.specs.Str.{IsAscii};
@@ -44,7 +44,7 @@ fn with_number(
     })
 }
 
-// A wire of so many bits for what an operator makes of a net and a number of a width.
+// A wire of `bits` bits: an operator on a net and a number of `width` bits.
 fn number_wire(
     alloc: Global,
     draft: &mut Draft,
@@ -89,7 +89,7 @@ fn choice(alloc: Global, condition: &[u8], yes: &[u8], no: &[u8]) -> Result<Valu
     })
 }
 
-// The place at the head.
+// The entry at the head.
 fn first_token(alloc: Global) -> Result<Value, AllocError>
     ensures { IfOk result (λ v. v ≡ Cell (codes "tokens") (codes "head")) }
 {
@@ -99,7 +99,7 @@ fn first_token(alloc: Global) -> Result<Value, AllocError>
     })
 }
 
-// The wires for the place after another, by their names.
+// The wires for the next index of a ring, by their names.
 fn next_wires(
     alloc: Global,
     draft: &mut Draft,
@@ -139,7 +139,7 @@ fn inputs(alloc: Global, draft: &mut Draft, bits: u32) -> Result<(), AllocError>
     draft.input(alloc, 1, b"take")
 }
 
-// The numbers of bits of a place and of a count of places.
+// The widths of an entry's index and of a count of entries.
 #[derive(Clone, Copy)]
 struct Widths {
     place: u32,
@@ -321,7 +321,7 @@ fn finished(draft: Draft, bits: u32, depth: u32, places: u32) -> Module
     draft.module()
 }
 
-/// A FIFO of so many places that is ready while it holds fewer tokens than `depth`.
+/// A FIFO of `places` entries that is ready while it holds fewer tokens than `depth`.
 pub fn fifo(alloc: Global, bits: u32, depth: u32, places: u32) -> Result<Module, AllocError>
     requires bits { 2 ≤ bits }
     requires places { 0 < places }

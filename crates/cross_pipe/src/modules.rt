@@ -6,10 +6,10 @@ ghost use Rattle.vlog_tree.specs.Refused.{IsSound};
 ghost use Rattle.hw_build.specs.Elements.{with, with_all, Instance};
 ghost use Rattle.hw_channel_laws.specs.modules.Ports.{ActsAsChannel};
 ghost use Rattle.hw_channel_lines.specs.Names.{fifo_name as fifo_lem, relay_name as relay_lem};
-ghost use Rattle.hw_channel_lines.specs.Texts.{relay_ends as relay_ends_lem, relayed_inside, plain_tree, fifo_tree, relayed_tree, channel_ports, AreRelays, AreModules};
+ghost use Rattle.hw_channel_lines.specs.Texts.{relay_connections as relay_ends_lem, relayed_inside, plain_tree, fifo_tree, relayed_tree, channel_ports, AreRelays, AreModules};
 ghost use Rattle.hw_channel_laws.specs.modules.Rules.{OfFirst, IsOutermost, HaveNoLoop, HasNoWayThrough, JoinClocks, AreNoTasks};
 
-use crate::ends::{fifo_ends, relay_ends};
+use crate::ends::{fifo_connections, relay_connections};
 use crate::module::{fifo, two};
 use crate::names::{channel_name, fifo_name, relay_name};
 use crate::relay::add_relays;
@@ -17,8 +17,8 @@ use hw_build::{Draft, net_value, text};
 use std::alloc::{AllocError, Global};
 use vlog_tree::{BinaryOp, Connections, Module};
 
-/// The places of the FIFO of a channel: the depth, and room for the tokens on their way and for those that answers on
-/// their way still bring.
+/// The number of entries of the FIFO of a channel: the depth, and room for the tokens in flight and for those that ready
+/// answers in flight still let in.
 pub fn fifo_size(depth: u32, latency: u32) -> u32
     requires depth { depth ≤ 4096 }
     requires latency { latency ≤ 1000000 }
@@ -92,7 +92,7 @@ fn relay_part(
 fn joined_relay(alloc: Global) -> Result<Connections, AllocError>
     ensures { IfOk result (λ c. c ≡ relay_ends_lem (codes "put") (codes "din") (codes "rdy_early") (codes "put_late") (codes "din_late") (codes "ready")) }
 {
-    relay_ends(
+    relay_connections(
         alloc,
         b"put",
         b"din",
@@ -116,7 +116,7 @@ fn plain(alloc: Global, bits: u32, depth: u32) -> Result<Module, AllocError>
         bits,
         depth,
         depth,
-        fifo_ends(alloc, b"put", b"din", b"ready")?,
+        fifo_connections(alloc, b"put", b"din", b"ready")?,
     )?;
     Ok(finished_plain(draft, bits, depth))
 }
@@ -143,7 +143,7 @@ fn instances(
         bits,
         depth,
         places,
-        fifo_ends(alloc, b"put_late", b"din_late", b"rdy_early")?,
+        fifo_connections(alloc, b"put_late", b"din_late", b"rdy_early")?,
     )
 }
 
@@ -211,7 +211,8 @@ fn relayed_modules(
     requires most_depth { depth ≤ 4096 }
     requires some_latency { 0 < latency }
     requires most_latency { latency ≤ 1000000 }
-    ensures { IfOk result (λ ms. (relays : List ModuleTree) × (ms.items ≡ relayed_tree bits depth latency ∷ fifo_tree bits depth (depth + 2 * latency) ∷ relays) × AreRelays bits latency relays) }
+    ensures { IfOk result (λ ms. (relays : List ModuleTree) × (ms.items ≡ relayed_tree bits depth latency ∷ fifo_tree bits depth (depth + 2 * latency) ∷ relays)
+        × AreRelays bits latency relays) }
 {
     let mut modules = first_modules(alloc, bits, depth, latency)?;
     add_relays(alloc, &mut modules, bits, latency)?;

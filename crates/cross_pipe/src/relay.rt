@@ -4,12 +4,12 @@ ghost use Rattle.std.specs.Prelude.{◌≡◌, ◌<◌, ◌≤◌, ◌∷◌, []
 ghost use Rattle.std.specs.Str.{IsAscii};
 ghost use Rattle.vlog_tree.specs.Form.{ModuleTree};
 ghost use Rattle.vlog_tree.specs.declared.tree.Atom.TheVariants.{Net, Literal};
-ghost use Rattle.hw_build.specs.Elements.{with, with_all, Input, Output, Outlet, Link, Register, Block, Instance, copied, reset_or};
+ghost use Rattle.hw_build.specs.Elements.{with, with_all, Input, Output, Outlet, InstanceWire, Register, Block, Instance, copied, reset_or};
 ghost use Rattle.hw_channel_lines.specs.Names.{relay_name as relay_name_lem};
 ghost use Rattle.hw_channel_lines.specs.Texts.{step_tree, even_tree, odd_tree, row_tree, row_ports as row_ports_lem, of_net, first_part as first_lem};
 ghost use Rattle.hw_channel_lines.specs.Texts.{second_of_two as second_of_two_lem, second_of_three as second_of_three_lem, third_part as third_lem, AreRelays};
 
-use crate::ends::relay_ends;
+use crate::ends::relay_connections;
 use crate::names::relay_name;
 use hw_build::{Draft, copy_steps, net, net_value, number, reset_steps, text};
 use std::alloc::{AllocError, Global};
@@ -113,14 +113,14 @@ fn links(
     requires put { IsAscii put.now }
     requires din { IsAscii din.now }
     requires rdy { IsAscii rdy.now }
-    ensures { IfOk result (λ u. draft.new ≡ with_all draft.old (Link 1 put.now ∷ Link bits din.now ∷ Link 1 rdy.now ∷ [])) }
+    ensures { IfOk result (λ u. draft.new ≡ with_all draft.old (InstanceWire 1 put.now ∷ InstanceWire bits din.now ∷ InstanceWire 1 rdy.now ∷ [])) }
 {
     draft.link(alloc, 1, put)?;
     draft.link(alloc, bits, din)?;
     draft.link(alloc, 1, rdy)
 }
 
-// The ports of a relay that is made of others, and the wires behind its first part.
+// The ports of a relay that is made of others, and the wires after its first part.
 fn row_ports(alloc: Global, draft: &mut Draft, bits: u32) -> Result<(), AllocError>
     ensures { IfOk result (λ u. draft.new ≡ with_all draft.old (row_ports_lem bits [])) }
 {
@@ -149,13 +149,13 @@ fn part(
 fn first_part(alloc: Global) -> Result<Connections, AllocError>
     ensures { IfOk result (λ c. c ≡ first_lem) }
 {
-    relay_ends(alloc, b"put", b"din", b"rdy_1", b"put_1", b"din_1", b"rdy")
+    relay_connections(alloc, b"put", b"din", b"rdy_1", b"put_1", b"din_1", b"rdy")
 }
 
 fn second_of_two(alloc: Global) -> Result<Connections, AllocError>
     ensures { IfOk result (λ c. c ≡ second_of_two_lem) }
 {
-    relay_ends(
+    relay_connections(
         alloc,
         b"put_1",
         b"din_1",
@@ -169,7 +169,7 @@ fn second_of_two(alloc: Global) -> Result<Connections, AllocError>
 fn second_of_three(alloc: Global) -> Result<Connections, AllocError>
     ensures { IfOk result (λ c. c ≡ second_of_three_lem) }
 {
-    relay_ends(
+    relay_connections(
         alloc, b"put_1", b"din_1", b"rdy_2", b"put_2", b"din_2", b"rdy_1",
     )
 }
@@ -177,7 +177,7 @@ fn second_of_three(alloc: Global) -> Result<Connections, AllocError>
 fn third_part(alloc: Global) -> Result<Connections, AllocError>
     ensures { IfOk result (λ c. c ≡ third_lem) }
 {
-    relay_ends(
+    relay_connections(
         alloc,
         b"put_2",
         b"din_2",
@@ -255,7 +255,7 @@ fn row(alloc: Global, bits: u32, steps: u32) -> Result<Module, AllocError>
     }
 }
 
-/// Adds a relay of so many steps, and those that it is made of.
+/// Adds a relay of `steps` steps, and those that it is made of.
 pub fn add_relays(
     alloc: Global,
     modules: &mut Vec<Module>,

@@ -11,11 +11,11 @@ use Rattle.tapa_base.specs.declared.shape.Port.{Port}
 use Rattle.tapa_base.specs.declared.token.Token.{Token}
 use Rattle.vlog_tree.specs.Form.{ModuleTree}
 use Rattle.vlog_tree.specs.Cycle.{Cycle, Path}
-use Rattle.vlog_tree.specs.Environment.{Environment, FitsShape, RunsIn, IsDone, shape_of, streams_of, tokens}
+use Rattle.vlog_tree.specs.Environment.{Environment, FitsShape, RunsIn, RaisesDone, shape_of, streams_of, tokens}
 use Rattle.vlog_design.specs.Designs.{DesignTree, TopOf}
 use Rattle.vlog_design.specs.Environments.{lists_of}
 use Rattle.cycle_sim.specs.Told.{IsToldOf}
-use Rattle.cycle_sim.specs.Sims.{SimTree, InRuns, IsNext, IsLater, IsCarried, IsAdded, AreAdded, IsRunTo, IsDoneAt}
+use Rattle.cycle_sim.specs.Sims.{SimTree, InRuns, IsNext, IsLater, IsCarried, IsAdded, AreTokensAdded, IsRunTo, IsDoneAt}
 
 pub lists_set : {A : Type 0} (vs : List (Vec A Global)) (i : ℕ) (v : Vec A Global) → lists_of (slice_set vs i v) ≡ slice_set (lists_of vs) i v.items
 lists_set [] i v = refl
@@ -82,7 +82,7 @@ module _ (first now next : SimTree) (old : List (List Token)) (run : IsRunTo fir
   pub later_next : IsLater first next next.told.cycle
   later_next = record { same = step.same ∙ run.same; at = refl; ready = step.ready ∙ run.ready; told = told_next }
 
-module _ (first now next : SimTree) (old new : List (List Token)) (run : IsRunTo first now old) (step : IsNext now next) (added : AreAdded next old new) where
+module _ (first now next : SimTree) (old new : List (List Token)) (run : IsRunTo first now old) (step : IsNext now next) (added : AreTokensAdded next old new) where
   pub tokens_next : InRuns first (λ m env nets. (place : ℕ) (l : Port) → slice_get (streams_of m) place ≡ Some l → tokens l.bits (λ n. nets n []) l.name next.told.cycle ≡ slice_index_or new place [])
   tokens_next m env nets at f ready r told place l got =
       let low : place < length (streams_of m) = slice_get_within (streams_of m) place l got in
@@ -93,7 +93,7 @@ module _ (first now next : SimTree) (old new : List (List Token)) (run : IsRunTo
       a.1.later m env nets at f ready r told l now.told.cycle got later in
       ap (λ n. tokens l.bits (λ n. nets n []) l.name n) later ∙ grows ∙ ap (λ z. z ++ option_to_list a.0) (run.tokens m env nets at f ready r told place l got) ∙ sym a.2
 
-  pub run_on : InRuns next (λ m env nets. IsDone (λ n. nets n []) next.told.cycle → ⊥) → IsRunTo first next new
+  pub run_on : InRuns next (λ m env nets. RaisesDone (λ n. nets n []) next.told.cycle → ⊥) → IsRunTo first next new
   run_on not_done = record {
     same = step.same ∙ run.same;
     ready = step.ready ∙ run.ready;
@@ -103,17 +103,17 @@ module _ (first now next : SimTree) (old new : List (List Token)) (run : IsRunTo
     going = λ m env nets at f ready r told n le d. by_last m env nets at f ready r told n d le (cases_eq n next.told.cycle);
   } where
     by_last : (m : ModuleTree) (env : Environment) (nets : ℕ → Path → Cycle) → TopOf first.design m → FitsShape env (shape_of m) → env.ready ≡ first.ready → RunsIn first.design.modules m env nets → IsToldOf first.design.modules m env nets first.told
-        → (n : ℕ) → IsDone (λ n. nets n []) n → n ≤ next.told.cycle → (n ≡ next.told.cycle) ⊎ (n ≢ next.told.cycle) → ⊥
-    by_last m env nets at f ready r told n d le (inl e) = from_next first now next old run step (λ m env nets. IsDone (λ n. nets n []) next.told.cycle → ⊥) not_done m env nets at f ready r told (subst (λ k. IsDone (λ n. nets n []) k) e d)
+        → (n : ℕ) → RaisesDone (λ n. nets n []) n → n ≤ next.told.cycle → (n ≡ next.told.cycle) ⊎ (n ≢ next.told.cycle) → ⊥
+    by_last m env nets at f ready r told n d le (inl e) = from_next first now next old run step (λ m env nets. RaisesDone (λ n. nets n []) next.told.cycle → ⊥) not_done m env nets at f ready r told (subst (λ k. RaisesDone (λ n. nets n []) k) e d)
     by_last m env nets at f ready r told n d le (inr ne) =
         let c : next.told.cycle ≡ now.told.cycle + 1 = step.cycle in
         run.going m env nets at f ready r told n (omega arith) d
 
   -- the first cycle in which the design is done
-  pub done_first : (limit : ℕ) → next.told.cycle ≤ limit → InRuns next (λ m env nets. IsDone (λ n. nets n []) next.told.cycle) → InRuns first (λ m env nets. IsDoneAt (λ n. nets n []) limit (Some next.told.cycle))
+  pub done_first : (limit : ℕ) → next.told.cycle ≤ limit → InRuns next (λ m env nets. RaisesDone (λ n. nets n []) next.told.cycle) → InRuns first (λ m env nets. IsDoneAt (λ n. nets n []) limit (Some next.told.cycle))
   done_first limit le done m env nets at f ready r told =
       let c : next.told.cycle ≡ now.told.cycle + 1 = step.cycle in
-      (le, from_next first now next old run step (λ m env nets. IsDone (λ n. nets n []) next.told.cycle) done m env nets at f ready r told, λ n low d. run.going m env nets at f ready r told n (omega arith) d)
+      (le, from_next first now next old run step (λ m env nets. RaisesDone (λ n. nets n []) next.told.cycle) done m env nets at f ready r told, λ n low d. run.going m env nets at f ready r told n (omega arith) d)
 
 -- a simulator that has not gone on stands in cycle 0 of its own runs
 pub later_none : (first : SimTree) → first.told.cycle ≡ 0 → IsLater first first 0

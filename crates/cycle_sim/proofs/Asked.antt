@@ -10,7 +10,7 @@ use Rattle.tapa_base.specs.declared.token.Token.{Token}
 use Rattle.vlog_tree.specs.Form.{ModuleTree}
 use Rattle.vlog_tree.specs.Labels.{done, s_wr, s_rdy, s_din}
 use Rattle.vlog_tree.specs.Cycle.{Cycle, Path}
-use Rattle.vlog_tree.specs.Environment.{IsDone, streams_of, tokens, token_of, carried}
+use Rattle.vlog_tree.specs.Environment.{RaisesDone, streams_of, tokens, token_of, carried}
 use Rattle.sim_tape.specs.declared.gates.Pair.{Pair}
 use Rattle.sim_tape.specs.Tape.{pair_value}
 use Rattle.cycle_sim.specs.declared.parts.Stream.{Stream}
@@ -39,8 +39,8 @@ module _ (p : Parts) (s : State) (sim : IsSim p s) where
   ns = s.numbers.items
 
   -- whether the design is done
-  pub done_is : (b : Bool) → 0 < s.cycle → b ≡ is_one ns p.done → InRuns (sim_tree p s) (λ m env nets. IsTrue b ↔ IsDone (λ n. nets n []) s.cycle)
-  done_is b later is = in_runs p s sim (λ m env nets. IsTrue b ↔ IsDone (λ n. nets n []) s.cycle) (λ env nets f ready r now.
+  pub done_is : (b : Bool) → 0 < s.cycle → b ≡ is_one ns p.done → InRuns (sim_tree p s) (λ m env nets. IsTrue b ↔ RaisesDone (λ n. nets n []) s.cycle)
+  done_is b later is = in_runs p s sim (λ m env nets. IsTrue b ↔ RaisesDone (λ n. nets n []) s.cycle) (λ env nets f ready r now.
       let e : (nets s.cycle []).net done ≡ pair_value ns p.done = now.placed sim.parts.around.is_done.0 ([], done) p.done sim.parts.around.is_done.1 sim.parts.around.is_done.2 in (
         λ t. (omega arith, e ∙ true_test (pair_value ns p.done) 1 (one_test ns p.done ∙ sym is ∙ t)),
         λ d. is ∙ sym (one_test ns p.done) ∙ test_true (pair_value ns p.done) 1 (sym e ∙ d.1),

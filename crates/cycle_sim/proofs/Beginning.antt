@@ -24,7 +24,7 @@ use Rattle.sim_flat.specs.declared.flat.Flat.{Flat}
 use Rattle.sim_flat.specs.Flat.{HasNumber}
 use Rattle.sim_design.specs.declared.drafts.Commit.{Commit}
 use Rattle.sim_design.specs.declared.drafts.Width.{Width}
-use Rattle.sim_design.specs.States.{IsFree, ShowsCells, CellsAre}
+use Rattle.sim_design.specs.States.{IsFree, HasCellsOf, CellsAre}
 use Rattle.cycle_sim.specs.declared.inputs.Supply.{Supply}
 use Rattle.cycle_sim.specs.declared.inputs.Supply.TheVariants.{Reset, Scalar, Ready}
 use Rattle.cycle_sim.specs.declared.inputs.Input.{Input}
@@ -74,7 +74,7 @@ module _ (ms : List ModuleTree) (top : ModuleTree) (f : Flat) (pairs memories : 
       let fills = all_at (HoldsFill fill (contents b.0)) m.items (Memory w b.1 k) (filled b.0 m at) line in
       cells_are (nets 0 b.0) b.1 cells q k long.0 long.1 (λ a low. held a low ∙ fills a low ∙ sym (full.inside number b m w k q h at line e a low))
 
-  state_first : ShowsCells ms top f memories (nets 0) cells
+  state_first : HasCellsOf ms top f memories (nets 0) cells
   state_first = record {
     inside = inside_first;
     outside = λ i l got.

@@ -10,10 +10,10 @@ use Rattle.vlog_run_laws.specs.runs.OneRun.{IsRunFrom, IsOnly}
 use Rattle.vlog_run_laws.specs.runs.Filled.{IsFilled, filled}
 use Rattle.vlog_run_laws.proofs.runs.Filled.{fits, is_filled}
 use Rattle.vlog_run_laws.proofs.runs.Surround.{one_run_from}
-use Rattle.cycle_sim.specs.Told.{TellTree, IsToldOf, IsTold, IsSameTold}
+use Rattle.cycle_sim.specs.Told.{TellTree, IsToldOf, TellsEachRun, IsSameTold}
 
 pub told_same : (ms : List ModuleTree) (place : ℕ) (top : ModuleTree) (env : Environment) (fill : ℕ) (s t : TellTree)
-    → IsDesign ms place → slice_get ms place ≡ Some top → IsTold ms top env fill s → IsTold ms top env fill t → s.cycle ≡ t.cycle → IsSameTold ms top s t
+    → IsDesign ms place → slice_get ms place ≡ Some top → TellsEachRun ms top env fill s → TellsEachRun ms top env fill t → s.cycle ≡ t.cycle → IsSameTold ms top s t
 told_same ms place top env fill s t d at hs ht same =
     let contents : Path → Cycle = filled ms top fill in
     let f : IsFilled ms top fill contents = is_filled ms top fill d.sound (has_got ms place top at) in

@@ -17,7 +17,7 @@ use Rattle.vlog_design.specs.Designs.{TopOf}
 use Rattle.vlog_run_laws.specs.runs.OneRun.{IsRunFrom}
 use Rattle.vlog_run_laws.specs.runs.Filled.{IsFilled}
 use Rattle.vlog_design.specs.Environments.{lists_of}
-use Rattle.cycle_sim.specs.Told.{IsToldOf, IsTold}
+use Rattle.cycle_sim.specs.Told.{IsToldOf, TellsEachRun}
 use Rattle.sim_tape.specs.declared.gates.Pair.{Pair}
 use Rattle.sim_tape.specs.Operators.{Cells, cells_of, cell_in}
 use Rattle.sim_tape.specs.Tape.{number_at, pair_value}
@@ -152,7 +152,7 @@ module _ (p : Parts) (are : AreParts p) where
 
     -- what is told of the first cycle is what each run has there that begins with one number everywhere
     pub told_first : (memories : List (List ℕ)) → ((i : ℕ) → i < length p.outside.items → get_or cells i [] ≡ slice_index_or memories i [])
-        → (m : ModuleTree) (env : Environment) → TopOf p.design m → FitsShape env (shape_of m) → env.scalars ≡ p.scalars.items → env.memories ≡ memories → IsTold p.design.modules m env fill (sim_tree p s).told
+        → (m : ModuleTree) (env : Environment) → TopOf p.design m → FitsShape env (shape_of m) → env.scalars ≡ p.scalars.items → env.memories ≡ memories → TellsEachRun p.design.modules m env fill (sim_tree p s).told
     told_first memories first m env at fits scalars are_memories contents nets filled r =
         let same : are.top ≡ m = same_Some are.top m (sym are.at ∙ at) in
         let ms : List ModuleTree = p.design.modules in

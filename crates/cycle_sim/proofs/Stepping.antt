@@ -35,7 +35,7 @@ use Rattle.sim_flat.proofs.Standing.{in_top, net_of, net_single}
 use Rattle.sim_design.specs.declared.drafts.Commit.{Commit}
 use Rattle.sim_design.specs.declared.drafts.Width.{Width}
 use Rattle.sim_design.specs.Valuations.{IsLawful, IsValuation}
-use Rattle.sim_design.specs.States.{IsFree, ShowsCells, CellsAre}
+use Rattle.sim_design.specs.States.{IsFree, HasCellsOf, CellsAre}
 use Rattle.sim_design.specs.Given.{IsGivenSlot, IsGivenPair}
 use Rattle.cycle_sim.specs.declared.inputs.Supply.{Supply}
 use Rattle.cycle_sim.specs.declared.inputs.Supply.TheVariants.{Reset, Scalar, Ready}
@@ -378,7 +378,7 @@ module _ (ms : List ModuleTree) (top : ModuleTree) (f : Flat) (pairs memories : 
             ∙ ap (λ z. cond (((run n).net (m_ack l.name) == 1) && ((run n).net (m_we l.name) == 1)) (set_cell c z ((run n).net (m_wdata l.name))) c) (sym (net_here (m_addr l.name) o.0.addr asks.addr))
             ∙ ap (λ z. cond (((run n).net (m_ack l.name) == 1) && ((run n).net (m_we l.name) == 1)) (set_cell z ((run n).net (m_addr l.name)) ((run n).net (m_wdata l.name))) z) old
 
-        state_next : ShowsCells ms top f memories (nets (suc n)) next_cells
+        state_next : HasCellsOf ms top f memories (nets (suc n)) next_cells
         state_next = record {
           inside = inside_next;
           outside = λ i l got.

@@ -19,7 +19,7 @@ use Rattle.sim_flat.specs.declared.flat.Flat.{Flat}
 use Rattle.sim_flat.specs.Flat.{IsFlat, HasNumber}
 use Rattle.sim_design.specs.declared.drafts.Commit.{Commit}
 use Rattle.sim_design.specs.declared.drafts.Width.{Width}
-use Rattle.sim_design.specs.States.{ShowsPlaced, CellsAre, Tells}
+use Rattle.sim_design.specs.States.{ShowsPlaced, CellsAre, TellsNumbers}
 use Rattle.sim_design.specs.Given.{ArePlaced, AreGiven}
 use Rattle.sim_design.specs.Drafts.{AreMemories, AreNext}
 use Rattle.cycle_sim.specs.declared.inputs.Supply.{Supply}
@@ -44,7 +44,7 @@ IsSuppliedBy top scalars x (Ready i) = (l : Port) × (slice_get (shape_of top).m
 abbrev pub HasSupply : ModuleTree → Name → Type 0
 HasSupply top x = (x ≡ rst) ⊎ (((l : Port) × Has (shape_of top).scalars l × (scalar_of x ≡ Some l.name)) ⊎ ((l : Port) × Has (shape_of top).memories l × (ack_of x ≡ Some l.name)))
 
--- the input of the top with a number has these slots, and is given what stands around the design
+-- the input of the top with a number has these slots, and what the environment gives it
 pub record IsInput (ms : List ModuleTree) (top : ModuleTree) (f : Flat) (pairs : List (Option Pair)) (scalars : List ℕ) (number : ℕ) (a : Input) : Type 0 where
   pub name : Name
   pub has_number : HasNumber ms f number ([], name)
@@ -58,7 +58,8 @@ pub record AreInputs (ms : List ModuleTree) (top : ModuleTree) (f : Flat) (pairs
   pub all : (number : ℕ) (x : Name) (p : Pair) → HasNumber ms f number ([], x) → net_kind_of (declared top) x ≡ kind.Input → rdata_of x ≡ None → get_or pairs number None ≡ Some p
       → (i : ℕ) × (a : Input) × (slice_get inputs i ≡ Some a) × (a.pair ≡ p) × IsSuppliedBy top scalars x a.supply
   pub each : (i : ℕ) (a : Input) → slice_get inputs i ≡ Some a → (number : ℕ) × IsInput ms top f pairs scalars number a
-  pub once : (i j number : ℕ) (a b : Input) → slice_get inputs i ≡ Some a → slice_get inputs j ≡ Some b → IsInput ms top f pairs scalars number a → IsInput ms top f pairs scalars number b → i ≡ j
+  pub once : (i j number : ℕ) (a b : Input) → slice_get inputs i ≡ Some a → slice_get inputs j ≡ Some b
+      → IsInput ms top f pairs scalars number a → IsInput ms top f pairs scalars number b → i ≡ j
 
 -- the pair of a name of the top
 abbrev pub IsPairOf : List ModuleTree → Flat → List (Option Pair) → Name → Pair → Type 0
@@ -86,13 +87,14 @@ pub record IsMachine (ms : List ModuleTree) (top : ModuleTree) (f : Flat) (pairs
   pub placed : ArePlaced ms top f pairs
   pub given : AreGiven ms top f pairs t
   pub numbered : AreMemories ms top f memories widths
-  pub tells : Tells ms top f pairs memories t
+  pub tells : TellsNumbers ms top f pairs memories t
   pub next : AreNext ms top f pairs memories t commits stores
 
--- each memory inside has as many low as high halves of cells as it has cells
+-- each memory inside has two lists of half cells, each as long as the memory
 abbrev pub HasCells : List ModuleTree → ModuleTree → Flat → List (Option Pair) → Cells → Type 0
 HasCells ms top f memories cells =
-    (number : ℕ) (n : FlatNet) (m : ModuleTree) (w k : ℕ) (q : Pair) → HasNumber ms f number n → module_at ms top n.0 ≡ Some m → Has m.items (Memory w n.1 k) → get_or memories number None ≡ Some q
+    (number : ℕ) (n : FlatNet) (m : ModuleTree) (w k : ℕ) (q : Pair) → HasNumber ms f number n → module_at ms top n.0 ≡ Some m → Has m.items (Memory w n.1 k)
+    → get_or memories number None ≡ Some q
     → (length (get_or cells q.low []) ≡ k) × (length (get_or cells q.high []) ≡ k)
 
 -- every register and every cell has a number, cut to its width

@@ -1,4 +1,4 @@
--- What a simulator tells.
+-- What a simulator shows.
 use Rattle.cycle_sim.specs.declared.parts.Parts.{Parts}
 use Rattle.cycle_sim.specs.declared.parts.State.{State}
 use Rattle.cycle_sim.specs.Sims.{SimTree}

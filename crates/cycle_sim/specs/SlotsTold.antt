@@ -1,4 +1,4 @@
--- What is told of a cycle by slots and cells.
+-- What slots and cells show of a cycle.
 use Rattle.std.specs.Prelude.{ℕ, ◌+◌, ◌*◌, ◌^◌, List, [], ◌∷◌, Option, Some, None, suc, get_or, slice_get, option_map, option_and_then, bytes_eq, if◌then◌else◌}
 use Rattle.vlog_tree.specs.Form.{ModuleTree}
 use Rattle.vlog_tree.specs.Cycle.{Path}
@@ -16,7 +16,7 @@ use Rattle.cycle_sim.specs.Told.{TellTree}
 abbrev pub module_of : List ModuleTree → Flat → ℕ → Option ModuleTree
 module_of ms f k = slice_get ms (row_at f.instances.items k).kind
 
--- the first place of a name among instances
+-- the first index of a name among instances
 abbrev pub child_place : List (Name × Name) → Name → Option ℕ
 child_place [] i = None
 child_place (p ∷ ps) i = if bytes_eq p.1 i then Some 0 else option_map suc (child_place ps i)
@@ -45,7 +45,7 @@ cell_told cells (Some q) a = cell_in cells q.high a * 2 ^ 64 + cell_in cells q.l
 abbrev pub pair_of : List ModuleTree → Flat → List (Option Pair) → Path → Name → Option Pair
 pair_of ms f pairs path x = option_and_then (λ number. get_or pairs number None) (number_of ms f path x)
 
--- what slots and cells tell of a design in a cycle
+-- what slots and cells show of a design in a cycle
 abbrev pub told_by : List ModuleTree → Flat → List (Option Pair) → List (Option Pair) → ℕ → Cells → List ℕ → TellTree
 told_by ms f pairs memories cycle cells ns = record {
   cycle = cycle;

@@ -18,11 +18,11 @@ IsAway k p = (k ≢ p.low) × ((p.high ≡ 0) ⊎ (k ≢ p.high))
 abbrev pub PairHas : List ℕ → Pair → ℕ → Type 0
 PairHas ns p v = (number_at ns p.low ≡ v) × ((p.high ≡ 0) ⊎ (number_at ns p.high ≡ 0))
 
--- the slots of a pair are among so many, and two
+-- the slots of a pair are below n, and two
 abbrev pub HasRoom : ℕ → Pair → Type 0
 HasRoom n p = (p.low < n) × (p.high < n) × ((p.high ≡ 0) ⊎ (p.low ≢ p.high))
 
--- inputs have slots among so many, each its own
+-- inputs have slots below n, each its own
 pub record HaveSlots (n : ℕ) (inputs : List Input) : Type 0 where
   pub room : (i : ℕ) (a : Input) → slice_get inputs i ≡ Some a → HasRoom n a.pair
   pub own : (i j : ℕ) (a b : Input) → i < j → slice_get inputs i ≡ Some a → slice_get inputs j ≡ Some b → IsAway a.pair.low b.pair × ((a.pair.high ≡ 0) ⊎ IsAway a.pair.high b.pair)
@@ -64,7 +64,7 @@ is_one ns p = (number_at ns p.high == 0) && (number_at ns p.low == 1)
 abbrev pub is_written : List ℕ → Outside → Bool
 is_written ns o = is_one ns o.ack && (is_one ns o.we && (number_at ns o.addr.high == 0))
 
--- the cells of a memory around the design after what it is asked
+-- the cells of a memory around the design after its write in a cycle
 abbrev pub outside_list : List ℕ → Outside → List ℕ → List ℕ
 outside_list ns o cells =
     if is_written ns o then set_cell cells (number_at ns o.addr.low) (number_at ns o.wdata) else cells

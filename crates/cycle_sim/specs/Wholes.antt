@@ -25,7 +25,7 @@ use Rattle.cycle_sim.specs.Writes.{AreUnmade, AreUnwritten}
 use Rattle.cycle_sim.specs.ShownNets.{AreShown}
 use Rattle.cycle_sim.specs.Machines.{AreInputs, AreOutside, IsPairOf, IsMachine, HasCells}
 
--- what a simulator is of, what it tells of its cycle, and when the memories around it are ready
+-- what a simulator is of, what it shows of its cycle, and when the memories around it are ready
 abbrev pub sim_tree : Parts → State → SimTree
 sim_tree p s = record {
   design = p.design;
@@ -47,7 +47,7 @@ pub record AreStreams (ms : List ModuleTree) (top : ModuleTree) (f : Flat) (pair
   pub count : length streams ≡ length (streams_of top)
   pub each : (i : ℕ) (l : Port) → slice_get (streams_of top) i ≡ Some l → (t : Stream) × (slice_get streams i ≡ Some t) × IsStream ms f pairs l t
 
--- what stands around a design, by the pairs of its top's names
+-- the interface of a design to its environment, by the pairs of its top's names
 pub record IsAround (ms : List ModuleTree) (top : ModuleTree) (f : Flat) (pairs : List (Option Pair)) (scalars : List ℕ) (in_slots : List Input)
     (asked : List Outside) (carrying : List Stream) (net_pairs : List Pair) (done_pair : Pair) : Type 0 where
   pub inputs : AreInputs ms top f pairs scalars in_slots
@@ -60,7 +60,7 @@ pub record IsAround (ms : List ModuleTree) (top : ModuleTree) (f : Flat) (pairs 
 abbrev pub token_on : List ℕ → Stream → Option Token
 token_on ns s = if is_one ns s.wr && is_one ns s.rdy then Some (token_of s.bits (pair_value ns s.din)) else None
 
--- A design is on the tape, with all that stands around it.
+-- A design is on the tape, with its interface to the environment.
 pub record AreParts (p : Parts) : Type 0 where
   pub top : ModuleTree
   pub at : TopOf p.design top

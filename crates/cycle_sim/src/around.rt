@@ -1,4 +1,4 @@
-// What stands around a design, by the pairs of its top's names.
+// The interface of a design to its environment, by the pairs of its top's names.
 
 ghost use Rattle.std.specs.Prelude.{◌≡◌, List, IfOk};
 ghost use Rattle.tapa_base.specs.declared.shape.Port.{Port as PortTree};
@@ -116,7 +116,7 @@ fn all_streams(
     Ok(streams)
 }
 
-/// What stands around a design: the inputs of its top, of which scalars have these numbers, and the memories and streams.
+/// The interface of a design: the inputs of its top, of which scalars have these numbers, and the memories and streams.
 #[tactic(auto, using(vlog_run_laws::proofs::runs::Ascii::done_ascii))]
 pub fn around_of(
     alloc: Global,

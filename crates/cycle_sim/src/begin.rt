@@ -5,7 +5,7 @@ ghost use Rattle.vlog_tree.specs.Form.{ModuleTree};
 ghost use Rattle.vlog_tree.specs.Environment.{Environment, FitsShape, shape_of};
 ghost use Rattle.vlog_design.specs.Designs.{TopOf};
 ghost use Rattle.vlog_design.specs.Environments.{lists_of};
-ghost use Rattle.cycle_sim.specs.Told.{IsTold};
+ghost use Rattle.cycle_sim.specs.Told.{TellsEachRun};
 ghost use Rattle.sim_tape.specs.declared.gates.Pair.{Pair as PairTree};
 ghost use Rattle.sim_tape.specs.Operators.{cells_of};
 ghost use Rattle.sim_tape.specs.Tape.{IsTape, pair_value};
@@ -71,7 +71,7 @@ fn finish(alloc: Global, draft: TapeDraft) -> Result<Finished, AllocError>
     })
 }
 
-// The tape of a flattened design, and what stands around the design.
+// The tape of a flattened design, and the design's interface to its environment.
 fn laid_out(
     alloc: Global,
     design: &Design,
@@ -91,7 +91,7 @@ fn laid_out(
     Ok((finished, around))
 }
 
-/// A design on a tape, with all that stands around it.
+/// A design on a tape, with its interface to the environment.
 pub fn parts_of(alloc: Global, design: Design, around: &Env) -> Result<Parts, AllocError>
     ensures parts { IfOk result (λ p. AreParts p) }
     ensures design { IfOk result (λ p. p.design ≡ design) }
@@ -163,7 +163,7 @@ pub fn first_state(
     ensures cycle { IfOk result (λ s. s.cycle ≡ 0) }
     ensures told { IfOk result (λ s. (m : ModuleTree) (env : Environment) → TopOf parts.now.design m → FitsShape env (shape_of m) → env.scalars ≡ parts.now.scalars.items
         → env.memories ≡ lists_of memories.now
-        → IsTold parts.now.design.modules m env fill (sim_tree parts.now s).told) }
+        → TellsEachRun parts.now.design.modules m env fill (sim_tree parts.now s).told) }
 {
     let cells = first_cells(alloc, memories, parts.outside.len(), &parts.widths, fill)?;
     let mut numbers = vec![in alloc; 0; parts.program.len()]?;

@@ -88,7 +88,7 @@ fn ask(numbers: &[u64], o: &Outside, place: usize, cells: &mut [Vec<u64>])
     }
 }
 
-// What the memories around the design are asked in a cycle, each at its place.
+// Makes the writes of a cycle to the memories around the design, each at its index.
 fn ask_all(numbers: &[u64], outside: &[Outside], cells: &mut [Vec<u64>])
     ensures asked { (i : ℕ) (o : OutsideTree) → slice_get outside.now i ≡ Some o → get_or (cells_of cells.new) i [] ≡ outside_list numbers.now o (get_or (cells_of cells.old) i []) }
     ensures kept { (m : ℕ) → length outside.now ≤ m → get_or (cells_of cells.new) m [] ≡ get_or (cells_of cells.old) m [] }
@@ -132,8 +132,8 @@ fn no_cell_is_written(numbers: &[u64], stores: &[Store], outside: &[Outside]) ->
     no_memory_is_written(numbers, outside)
 }
 
-/// Writes what a cycle stores and what the memories around the design are asked in it, each at its place. Says whether that is
-/// anything.
+/// Makes the stores of a cycle and the writes to the memories around the design, each at its index. Says whether there is
+/// any.
 pub fn write_all(
     numbers: &[u64],
     stores: &[Store],

@@ -31,7 +31,7 @@ fn add_width(
     Ok(())
 }
 
-// The cells of the memories inside a design, all with one number, behind those outside.
+// The cells of the memories inside a design, all with one number, after those outside.
 fn add_widths(
     alloc: Global,
     all: &mut Vec<Vec<u64>>,
@@ -47,7 +47,7 @@ fn add_widths(
 }
 
 // Asks for room for the numbers of all memories inside at once, and gives it back: where a short text has more of them than there
-// is memory for, that is told before the first one is filled.
+// is memory for, it is refused before the first one is filled.
 fn ask_room(alloc: Global, widths: &[Width]) -> Result<(), AllocError> {
     let mut numbers: usize = 0;
     for width in widths {
@@ -66,7 +66,7 @@ fn cells_at(alloc: Global, memories: &[Vec<u64>], at: usize) -> Result<Vec<u64>,
     }
 }
 
-// The cells of so many memories around a design.
+// The cells of `count` memories around a design.
 fn outside_cells(
     alloc: Global,
     memories: &[Vec<u64>],
@@ -83,7 +83,7 @@ fn outside_cells(
     Ok(all)
 }
 
-/// The cells of so many memories around a design, and behind them those of the memories inside, all with one number.
+/// The cells of `count` memories around a design, and after them those of the memories inside, all with one number.
 pub fn first_cells(
     alloc: Global,
     memories: &[Vec<u64>],

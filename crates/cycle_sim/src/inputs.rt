@@ -10,7 +10,7 @@ ghost use Rattle.cycle_sim.specs.Steps.{HaveSlots, IsAway, PairHas, supplied as 
 use crate::slots::{number, put_pair};
 use sim_tape::Pair;
 
-/// What an input of the top is given: reset, a number that stays, or whether the memory at a place is ready.
+/// What an input of the top is given: reset, a number that stays, or whether the memory at an index is ready.
 #[derive(Clone, Copy)]
 pub enum Supply {
     Reset,
@@ -56,7 +56,7 @@ fn supplied(ready: &[Vec<bool>], cycle: u64, supply: Supply) -> u64
     }
 }
 
-/// Gives the inputs of the top what stands around the design in a cycle.
+/// Gives the inputs of the top what the environment has in a cycle.
 pub fn give(inputs: &[Input], ready: &[Vec<bool>], cycle: u64, numbers: &mut [u64])
     requires { HaveSlots (length numbers.old) inputs.now }
     ensures values { (i : ℕ) (a : InputTree) → slice_get inputs.now i ≡ Some a → PairHas numbers.new a.pair (supplied_lem (lists_of ready.now) cycle a.supply) }
@@ -77,7 +77,7 @@ fn has_number(numbers: &[u64], pair: Pair, n: u64) -> bool
     pair.high == 0 || number(numbers, pair.high) == 0
 }
 
-/// Whether the inputs of the top have what stands around the design in a cycle.
+/// Whether the inputs of the top have what the environment gives in a cycle.
 pub fn are_given(inputs: &[Input], ready: &[Vec<bool>], cycle: u64, numbers: &[u64]) -> bool
     ensures { result ≡ true → (i : ℕ) (a : InputTree) → slice_get inputs.now i ≡ Some a → PairHas numbers.now a.pair (supplied_lem (lists_of ready.now) cycle a.supply) }
 {

@@ -1,4 +1,4 @@
-//! The simulator of designs: it stands in one cycle of a design's run, shows streams, memories and nets, and goes to the next.
+//! The simulator of designs: it is in one cycle of a design's run, shows streams, memories and nets, and goes to the next.
 #![tactic(auto)]
 
 mod around;

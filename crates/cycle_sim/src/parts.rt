@@ -4,7 +4,7 @@ ghost use Rattle.std.specs.Prelude.{◌+◌, ◌*◌, ◌<◌, ◌≤◌, ◌^�
 ghost use Rattle.sim_tape.specs.Operators.{cells_of};
 ghost use Rattle.vlog_tree.specs.declared.table.Declaration.{Declaration as DeclarationTree};
 ghost use Rattle.vlog_tree.specs.Form.{ModuleTree};
-ghost use Rattle.vlog_tree.specs.Environment.{IsDone, token_of as token_lem};
+ghost use Rattle.vlog_tree.specs.Environment.{RaisesDone, token_of as token_lem};
 ghost use Rattle.vlog_design.specs.Designs.{TopOf};
 ghost use Rattle.cycle_sim.specs.Sims.{InRuns, IsNext, IsCarried};
 ghost use Rattle.cycle_sim.specs.ShownNets.{shown_nets};
@@ -31,7 +31,7 @@ pub struct Stream {
 }
 
 /// A design, the numbers of its nets, their pairs of slots, and by names of memories the numbers of their lists of cells; the
-/// tape, what registers take over, what is stored, what stands around the design, and the pairs of its top's nets.
+/// tape, what registers take over, what is stored, the interface to the environment, and the pairs of its top's nets.
 #[derive(Drop)]
 pub struct Parts {
     pub design: Design,
@@ -114,7 +114,7 @@ pub fn advance(parts: &Parts, state: &mut State)
 /// Whether the design is done in a cycle.
 pub fn is_done(parts: &Parts, state: &State) -> bool
     requires { IsSim parts.now state.now }
-    ensures { InRuns (sim_tree parts.now state.now) (λ m env nets. IsTrue result ↔ IsDone (λ n. nets n []) state.now.cycle) }
+    ensures { InRuns (sim_tree parts.now state.now) (λ m env nets. IsTrue result ↔ RaisesDone (λ n. nets n []) state.now.cycle) }
 {
     state.cycle > 0 && is_one(&state.numbers, parts.done)
 }
@@ -170,10 +170,11 @@ pub fn carried(parts: &Parts, state: &State, place: usize) -> Option<Token>
     }
 }
 
-/// The number of a net of the top in a cycle, by its place among those that have one; past the last, 0.
+/// The number of a net of the top in a cycle, by its index among those that have one; past the last, 0.
 pub fn shown_value(parts: &Parts, state: &State, place: usize) -> u128
     requires { IsSim parts.now state.now }
-    ensures told { (m : ModuleTree) (d : DeclarationTree) → TopOf parts.now.design m → slice_get (shown_nets m) place ≡ Some d → result ≡ (sim_tree parts.now state.now).told.number [] d.name }
+    ensures told { (m : ModuleTree) (d : DeclarationTree) → TopOf parts.now.design m → slice_get (shown_nets m) place ≡ Some d
+        → result ≡ (sim_tree parts.now state.now).told.number [] d.name }
     ensures fits { InRuns (sim_tree parts.now state.now) (λ m env nets. (d : DeclarationTree) → slice_get (shown_nets m) place ≡ Some d → result < 2 ^ d.bits) }
 {
     match parts.shown.get(place) {

@@ -22,7 +22,7 @@ pub fn is_shown(d: &Declaration) -> bool
     is_read(d.net_kind) && !is_clock(&d.name)
 }
 
-// The pair at the place of a name that is shown, and none for another name.
+// The pair at the index of a name that is shown, and none for another name.
 fn shown_at(pairs: &[Option<Pair>], place: usize, d: &Declaration) -> Option<Pair>
     ensures shown { is_shown_lem d.now ≡ true → result ≡ get_or pairs.now place None }
     ensures other { is_shown_lem d.now ≡ false → result ≡ None }

@@ -4,12 +4,12 @@ ghost use Rattle.std.specs.Prelude.{◌≡◌, ◌+◌, ◌<◌, ◌≤◌, ◌^
 ghost use Rattle.tapa_base.specs.declared.shape.Port.{Port as PortTree};
 ghost use Rattle.vlog_tree.specs.declared.table.Declaration.{Declaration as DeclarationTree};
 ghost use Rattle.vlog_tree.specs.Form.{ModuleTree};
-ghost use Rattle.vlog_tree.specs.Environment.{IsDone, streams_of, tokens};
+ghost use Rattle.vlog_tree.specs.Environment.{RaisesDone, streams_of, tokens};
 ghost use Rattle.vlog_design.specs.Designs.{TopOf};
 ghost use Rattle.vlog_design.specs.Environments.{environment_of, lists_of};
 ghost use Rattle.cycle_sim.specs.ShownNets.{shown_nets};
 ghost use Rattle.cycle_sim.specs.Simulators.{sim_of};
-ghost use Rattle.cycle_sim.specs.Sims.{InRuns, IsFirst, IsNext, IsLater, IsCarried, IsDoneAt, last_cycle, IsAdded, AreAdded};
+ghost use Rattle.cycle_sim.specs.Sims.{InRuns, IsNewSim, IsNext, IsLater, IsCarried, IsDoneAt, last_cycle, IsAdded, AreTokensAdded};
 
 use crate::begin::{first_state, parts_of};
 use crate::parts::{advance, carried, cells_in, is_done, shown_value};
@@ -19,10 +19,10 @@ use tapa_base::Token;
 use vlog_design::{Design, Env};
 
 impl Sim {
-    /// A design in cycle 0, in what stands around it, where every register and every cell holds `fill` modulo 2 to the power of
+    /// A design in cycle 0, in an environment, where every register and every cell holds `fill` modulo 2 to the power of
     /// its width.
     pub fn new(alloc: Global, design: Design, around: &Env, fill: u64) -> Result<Sim, AllocError>
-        ensures { IfOk result (λ sim. IsFirst design (environment_of around.now) fill (sim_of sim)) }
+        ensures { IfOk result (λ sim. IsNewSim design (environment_of around.now) fill (sim_of sim)) }
     {
         let parts = parts_of(alloc, design, around)?;
         let state = first_state(alloc, &parts, &around.memories, fill)?;
@@ -46,26 +46,26 @@ impl Sim {
 
     /// Whether the design is done in this cycle.
     pub fn done(&self) -> bool
-        ensures { InRuns (sim_of self.now) (λ m env nets. IsTrue result ↔ IsDone (λ n. nets n []) (sim_of self.now).told.cycle) }
+        ensures { InRuns (sim_of self.now) (λ m env nets. IsTrue result ↔ RaisesDone (λ n. nets n []) (sim_of self.now).told.cycle) }
     {
         is_done(&self.parts, &self.state)
     }
 
-    /// The token that a stream carries in this cycle, by its place among the streams; in cycle 0 it carries none.
+    /// The token that a stream carries in this cycle, by its index among the streams; in cycle 0 it carries none.
     pub fn token(&self, stream: u32) -> Option<Token>
         ensures { IsCarried (sim_of self.now) stream result }
     {
         carried(&self.parts, &self.state, stream as usize)
     }
 
-    /// The cells of a memory around the design in this cycle, before its store, by the memory's place in the shape.
+    /// The cells of a memory around the design in this cycle, before its store, by the memory's index in the shape.
     pub fn memory(&self, m: u32) -> &[u64]
         ensures { result.now ≡ (sim_of self.now).told.outside m }
     {
         cells_in(&self.state, m as usize)
     }
 
-    /// The value in this cycle of a net of the top, by its place among the ports but the clock, and then the wires and the
+    /// The value in this cycle of a net of the top, by its index among the ports but the clock, and then the wires and the
     /// registers, in the order of the text (IEEE 1364-2005, two-valued); past the last, 0.
     pub fn value(&self, net: u32) -> u128
         ensures told { (m : ModuleTree) (d : DeclarationTree) → TopOf (sim_of self.now).design m → slice_get (shown_nets m) net ≡ Some d → result ≡ (sim_of self.now).told.number [] d.name }
@@ -74,9 +74,10 @@ impl Sim {
         self.value_at(net as usize)
     }
 
-    /// The value in this cycle of the net of the top at any place, past the last of them 0.
+    /// The value in this cycle of the net of the top at any index, past the last of them 0.
     pub fn value_at(&self, place: usize) -> u128
-        ensures told { (m : ModuleTree) (d : DeclarationTree) → TopOf (sim_of self.now).design m → slice_get (shown_nets m) place ≡ Some d → result ≡ (sim_of self.now).told.number [] d.name }
+        ensures told { (m : ModuleTree) (d : DeclarationTree) → TopOf (sim_of self.now).design m → slice_get (shown_nets m) place ≡ Some d
+            → result ≡ (sim_of self.now).told.number [] d.name }
         ensures fits { InRuns (sim_of self.now) (λ m env nets. (d : DeclarationTree) → slice_get (shown_nets m) place ≡ Some d → result < 2 ^ d.bits) }
     {
         shown_value(&self.parts, &self.state, place)
@@ -96,7 +97,7 @@ impl Sim {
         self.parts.streams.len()
     }
 
-    // The token of a stream, by any place.
+    // The token of a stream, by any index.
     fn token_at(&self, place: usize) -> Option<Token>
         ensures { IsCarried (sim_of self.now) place result }
     {
@@ -104,7 +105,7 @@ impl Sim {
     }
 }
 
-/// What the streams carried, by their places, and the cycle in which the design was done.
+/// What the streams carried, by their indices, and the cycle in which the design was done.
 #[derive(Drop)]
 pub struct Carried {
     pub tokens: Vec<Vec<Token>>,
@@ -121,7 +122,7 @@ fn add_token(sim: &Sim, place: usize, tokens: &mut Vec<Token>) -> Result<(), All
 }
 
 fn add_tokens(sim: &Sim, tokens: &mut [Vec<Token>]) -> Result<(), AllocError>
-    ensures { OnOk result (AreAdded (sim_of sim.now) (lists_of tokens.old) (lists_of tokens.new)) }
+    ensures { OnOk result (AreTokensAdded (sim_of sim.now) (lists_of tokens.old) (lists_of tokens.new)) }
 {
     for i in 0..tokens.len() {
         add_token(sim, i, &mut tokens[i])?;
@@ -145,14 +146,14 @@ fn no_tokens(alloc: Global, count: usize) -> Result<Vec<Vec<Token>>, AllocError>
 fn go_on(sim: &mut Sim, tokens: &mut [Vec<Token>]) -> Result<(), AllocError>
     requires { (sim_of sim.old).told.cycle + 1 < 2 ^ 64 }
     ensures next { IsNext (sim_of sim.old) (sim_of sim.new) }
-    ensures added { OnOk result (AreAdded (sim_of sim.new) (lists_of tokens.old) (lists_of tokens.new)) }
+    ensures added { OnOk result (AreTokensAdded (sim_of sim.new) (lists_of tokens.old) (lists_of tokens.new)) }
 {
     sim.step();
     add_tokens(sim, tokens)
 }
 
 /// Steps until the design is done or to a cycle, and gives the tokens of the cycles from 1 on, and the first cycle in which the
-/// design is done. The simulator then stands in the last of these cycles. Want of memory leaves it in one of them, from which
+/// design is done. The simulator is then in the last of these cycles. Want of memory leaves it in one of them, from which
 /// it may go on.
 pub fn run_cycles(alloc: Global, sim: &mut Sim, limit: u64) -> Result<Carried, AllocError>
     requires { (sim_of sim.old).told.cycle ≡ 0 }

@@ -3,7 +3,7 @@
 use crate::parts::{Parts, State};
 use std::marker::Model;
 
-/// A design in one of its cycles, in the environment that it stands in.
+/// A design in one of its cycles, with its environment.
 #[derive(Drop)]
 pub struct Sim {
     pub(crate) parts: Parts,

@@ -40,7 +40,7 @@ fn number_at(numbers: &[u64], at: usize) -> u64
     }
 }
 
-// The first place of a label.
+// The first index of a label.
 fn place_of(labels: &[Port], label: &[u8]) -> Option<usize>
     ensures { result ≡ place_lem labels.now label.now }
 {
@@ -85,7 +85,7 @@ fn supply_of(shape: &Shape, scalars: &[u64], name: &Text) -> Option<Supply>
     None
 }
 
-// The input at a place among the top's names; none where it is no input, or one that a memory answers.
+// The input at an index among the top's names; none where it is no input, or one that a memory answers.
 fn input_at(
     shape: &Shape,
     scalars: &[u64],

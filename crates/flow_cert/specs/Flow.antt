@@ -23,7 +23,7 @@ pub record IsDualFlow (g : Graph) (flow : ℕ → ℕ) : Type 0 where
 abbrev pub weight : Graph → (ℕ → ℕ) → (ℕ → ℕ) → ℕ
 weight g lat flow = total (streams g) (λ e. lat e * flow e)
 
--- what a flow brings to places of a height, and what the widths take from there, are what the widths bring and the flow takes
+-- weighted by heights, the flow into the heads and the widths out of the tails equal the widths into the heads and the flow out of the tails
 abbrev pub Levels : Graph → (ℕ → ℕ) → (ℕ → ℕ) → Type 0
 Levels g f t = total (streams g) (λ e. f e * t (head g e)) + total (streams g) (λ e. width g e * t (tail g e)) ≡ total (streams g)
     (λ e. width g e * t (head g e)) + total (streams g) (λ e. f e * t (tail g e))

@@ -18,7 +18,7 @@ use Rattle.vlog_tree.specs.V4.{step_assigns, is_block_of}
 use Rattle.tapa_base.proofs.Lists.{has_flat, of_flat, has_right}
 use Rattle.vlog_module_laws.specs.Blocks.{IsOwnBlock}
 use Rattle.vlog_module_laws.proofs.Lines.{line, port}
-use Rattle.hw_build.specs.Elements.{Element, Input, Output, Outlet, Wire, Link, Register, Memory, Block, Instance, element_ports, element_items, empty, built}
+use Rattle.hw_build.specs.Elements.{Element, Input, Output, Outlet, Wire, InstanceWire, Register, Memory, Block, Instance, element_ports, element_items, empty, built}
 use Rattle.hw_build.specs.Fitting.{declarations, stored_names, assigns, AreFitting}
 use Rattle.hw_build.proofs.Tables.{items_of_all, ports_of_all}
 use Rattle.hw_build.proofs.Drivers.{all_blocks, own_block}
@@ -60,8 +60,8 @@ module _ (name : Name) (elements : List Element) (run : ℕ → Cycle) (f : Foll
   width_declared (Outlet w x) d h (inr n) k = absurd n
   width_declared (Wire w x v) d h (inl s) k = subst Wide s (line_holds (Wire w x v) h (WireLine w x) (inl refl) 0)
   width_declared (Wire w x v) d h (inr n) k = absurd n
-  width_declared (Link w x) d h (inl s) k = subst Wide s (line_holds (Link w x) h (WireLine w x) (inl refl) 0)
-  width_declared (Link w x) d h (inr n) k = absurd n
+  width_declared (InstanceWire w x) d h (inl s) k = subst Wide s (line_holds (InstanceWire w x) h (WireLine w x) (inl refl) 0)
+  width_declared (InstanceWire w x) d h (inr n) k = absurd n
   width_declared (Register w x) d h (inl s) k = subst Wide s (line_holds (Register w x) h (RegisterLine w x) (inl refl) 0)
   width_declared (Register w x) d h (inr n) k = absurd n
   width_declared (Memory w x c) d h (inl s) k = subst Wide s (line_holds (Memory w x c) h (MemoryLine w x c) (inl refl) 0).0

@@ -16,7 +16,7 @@ use Rattle.vlog_tree.specs.Labels.{rst}
 use Rattle.vlog_tree.specs.V4.{line_driven, step_assigns, is_block_of, breaks_driving}
 use Rattle.tapa_base.proofs.Lists.{has_flat}
 use Rattle.vlog_module_laws.proofs.Lists.{count_cons, counted, both_true}
-use Rattle.hw_build.specs.Elements.{Element, Input, Output, Outlet, Wire, Link, Register, Memory, Block, Instance, element_items}
+use Rattle.hw_build.specs.Elements.{Element, Input, Output, Outlet, Wire, InstanceWire, Register, Memory, Block, Instance, element_items}
 use Rattle.hw_build.specs.Fitting.{declarations, first_table, table_after, link_names, instance_driven, stored_names, assigns, drive_links_once, have_own_blocks}
 use Rattle.hw_build.proofs.Tables.{times, clock_declared, reset_declared, count_append, same_name, AreDistinct, comes_from}
 use Rattle.hw_build.proofs.Uses.{all_has}
@@ -27,7 +27,7 @@ own_names (Output w x v) = x ∷ []
 own_names (Wire w x v) = x ∷ []
 own_names (Input w x) = []
 own_names (Outlet w x) = []
-own_names (Link w x) = []
+own_names (InstanceWire w x) = []
 own_names (Register w x) = []
 own_names (Memory w x n) = []
 own_names (Block b) = []
@@ -42,7 +42,7 @@ other_names (Instance k i connections) = i ∷ []
 other_names (Output w x v) = []
 other_names (Outlet w x) = []
 other_names (Wire w x v) = []
-other_names (Link w x) = []
+other_names (InstanceWire w x) = []
 other_names (Block b) = []
 
 -- how often names of one kind stand in elements
@@ -61,7 +61,7 @@ declares (Input w x) y = let a = one_name (record { name = x; net_kind = InputNe
 declares (Output w x v) y = let a = one_name (record { name = x; net_kind = OutputNet; bits = w; cells = 0 }) y in omega (arith, a)
 declares (Outlet w x) y = let a = one_name (record { name = x; net_kind = OutputNet; bits = w; cells = 0 }) y in omega (arith, a)
 declares (Wire w x v) y = let a = one_name (record { name = x; net_kind = WireNet; bits = w; cells = 0 }) y in omega (arith, a)
-declares (Link w x) y = let a = one_name (record { name = x; net_kind = WireNet; bits = w; cells = 0 }) y in omega (arith, a)
+declares (InstanceWire w x) y = let a = one_name (record { name = x; net_kind = WireNet; bits = w; cells = 0 }) y in omega (arith, a)
 declares (Register w x) y = let a = one_name (record { name = x; net_kind = RegisterNet; bits = w; cells = 0 }) y in omega (arith, a)
 declares (Memory w x n) y = let a = one_name (record { name = x; net_kind = MemoryArray; bits = w; cells = n }) y in omega (arith, a)
 declares (Block b) y = refl
@@ -136,7 +136,7 @@ line_drives ms (Input w y) x = refl
 line_drives ms (Output w y v) x = omega arith
 line_drives ms (Outlet w y) x = refl
 line_drives ms (Wire w y v) x = omega arith
-line_drives ms (Link w y) x = refl
+line_drives ms (InstanceWire w y) x = refl
 line_drives ms (Register w y) x = refl
 line_drives ms (Memory w y n) x = refl
 line_drives ms (Block b) x = refl
@@ -164,7 +164,7 @@ block_here (Input w y) x = refl
 block_here (Output w y v) x = refl
 block_here (Outlet w y) x = refl
 block_here (Wire w y v) x = refl
-block_here (Link w y) x = refl
+block_here (InstanceWire w y) x = refl
 block_here (Register w y) x = refl
 block_here (Memory w y n) x = refl
 block_here (Block b) x = let c : count_by (is_block_of x) (BlockLine b ∷ []) ≡ one_if (list_any (step_assigns x) b) + 0 = count_cons (is_block_of x) (BlockLine b) [] in omega (arith, c)
@@ -250,8 +250,8 @@ module _ (ms : List ModuleTree) (elements : List Element) (once : drive_links_on
   at (Outlet w x) has d (inr n) = absurd n
   at (Wire w x v) has d (inl s) = subst Right s (driven_wire (driven x) (assigned x) (by_own x (named_in own_names elements (Wire w x v) x has (inl refl))))
   at (Wire w x v) has d (inr n) = absurd n
-  at (Link w x) has d (inl s) = subst Right s (driven_wire (driven x) (assigned x) (by_link x (named_in link_names elements (Link w x) x has (inl refl))))
-  at (Link w x) has d (inr n) = absurd n
+  at (InstanceWire w x) has d (inl s) = subst Right s (driven_wire (driven x) (assigned x) (by_link x (named_in link_names elements (InstanceWire w x) x has (inl refl))))
+  at (InstanceWire w x) has d (inr n) = absurd n
   at (Register w x) has d (inl s) = subst Right s (kept_block (Register w x) x has (inl refl))
   at (Register w x) has d (inr n) = absurd n
   at (Memory w x n) has d (inl s) = subst Right s (kept_block (Memory w x n) x has (inl refl))

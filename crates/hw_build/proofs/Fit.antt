@@ -25,7 +25,7 @@ use Rattle.vlog_tree.specs.V2.{read_use, register_use, memory_use, atom_uses, va
 use Rattle.vlog_tree.specs.V3.{is_width, atom_bits}
 use Rattle.vlog_tree.specs.V4.{step_assigns}
 use Rattle.vlog_module_laws.proofs.Lists.{count_cons, counted}
-use Rattle.hw_build.specs.Elements.{Element, Input, Output, Outlet, Wire, Link, Register, Memory, Block, Instance}
+use Rattle.hw_build.specs.Elements.{Element, Input, Output, Outlet, Wire, InstanceWire, Register, Memory, Block, Instance}
 use Rattle.hw_build.specs.Fitting.{declarations, first_table, is_new, are_kept, has_fitting_names, have_fitting_names, AtomFits, AtomHas, OpFits, ValueFits, StepFits, HasFittingWidths, HaveFittingWidths, link_names, instance_driven, stored_names, assigns, drive_links_once, have_own_blocks}
 use Rattle.hw_build.proofs.Forms.{yes_and}
 use Rattle.hw_build.proofs.Tables.{times, count_append, same_name, AreDistinct, found}
@@ -231,7 +231,7 @@ module _ (before : List Element) (once : AreOnce (clk ∷ rst ∷ named before))
   names_fit ms (Output w x v) new h = yes_and (is_new t x) (are_kept (value_uses t v)) (new x (inl refl)) (value_kept w v h.1)
   names_fit ms (Outlet w x) new h = absurd h
   names_fit ms (Wire w x v) new h = yes_and (is_new t x) (are_kept (value_uses t v)) (new x (inl refl)) (value_kept w v h.1)
-  names_fit ms (Link w x) new h = absurd h
+  names_fit ms (InstanceWire w x) new h = absurd h
   names_fit ms (Register w x) new h = new x (inl refl)
   names_fit ms (Memory w x n) new h = new x (inl refl)
   names_fit ms (Block b) new h = block_kept b (first_assigned b) h
@@ -242,7 +242,7 @@ module _ (before : List Element) (once : AreOnce (clk ∷ rst ∷ named before))
   widths_fit ms (Output w x v) h = (h.0, value_fits w v h.1)
   widths_fit ms (Outlet w x) h = absurd h
   widths_fit ms (Wire w x v) h = (h.0, value_fits w v h.1)
-  widths_fit ms (Link w x) h = absurd h
+  widths_fit ms (InstanceWire w x) h = absurd h
   widths_fit ms (Register w x) h = h
   widths_fit ms (Memory w x n) h = h
   widths_fit ms (Block b) h = block_fits b (first_assigned b) h
@@ -290,7 +290,7 @@ no_links before (Input w x ∷ elements) h = no_links (before ++ Input w x ∷ [
 no_links before (Output w x v ∷ elements) h = no_links (before ++ Output w x v ∷ []) elements h.1
 no_links before (Outlet w x ∷ elements) h = absurd h.0
 no_links before (Wire w x v ∷ elements) h = no_links (before ++ Wire w x v ∷ []) elements h.1
-no_links before (Link w x ∷ elements) h = absurd h.0
+no_links before (InstanceWire w x ∷ elements) h = absurd h.0
 no_links before (Register w x ∷ elements) h = no_links (before ++ Register w x ∷ []) elements h.1
 no_links before (Memory w x n ∷ elements) h = no_links (before ++ Memory w x n ∷ []) elements h.1
 no_links before (Block b ∷ elements) h = no_links (before ++ Block b ∷ []) elements h.1
@@ -302,7 +302,7 @@ no_instances ms before (Input w x ∷ elements) h = no_instances ms (before ++ I
 no_instances ms before (Output w x v ∷ elements) h = no_instances ms (before ++ Output w x v ∷ []) elements h.1
 no_instances ms before (Outlet w x ∷ elements) h = absurd h.0
 no_instances ms before (Wire w x v ∷ elements) h = no_instances ms (before ++ Wire w x v ∷ []) elements h.1
-no_instances ms before (Link w x ∷ elements) h = absurd h.0
+no_instances ms before (InstanceWire w x ∷ elements) h = absurd h.0
 no_instances ms before (Register w x ∷ elements) h = no_instances ms (before ++ Register w x ∷ []) elements h.1
 no_instances ms before (Memory w x n ∷ elements) h = no_instances ms (before ++ Memory w x n ∷ []) elements h.1
 no_instances ms before (Block b ∷ elements) h = no_instances ms (before ++ Block b ∷ []) elements h.1
@@ -341,7 +341,7 @@ one_target before (Input w y) x h = omega arith
 one_target before (Output w y v) x h = omega arith
 one_target before (Outlet w y) x h = omega arith
 one_target before (Wire w y v) x h = omega arith
-one_target before (Link w y) x h = omega arith
+one_target before (InstanceWire w y) x h = omega arith
 one_target before (Register w y) x h = omega arith
 one_target before (Memory w y n) x h = omega arith
 one_target before (Instance k i ls) x h = omega arith

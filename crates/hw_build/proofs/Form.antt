@@ -18,7 +18,7 @@ use Rattle.vlog_tree.specs.Names.{is_name, starts_name, goes_on, is_keyword, alw
 use Rattle.vlog_tree.specs.Table.{Name}
 use Rattle.vlog_tree.specs.V3.{is_width}
 use Rattle.vlog_module_laws.proofs.Lists.{both_true}
-use Rattle.hw_build.specs.Elements.{Element, Input, Output, Outlet, Wire, Link, Register, Memory, Block, Instance}
+use Rattle.hw_build.specs.Elements.{Element, Input, Output, Outlet, Wire, InstanceWire, Register, Memory, Block, Instance}
 use Rattle.hw_build.specs.Forms.{is_element}
 use Rattle.hw_build.proofs.Forms.{yes_and}
 use Rattle.hw_build.proofs.Uses.{all_has, both_together, all_of_both}
@@ -97,7 +97,7 @@ module _ (before : List Element) (names : list_all is_name (named before) ≡ tr
   of_element (Output w x v) n h = yes_and (nat_le 1 w && is_name x) (is_value v) (yes_and (nat_le 1 w) (is_name x) (some_width w h.0) (both_true (is_name x) true n).0) (of_value w v h.1)
   of_element (Outlet w x) n h = absurd h
   of_element (Wire w x v) n h = yes_and (nat_le 1 w && is_name x) (is_value v) (yes_and (nat_le 1 w) (is_name x) (some_width w h.0) (both_true (is_name x) true n).0) (of_value w v h.1)
-  of_element (Link w x) n h = absurd h
+  of_element (InstanceWire w x) n h = absurd h
   of_element (Register w x) n h = yes_and (nat_le 1 w) (is_name x) (some_width w h) (both_true (is_name x) true n).0
   of_element (Memory w x c) n h =
       yes_and (nat_le 1 w && is_name x) (nat_le 1 c) (yes_and (nat_le 1 w) (is_name x) (some_width w h.0) (both_true (is_name x) true n).0) (both_true (nat_le 1 c) (nat_le c 1048576) h.1).0

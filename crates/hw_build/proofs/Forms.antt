@@ -8,7 +8,7 @@ use Rattle.vlog_tree.specs.Form.{ModuleTree, is_port, is_item, is_value, is_step
 use Rattle.vlog_tree.specs.Table.{Name, clk}
 use Rattle.vlog_tree.specs.Labels.{rst}
 use Rattle.vlog_module_laws.proofs.Lists.{both_true}
-use Rattle.hw_build.specs.Elements.{Element, Input, Output, Outlet, Wire, Link, Register, Memory, Block, Instance, built, with, with_all, empty, element_ports, element_items}
+use Rattle.hw_build.specs.Elements.{Element, Input, Output, Outlet, Wire, InstanceWire, Register, Memory, Block, Instance, built, with, with_all, empty, element_ports, element_items}
 use Rattle.hw_build.specs.Forms.{is_element}
 
 pub yes_and : (a b : Bool) → a ≡ true → b ≡ true → (a && b) ≡ true
@@ -34,7 +34,7 @@ ports_of (Input w x) h = and_true (nat_le 1 w && is_name x) h
 ports_of (Output w x v) h = and_true (nat_le 1 w && is_name x) (both_true (nat_le 1 w && is_name x) (is_value v) h).0
 ports_of (Outlet w x) h = and_true (nat_le 1 w && is_name x) h
 ports_of (Wire w x v) h = refl
-ports_of (Link w x) h = refl
+ports_of (InstanceWire w x) h = refl
 ports_of (Register w x) h = refl
 ports_of (Memory w x n) h = refl
 ports_of (Block b) h = refl
@@ -52,7 +52,7 @@ items_of (Input w x) h = refl
 items_of (Output w x v) h = assigned (nat_le 1 w) (is_name x) (is_value v) h
 items_of (Outlet w x) h = refl
 items_of (Wire w x v) h = declared_and_assigned (nat_le 1 w) (is_name x) (is_value v) h
-items_of (Link w x) h = and_true (nat_le 1 w && is_name x) h
+items_of (InstanceWire w x) h = and_true (nat_le 1 w && is_name x) h
 items_of (Register w x) h = and_true (nat_le 1 w && is_name x) h
 items_of (Memory w x n) h = and_true (nat_le 1 w && is_name x && nat_le 1 n) h
 items_of (Block b) h = and_true (nested [] b && list_all is_step b) h

@@ -17,7 +17,7 @@ use Rattle.vlog_tree.specs.V6.{module_children, has_port}
 use Rattle.vlog_tree.specs.Loops.{Rests, directly, through, after, LiesOnLoop, TextPlace, containment, own_containment, IsLoopless, value_nets, port_of, line_edges, connection_edge, direct_edges, asked_port, answer_edges, memory_edges, instances}
 use Rattle.tapa_base.proofs.Lists.{has_left, has_split, of_flat, of_map, has_flat}
 use Rattle.vlog_module_laws.proofs.Lists.{both_true, all_at}
-use Rattle.hw_build.specs.Elements.{Element, Input, Output, Outlet, Wire, Link, Register, Memory, Block, Instance, element_items, empty, built}
+use Rattle.hw_build.specs.Elements.{Element, Input, Output, Outlet, Wire, InstanceWire, Register, Memory, Block, Instance, element_items, empty, built}
 use Rattle.hw_build.specs.Forms.{is_element}
 use Rattle.hw_build.specs.Fitting.{declarations, first_table, table_after, is_new, are_kept, child_ports, AreFitting}
 use Rattle.hw_build.specs.Order.{place, RestsOnNoInput, InstancesKeepOrder, AnswersKeepOrder, child_names, ChildrenRestOnNoInput, FreeOutputsRestOnNoInput, is_closed_at, is_closed, output_names}
@@ -74,8 +74,8 @@ input_of free (Outlet w x) h d (inl s) k = let wrong : OutputNet ≡ InputNet = 
 input_of free (Outlet w x) h d (inr n) k = absurd n
 input_of free (Wire w x v) h d (inl s) k = let wrong : WireNet ≡ InputNet = ap (λ (z : Declaration). z.net_kind) s ∙ k in cc
 input_of free (Wire w x v) h d (inr n) k = absurd n
-input_of free (Link w x) h d (inl s) k = let wrong : WireNet ≡ InputNet = ap (λ (z : Declaration). z.net_kind) s ∙ k in cc
-input_of free (Link w x) h d (inr n) k = absurd n
+input_of free (InstanceWire w x) h d (inl s) k = let wrong : WireNet ≡ InputNet = ap (λ (z : Declaration). z.net_kind) s ∙ k in cc
+input_of free (InstanceWire w x) h d (inr n) k = absurd n
 input_of free (Register w x) h d (inl s) k = let wrong : RegisterNet ≡ InputNet = ap (λ (z : Declaration). z.net_kind) s ∙ k in cc
 input_of free (Register w x) h d (inr n) k = absurd n
 input_of free (Memory w x c) h d (inl s) k = let wrong : MemoryArray ≡ InputNet = ap (λ (z : Declaration). z.net_kind) s ∙ k in cc
@@ -93,8 +93,8 @@ output_of free (Input w x) h d (inl s) k = let wrong : InputNet ≡ OutputNet = 
 output_of free (Input w x) h d (inr n) k = absurd n
 output_of free (Wire w x v) h d (inl s) k = let wrong : WireNet ≡ OutputNet = ap (λ (z : Declaration). z.net_kind) s ∙ k in cc
 output_of free (Wire w x v) h d (inr n) k = absurd n
-output_of free (Link w x) h d (inl s) k = let wrong : WireNet ≡ OutputNet = ap (λ (z : Declaration). z.net_kind) s ∙ k in cc
-output_of free (Link w x) h d (inr n) k = absurd n
+output_of free (InstanceWire w x) h d (inl s) k = let wrong : WireNet ≡ OutputNet = ap (λ (z : Declaration). z.net_kind) s ∙ k in cc
+output_of free (InstanceWire w x) h d (inr n) k = absurd n
 output_of free (Register w x) h d (inl s) k = let wrong : RegisterNet ≡ OutputNet = ap (λ (z : Declaration). z.net_kind) s ∙ k in cc
 output_of free (Register w x) h d (inr n) k = absurd n
 output_of free (Memory w x c) h d (inl s) k = let wrong : MemoryArray ≡ OutputNet = ap (λ (z : Declaration). z.net_kind) s ∙ k in cc
@@ -193,8 +193,8 @@ module _ (ms : List ModuleTree) (is_top : Name → Bool) (name : Name) (elements
       (both_true (is_new (declared_at ms name elements fit form (Wire w z v) h).before z) _ (declared_at ms name elements fit form (Wire w z v) h).fits).1 (closed_at (Wire w z v) h) x y
       (subst (λ j. Has (line_edges ms j) (x, y)) (sym s) edge) f
   line_free (Wire w z v) h it (inr (inr n)) x y edge f = absurd n
-  line_free (Link w z) h it (inl s) x y edge f = absurd (subst (λ j. Has (line_edges ms j) (x, y)) (sym s) edge)
-  line_free (Link w z) h it (inr n) x y edge f = absurd n
+  line_free (InstanceWire w z) h it (inl s) x y edge f = absurd (subst (λ j. Has (line_edges ms j) (x, y)) (sym s) edge)
+  line_free (InstanceWire w z) h it (inr n) x y edge f = absurd n
   line_free (Register w z) h it (inl s) x y edge f = absurd (subst (λ j. Has (line_edges ms j) (x, y)) (sym s) edge)
   line_free (Register w z) h it (inr n) x y edge f = absurd n
   line_free (Memory w z c) h it (inl s) x y edge f = absurd (subst (λ j. Has (line_edges ms j) (x, y)) (sym s) edge)

@@ -10,7 +10,7 @@ use Rattle.vlog_tree.specs.Table.{Name, clk, net_kind_is_read, net_kind_is_regis
 use Rattle.vlog_tree.specs.Labels.{rst}
 use Rattle.tapa_base.proofs.Lists.{of_flat, has_flat}
 use Rattle.vlog_module_laws.proofs.Lists.{count_cons}
-use Rattle.hw_build.specs.Elements.{Element, Input, Output, Outlet, Wire, Link, Register, Memory, Block, Instance}
+use Rattle.hw_build.specs.Elements.{Element, Input, Output, Outlet, Wire, InstanceWire, Register, Memory, Block, Instance}
 use Rattle.hw_build.specs.Fitting.{declarations, first_table, table_after, is_new}
 use Rattle.hw_build.proofs.Tables.{times, clock_declared, reset_declared, count_append, stays, stays_new}
 use Rattle.hw_build.specs.Scope.{readable, register_of, memory_of, IsNet, IsRegister, IsMemory}
@@ -30,7 +30,7 @@ declares (Input w x) y = one_name (record { name = x; net_kind = InputNet; bits 
 declares (Output w x v) y = one_name (record { name = x; net_kind = OutputNet; bits = w; cells = 0 }) y
 declares (Outlet w x) y = one_name (record { name = x; net_kind = OutputNet; bits = w; cells = 0 }) y
 declares (Wire w x v) y = one_name (record { name = x; net_kind = WireNet; bits = w; cells = 0 }) y
-declares (Link w x) y = one_name (record { name = x; net_kind = WireNet; bits = w; cells = 0 }) y
+declares (InstanceWire w x) y = one_name (record { name = x; net_kind = WireNet; bits = w; cells = 0 }) y
 declares (Register w x) y = one_name (record { name = x; net_kind = RegisterNet; bits = w; cells = 0 }) y
 declares (Memory w x n) y = one_name (record { name = x; net_kind = MemoryArray; bits = w; cells = n }) y
 declares (Block b) y = refl
@@ -93,8 +93,8 @@ read_in (Outlet v y) x w (inl s) = one_in (Outlet v y) net_kind_is_read (record 
 read_in (Outlet v y) x w (inr n) = absurd n
 read_in (Wire v y d) x w (inl s) = one_in (Wire v y d) net_kind_is_read (record { name = y; net_kind = WireNet; bits = v; cells = 0 }) x w (inl refl) refl s
 read_in (Wire v y d) x w (inr n) = absurd n
-read_in (Link v y) x w (inl s) = one_in (Link v y) net_kind_is_read (record { name = y; net_kind = WireNet; bits = v; cells = 0 }) x w (inl refl) refl s
-read_in (Link v y) x w (inr n) = absurd n
+read_in (InstanceWire v y) x w (inl s) = one_in (InstanceWire v y) net_kind_is_read (record { name = y; net_kind = WireNet; bits = v; cells = 0 }) x w (inl refl) refl s
+read_in (InstanceWire v y) x w (inr n) = absurd n
 read_in (Register v y) x w (inl s) = one_in (Register v y) net_kind_is_read (record { name = y; net_kind = RegisterNet; bits = v; cells = 0 }) x w (inl refl) refl s
 read_in (Register v y) x w (inr n) = absurd n
 read_in (Memory v y c) x w h = absurd h
@@ -108,7 +108,7 @@ register_in (Input v y) x w h = absurd h
 register_in (Output v y d) x w h = absurd h
 register_in (Outlet v y) x w h = absurd h
 register_in (Wire v y d) x w h = absurd h
-register_in (Link v y) x w h = absurd h
+register_in (InstanceWire v y) x w h = absurd h
 register_in (Memory v y c) x w h = absurd h
 register_in (Block b) x w h = absurd h
 register_in (Instance k i ls) x w h = absurd h
@@ -120,7 +120,7 @@ memory_in (Input v y) x w h = absurd h
 memory_in (Output v y d) x w h = absurd h
 memory_in (Outlet v y) x w h = absurd h
 memory_in (Wire v y d) x w h = absurd h
-memory_in (Link v y) x w h = absurd h
+memory_in (InstanceWire v y) x w h = absurd h
 memory_in (Register v y) x w h = absurd h
 memory_in (Block b) x w h = absurd h
 memory_in (Instance k i ls) x w h = absurd h
@@ -160,8 +160,8 @@ name_of (Outlet v y) x w (inl s) = inl (ap (λ (q : Name × ℕ). q.0) s)
 name_of (Outlet v y) x w (inr n) = absurd n
 name_of (Wire v y d) x w (inl s) = inl (ap (λ (q : Name × ℕ). q.0) s)
 name_of (Wire v y d) x w (inr n) = absurd n
-name_of (Link v y) x w (inl s) = inl (ap (λ (q : Name × ℕ). q.0) s)
-name_of (Link v y) x w (inr n) = absurd n
+name_of (InstanceWire v y) x w (inl s) = inl (ap (λ (q : Name × ℕ). q.0) s)
+name_of (InstanceWire v y) x w (inr n) = absurd n
 name_of (Register v y) x w (inl s) = inl (ap (λ (q : Name × ℕ). q.0) s)
 name_of (Register v y) x w (inr n) = absurd n
 name_of (Memory v y c) x w h = absurd h
@@ -181,7 +181,7 @@ register_name_of (Input v y) x w h = absurd h
 register_name_of (Output v y d) x w h = absurd h
 register_name_of (Outlet v y) x w h = absurd h
 register_name_of (Wire v y d) x w h = absurd h
-register_name_of (Link v y) x w h = absurd h
+register_name_of (InstanceWire v y) x w h = absurd h
 register_name_of (Memory v y c) x w h = absurd h
 register_name_of (Block b) x w h = absurd h
 register_name_of (Instance k i ls) x w h = absurd h
@@ -198,7 +198,7 @@ memory_name_of (Input v y) x w h = absurd h
 memory_name_of (Output v y d) x w h = absurd h
 memory_name_of (Outlet v y) x w h = absurd h
 memory_name_of (Wire v y d) x w h = absurd h
-memory_name_of (Link v y) x w h = absurd h
+memory_name_of (InstanceWire v y) x w h = absurd h
 memory_name_of (Register v y) x w h = absurd h
 memory_name_of (Block b) x w h = absurd h
 memory_name_of (Instance k i ls) x w h = absurd h

@@ -21,7 +21,7 @@ use Rattle.tapa_base.proofs.Lists.{has_split, of_flat, of_map}
 use Rattle.vlog_module_laws.specs.Ranks.{FallsBy}
 use Rattle.vlog_module_laws.proofs.Ranks.{on_no_loop}
 use Rattle.vlog_module_laws.proofs.Lists.{both_true, both_false, count_cons, counted, none_counted}
-use Rattle.hw_build.specs.Elements.{Element, Input, Output, Outlet, Wire, Link, Register, Memory, Block, Instance, element_items, empty, built}
+use Rattle.hw_build.specs.Elements.{Element, Input, Output, Outlet, Wire, InstanceWire, Register, Memory, Block, Instance, element_items, empty, built}
 use Rattle.hw_build.specs.Forms.{is_element}
 use Rattle.hw_build.specs.Fitting.{declarations, first_table, table_after, is_new, are_kept, child_ports, AreFitting}
 use Rattle.hw_build.specs.Order.{place_in, place, StandsBefore, InstancesKeepOrder, AnswersKeepOrder}
@@ -109,8 +109,8 @@ declared_name (Outlet w x) h d (inl s) = subst (λ (z : Declaration). is_name z.
 declared_name (Outlet w x) h d (inr n) = absurd n
 declared_name (Wire w x v) h d (inl s) = subst (λ (z : Declaration). is_name z.name ≡ true) s (both_true (nat_le 1 w) (is_name x) (both_true (nat_le 1 w && is_name x) (is_value v) h).0).1
 declared_name (Wire w x v) h d (inr n) = absurd n
-declared_name (Link w x) h d (inl s) = subst (λ (z : Declaration). is_name z.name ≡ true) s (both_true (nat_le 1 w) (is_name x) h).1
-declared_name (Link w x) h d (inr n) = absurd n
+declared_name (InstanceWire w x) h d (inl s) = subst (λ (z : Declaration). is_name z.name ≡ true) s (both_true (nat_le 1 w) (is_name x) h).1
+declared_name (InstanceWire w x) h d (inr n) = absurd n
 declared_name (Register w x) h d (inl s) = subst (λ (z : Declaration). is_name z.name ≡ true) s (both_true (nat_le 1 w) (is_name x) h).1
 declared_name (Register w x) h d (inr n) = absurd n
 declared_name (Memory w x c) h d (inl s) = subst (λ (z : Declaration). is_name z.name ≡ true) s (both_true (nat_le 1 w) (is_name x) (both_true (nat_le 1 w && is_name x) (nat_le 1 c) h).0).1
@@ -145,7 +145,7 @@ child_at (Input w x ∷ elements) i = child_at elements i
 child_at (Output w x v ∷ elements) i = child_at elements i
 child_at (Outlet w x ∷ elements) i = child_at elements i
 child_at (Wire w x v ∷ elements) i = child_at elements i
-child_at (Link w x ∷ elements) i = child_at elements i
+child_at (InstanceWire w x ∷ elements) i = child_at elements i
 child_at (Register w x ∷ elements) i = child_at elements i
 child_at (Memory w x n ∷ elements) i = child_at elements i
 child_at (Block b ∷ elements) i = child_at elements i
@@ -178,8 +178,8 @@ child_is (Outlet w x ∷ elements) k i ls (inl s) low = cc
 child_is (Outlet w x ∷ elements) k i ls (inr h) low = child_is elements k i ls h (fewer (Outlet w x) elements i low)
 child_is (Wire w x v ∷ elements) k i ls (inl s) low = cc
 child_is (Wire w x v ∷ elements) k i ls (inr h) low = child_is elements k i ls h (fewer (Wire w x v) elements i low)
-child_is (Link w x ∷ elements) k i ls (inl s) low = cc
-child_is (Link w x ∷ elements) k i ls (inr h) low = child_is elements k i ls h (fewer (Link w x) elements i low)
+child_is (InstanceWire w x ∷ elements) k i ls (inl s) low = cc
+child_is (InstanceWire w x ∷ elements) k i ls (inr h) low = child_is elements k i ls h (fewer (InstanceWire w x) elements i low)
 child_is (Register w x ∷ elements) k i ls (inl s) low = cc
 child_is (Register w x ∷ elements) k i ls (inr h) low = child_is elements k i ls h (fewer (Register w x) elements i low)
 child_is (Memory w x n ∷ elements) k i ls (inl s) low = cc
@@ -393,8 +393,8 @@ module _ (ms : List ModuleTree) (name : Name) (elements : List Element) (fit : A
       assign_falls (Wire w z v) h (record { name = z; net_kind = WireNet; bits = w; cells = 0 }) v (inl refl) (both_true (is_new (declared_at (Wire w z v) h).before z) _ (declared_at (Wire w z v) h).fits).1 x y
       (subst (λ j. Has (line_edges ms j) (x, y)) (sym s) edge)
   line_falls (Wire w z v) h it (inr (inr n)) x y edge = absurd n
-  line_falls (Link w z) h it (inl s) x y edge = absurd (subst (λ j. Has (line_edges ms j) (x, y)) (sym s) edge)
-  line_falls (Link w z) h it (inr n) x y edge = absurd n
+  line_falls (InstanceWire w z) h it (inl s) x y edge = absurd (subst (λ j. Has (line_edges ms j) (x, y)) (sym s) edge)
+  line_falls (InstanceWire w z) h it (inr n) x y edge = absurd n
   line_falls (Register w z) h it (inl s) x y edge = absurd (subst (λ j. Has (line_edges ms j) (x, y)) (sym s) edge)
   line_falls (Register w z) h it (inr n) x y edge = absurd n
   line_falls (Memory w z c) h it (inl s) x y edge = absurd (subst (λ j. Has (line_edges ms j) (x, y)) (sym s) edge)
@@ -418,8 +418,8 @@ module _ (ms : List ModuleTree) (name : Name) (elements : List Element) (fit : A
   instance_of kn i (Wire w x v) h it (inl s) inst = absurd (subst (λ j. Has (item_instances j) (kn, i)) (sym s) inst)
   instance_of kn i (Wire w x v) h it (inr (inl s)) inst = absurd (subst (λ j. Has (item_instances j) (kn, i)) (sym s) inst)
   instance_of kn i (Wire w x v) h it (inr (inr n)) inst = absurd n
-  instance_of kn i (Link w x) h it (inl s) inst = absurd (subst (λ j. Has (item_instances j) (kn, i)) (sym s) inst)
-  instance_of kn i (Link w x) h it (inr n) inst = absurd n
+  instance_of kn i (InstanceWire w x) h it (inl s) inst = absurd (subst (λ j. Has (item_instances j) (kn, i)) (sym s) inst)
+  instance_of kn i (InstanceWire w x) h it (inr n) inst = absurd n
   instance_of kn i (Register w x) h it (inl s) inst = absurd (subst (λ j. Has (item_instances j) (kn, i)) (sym s) inst)
   instance_of kn i (Register w x) h it (inr n) inst = absurd n
   instance_of kn i (Memory w x c) h it (inl s) inst = absurd (subst (λ j. Has (item_instances j) (kn, i)) (sym s) inst)

@@ -16,7 +16,7 @@ use Rattle.tapa_base.specs.Lists.{Has}
 use Rattle.vlog_tree.specs.Table.{Name}
 use Rattle.vlog_tree.specs.V3.{is_width}
 use Rattle.tapa_base.proofs.Lists.{has_left, has_right, has_split, has_flat, of_flat}
-use Rattle.hw_build.specs.Elements.{Element, Input, Output, Outlet, Wire, Link, Register, Memory, Block, Instance}
+use Rattle.hw_build.specs.Elements.{Element, Input, Output, Outlet, Wire, InstanceWire, Register, Memory, Block, Instance}
 use Rattle.hw_build.specs.Trees.{numbered, tree_node, tree_nodes}
 use Rattle.hw_build.specs.Scope.{each, readable, register_of, memory_of, IsNet, IsRegister, IsMemory, AtomIs, OpIs, PartsAre, ValueIs, StepIs, first_assigned, IsBlockOf, FitsAfter, FitInOrder}
 use Rattle.hw_build.specs.Fits.{IsAmong}
@@ -101,7 +101,7 @@ module _ (some all : List Element) (among : IsAmong some all) where
   fits_more (Output w x v) h = (h.0, value_more w v h.1)
   fits_more (Outlet w x) h = h
   fits_more (Wire w x v) h = (h.0, value_more w v h.1)
-  fits_more (Link w x) h = h
+  fits_more (InstanceWire w x) h = h
   fits_more (Register w x) h = h
   fits_more (Memory w x n) h = h
   fits_more (Block b) h = block_more b (first_assigned b) h

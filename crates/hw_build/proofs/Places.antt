@@ -15,7 +15,7 @@ use Rattle.vlog_tree.specs.V2.{read_use, memory_use, atom_uses, value_uses}
 use Rattle.vlog_tree.specs.Loops.{atom_nets, value_nets}
 use Rattle.tapa_base.proofs.Lists.{has_left, has_split, of_flat}
 use Rattle.vlog_module_laws.proofs.Lists.{count_cons, counted, both_true}
-use Rattle.hw_build.specs.Elements.{Element, Input, Output, Outlet, Wire, Link, Register, Memory, Block, Instance}
+use Rattle.hw_build.specs.Elements.{Element, Input, Output, Outlet, Wire, InstanceWire, Register, Memory, Block, Instance}
 use Rattle.hw_build.specs.Fitting.{declarations, table_after, is_new, are_kept, has_fitting_names, have_fitting_names}
 use Rattle.hw_build.specs.Order.{place_in}
 use Rattle.hw_build.proofs.Tables.{times, is_known, known, count_append, same_name, new_is_none}
@@ -72,7 +72,7 @@ place_with ms t (Input w y) x n h = place_more (record { name = y; net_kind = In
 place_with ms t (Output w y v) x n h = place_more (record { name = y; net_kind = OutputNet; bits = w; cells = 0 }) t x (both_true (is_new t y) (are_kept (value_uses t v)) n).0 h
 place_with ms t (Outlet w y) x n h = place_more (record { name = y; net_kind = OutputNet; bits = w; cells = 0 }) t x n h
 place_with ms t (Wire w y v) x n h = place_more (record { name = y; net_kind = WireNet; bits = w; cells = 0 }) t x (both_true (is_new t y) (are_kept (value_uses t v)) n).0 h
-place_with ms t (Link w y) x n h = place_more (record { name = y; net_kind = WireNet; bits = w; cells = 0 }) t x n h
+place_with ms t (InstanceWire w y) x n h = place_more (record { name = y; net_kind = WireNet; bits = w; cells = 0 }) t x n h
 place_with ms t (Register w y) x n h = place_more (record { name = y; net_kind = RegisterNet; bits = w; cells = 0 }) t x n h
 place_with ms t (Memory w y c) x n h = place_more (record { name = y; net_kind = MemoryArray; bits = w; cells = c }) t x n h
 place_with ms t (Block b) x n h = refl
@@ -100,8 +100,8 @@ place_new (Outlet w x) t d (inl s) = subst (λ (z : Declaration). place_in (reco
 place_new (Outlet w x) t d (inr n) = absurd n
 place_new (Wire w x v) t d (inl s) = subst (λ (z : Declaration). place_in (record { name = x; net_kind = WireNet; bits = w; cells = 0 } ∷ t) z.name ≡ suc (length t)) s (place_top (record { name = x; net_kind = WireNet; bits = w; cells = 0 }) t)
 place_new (Wire w x v) t d (inr n) = absurd n
-place_new (Link w x) t d (inl s) = subst (λ (z : Declaration). place_in (record { name = x; net_kind = WireNet; bits = w; cells = 0 } ∷ t) z.name ≡ suc (length t)) s (place_top (record { name = x; net_kind = WireNet; bits = w; cells = 0 }) t)
-place_new (Link w x) t d (inr n) = absurd n
+place_new (InstanceWire w x) t d (inl s) = subst (λ (z : Declaration). place_in (record { name = x; net_kind = WireNet; bits = w; cells = 0 } ∷ t) z.name ≡ suc (length t)) s (place_top (record { name = x; net_kind = WireNet; bits = w; cells = 0 }) t)
+place_new (InstanceWire w x) t d (inr n) = absurd n
 place_new (Register w x) t d (inl s) = subst (λ (z : Declaration). place_in (record { name = x; net_kind = RegisterNet; bits = w; cells = 0 } ∷ t) z.name ≡ suc (length t)) s (place_top (record { name = x; net_kind = RegisterNet; bits = w; cells = 0 }) t)
 place_new (Register w x) t d (inr n) = absurd n
 place_new (Memory w x c) t d (inl s) = subst (λ (z : Declaration). place_in (record { name = x; net_kind = MemoryArray; bits = w; cells = c } ∷ t) z.name ≡ suc (length t)) s (place_top (record { name = x; net_kind = MemoryArray; bits = w; cells = c }) t)

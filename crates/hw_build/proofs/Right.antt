@@ -20,7 +20,7 @@ use Rattle.vlog_tree.specs.V4.{line_driven, is_block_of, breaks_driving, driving
 use Rattle.tapa_base.proofs.Lists.{of_map, has_left, has_right}
 use Rattle.vlog_module_laws.specs.Larger.{IsRightBeside}
 use Rattle.vlog_module_laws.proofs.Lists.{both_true, counted, all_right}
-use Rattle.hw_build.specs.Elements.{Element, Input, Output, Outlet, Wire, Link, Register, Memory, Block, Instance, element_ports, element_items, empty, built}
+use Rattle.hw_build.specs.Elements.{Element, Input, Output, Outlet, Wire, InstanceWire, Register, Memory, Block, Instance, element_ports, element_items, empty, built}
 use Rattle.hw_build.specs.Fitting.{declarations, first_table, table_after, is_new, are_kept, child_ports, has_fitting_names, have_fitting_names, HasFittingWidths, HaveFittingWidths, ValueFits, AreFitting}
 use Rattle.hw_build.proofs.Forms.{yes_and}
 use Rattle.hw_build.proofs.Tables.{times, clock_declared, reset_declared, is_known, same_name, new_is_none, AreDistinct, distinct_all, distinct_more, found, same_in, stays, IsTable, table_of_all, first_is_table, items_of_all, ports_of_all, name_of_all}
@@ -152,7 +152,7 @@ module _ (ms : List ModuleTree) (all : List Declaration) (distinct : AreDistinct
             (yes_and (not (not (net_fits all x && value_fits all (bits_of all x) v))) true (driver_widths d v (new d (inl refl)) f.0 both.1 f.1) refl);
       }
 
-  link_right : (w : ℕ) (x : Name) → Right (Link w x)
+  link_right : (w : ℕ) (x : Name) → Right (InstanceWire w x)
   unfolding item_uses item_widths
   link_right w x new names wide = record { ports = refl; uses = yes_and (not (is_doubled_name all x || is_clk x)) true (inner_ok x names) refl; port_widths = refl; widths = kept_width w wide }
 
@@ -199,7 +199,7 @@ module _ (ms : List ModuleTree) (all : List Declaration) (distinct : AreDistinct
   element_right (Output w x v) = output_right w x v
   element_right (Outlet w x) = outlet_right w x
   element_right (Wire w x v) = wire_right w x v
-  element_right (Link w x) = link_right w x
+  element_right (InstanceWire w x) = link_right w x
   element_right (Register w x) = register_right w x
   element_right (Memory w x n) = memory_right w x n
   element_right (Block b) = block_right b
@@ -214,7 +214,7 @@ sized_with ms t (Input w x) h s = sized_more (record { name = x; net_kind = Inpu
 sized_with ms t (Output w x v) h s = sized_more (record { name = x; net_kind = OutputNet; bits = w; cells = 0 }) t h.0 s
 sized_with ms t (Outlet w x) h s = sized_more (record { name = x; net_kind = OutputNet; bits = w; cells = 0 }) t h s
 sized_with ms t (Wire w x v) h s = sized_more (record { name = x; net_kind = WireNet; bits = w; cells = 0 }) t h.0 s
-sized_with ms t (Link w x) h s = sized_more (record { name = x; net_kind = WireNet; bits = w; cells = 0 }) t h s
+sized_with ms t (InstanceWire w x) h s = sized_more (record { name = x; net_kind = WireNet; bits = w; cells = 0 }) t h s
 sized_with ms t (Register w x) h s = sized_more (record { name = x; net_kind = RegisterNet; bits = w; cells = 0 }) t h s
 sized_with ms t (Memory w x n) h s = sized_more (record { name = x; net_kind = MemoryArray; bits = w; cells = n }) t (yes_and (is_width w) (is_cell_count n) h.0 h.1) s
 sized_with ms t (Block b) h s = s

@@ -16,7 +16,7 @@ use Rattle.vlog_tree.specs.Labels.{rst}
 use Rattle.vlog_tree.specs.Table.{Name, clk, declared, port_declared, items_declared, find_name, net_kind_of, one_if}
 use Rattle.tapa_base.proofs.Lists.{has_left, has_right, has_split}
 use Rattle.vlog_module_laws.proofs.Lists.{count_cons, counted, none_counted, both_true, both_false}
-use Rattle.hw_build.specs.Elements.{Element, Input, Output, Outlet, Wire, Link, Register, Memory, Block, Instance, element_ports, element_items, empty, with, with_all}
+use Rattle.hw_build.specs.Elements.{Element, Input, Output, Outlet, Wire, InstanceWire, Register, Memory, Block, Instance, element_ports, element_items, empty, with, with_all}
 use Rattle.hw_build.specs.Fitting.{declarations, first_table, table_after, is_new, has_fitting_names, have_fitting_names}
 
 abbrev pub clock_declared : Declaration
@@ -180,7 +180,7 @@ distinct_with ms t (Input w x) h d = distinct_more (record { name = x; net_kind 
 distinct_with ms t (Output w x v) h d = distinct_more (record { name = x; net_kind = OutputNet; bits = w; cells = 0 }) t (both_true (is_new t x) _ h).0 d
 distinct_with ms t (Outlet w x) h d = distinct_more (record { name = x; net_kind = OutputNet; bits = w; cells = 0 }) t h d
 distinct_with ms t (Wire w x v) h d = distinct_more (record { name = x; net_kind = WireNet; bits = w; cells = 0 }) t (both_true (is_new t x) _ h).0 d
-distinct_with ms t (Link w x) h d = distinct_more (record { name = x; net_kind = WireNet; bits = w; cells = 0 }) t h d
+distinct_with ms t (InstanceWire w x) h d = distinct_more (record { name = x; net_kind = WireNet; bits = w; cells = 0 }) t h d
 distinct_with ms t (Register w x) h d = distinct_more (record { name = x; net_kind = RegisterNet; bits = w; cells = 0 }) t h d
 distinct_with ms t (Memory w x n) h d = distinct_more (record { name = x; net_kind = MemoryArray; bits = w; cells = n }) t h d
 distinct_with ms t (Block b) h d = d

@@ -1,4 +1,4 @@
--- Choices among values that have conditions, as ors of values behind gates: one value stays where its condition is the only
+-- Choices among values that have conditions, as ors of gated values: the result is the value whose condition is the only
 -- one that holds.
 use Rattle.std.specs.Prelude.{◌≡◌, ℕ, zero, suc, ◌-◌, ◌<◌, ◌⊎◌, List, [], ◌∷◌, ◌++◌, length, IsTrue}
 use Rattle.vlog_tree.specs.declared.tree.Atom.{Atom}
@@ -66,5 +66,6 @@ AnyFits = (before : List Element) (front : Name) (entries : List Entry) → ((e 
 
 abbrev pub PickFits : Type 0
 PickFits =
-    (before : List Element) (width : ℕ) (front : Name) (entries : List Entry) → IsTrue (is_width width) → ((e : Entry) → Has entries e → IsNet before e.condition 1 × AtomIs before width e.value)
+    (before : List Element) (width : ℕ) (front : Name) (entries : List Entry) → IsTrue (is_width width)
+    → ((e : Entry) → Has entries e → IsNet before e.condition 1 × AtomIs before width e.value)
     → FitInOrder before (pick_elements width front entries)

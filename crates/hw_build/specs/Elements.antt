@@ -13,14 +13,14 @@ use Rattle.vlog_tree.specs.Form.{ModuleTree}
 use Rattle.vlog_tree.specs.Table.{Name, clk}
 use Rattle.vlog_tree.specs.Labels.{rst}
 
--- An output and a wire come with their drivers; an outlet is an output and a link a wire that an instance drives. A register
+-- An output and a wire come with their drivers; `Outlet` is an output and `InstanceWire` a wire that an instance drives. A register
 -- and a memory are assigned in a block of their own.
 pub data Element : Type 0 where
   Input : ℕ → Name → Element
   Output : ℕ → Name → Value → Element
   Outlet : ℕ → Name → Element
   Wire : ℕ → Name → Value → Element
-  Link : ℕ → Name → Element
+  InstanceWire : ℕ → Name → Element
   Register : ℕ → Name → Element
   Memory : ℕ → Name → ℕ → Element
   Block : List Step → Element
@@ -31,7 +31,7 @@ element_ports (Input w x) = record { direction = Inward; width = w; name = x } �
 element_ports (Output w x v) = record { direction = Outward; width = w; name = x } ∷ []
 element_ports (Outlet w x) = record { direction = Outward; width = w; name = x } ∷ []
 element_ports (Wire w x v) = []
-element_ports (Link w x) = []
+element_ports (InstanceWire w x) = []
 element_ports (Register w x) = []
 element_ports (Memory w x n) = []
 element_ports (Block b) = []
@@ -42,7 +42,7 @@ element_items (Input w x) = []
 element_items (Output w x v) = AssignLine x v ∷ []
 element_items (Outlet w x) = []
 element_items (Wire w x v) = WireLine w x ∷ AssignLine x v ∷ []
-element_items (Link w x) = WireLine w x ∷ []
+element_items (InstanceWire w x) = WireLine w x ∷ []
 element_items (Register w x) = RegisterLine w x ∷ []
 element_items (Memory w x n) = MemoryLine w x n ∷ []
 element_items (Block b) = BlockLine b ∷ []
@@ -79,6 +79,6 @@ reset_or x first next = If rst ∷ NonblockingAssign x first ∷ Else ∷ Nonblo
 abbrev pub reset_or_set : Name → Atom → Name → Atom → List Step
 reset_or_set x first set next = If rst ∷ NonblockingAssign x first ∷ Else ∷ If set ∷ NonblockingAssign x next ∷ End ∷ End ∷ []
 
--- a memory with one place for writing
+-- a memory with one write port
 abbrev pub stored : Name → Name → Name → Atom → List Step
 stored m write index value = If write ∷ MemoryAssign m index value ∷ End ∷ []

@@ -1,4 +1,4 @@
--- When elements without instances fit: each behind those before it, every name once, every block with a target of its own.
+-- When elements without instances fit: each after those before it, every name once, every block with a target of its own.
 use Rattle.std.specs.Prelude.{◌≡◌, ℕ, ◌<◌, ◌≤◌, true, List, [], ◌∷◌, ◌++◌, IsTrue}
 use Rattle.std.specs.List.{flat_map, list_all}
 use Rattle.vlog_tree.specs.Form.{ModuleTree}
@@ -7,7 +7,7 @@ use Rattle.vlog_tree.specs.Labels.{rst}
 use Rattle.vlog_tree.specs.Names.{is_name}
 use Rattle.vlog_tree.specs.Table.{Name, clk, times_in}
 use Rattle.vlog_tree.specs.V3.{is_width}
-use Rattle.hw_build.specs.Elements.{Element, Input, Output, Outlet, Wire, Link, Register, Memory, Block, Instance}
+use Rattle.hw_build.specs.Elements.{Element, Input, Output, Outlet, Wire, InstanceWire, Register, Memory, Block, Instance}
 use Rattle.hw_build.specs.Fitting.{AreFitting}
 use Rattle.hw_build.specs.Forms.{is_element}
 use Rattle.hw_build.specs.Trees.{tree_nodes, numbered}
@@ -19,7 +19,7 @@ declared_names (Input w x) = x ∷ []
 declared_names (Output w x v) = x ∷ []
 declared_names (Outlet w x) = x ∷ []
 declared_names (Wire w x v) = x ∷ []
-declared_names (Link w x) = x ∷ []
+declared_names (InstanceWire w x) = x ∷ []
 declared_names (Register w x) = x ∷ []
 declared_names (Memory w x n) = x ∷ []
 declared_names (Block b) = []
@@ -32,12 +32,12 @@ targets (Input w x) = []
 targets (Output w x v) = []
 targets (Outlet w x) = []
 targets (Wire w x v) = []
-targets (Link w x) = []
+targets (InstanceWire w x) = []
 targets (Register w x) = []
 targets (Memory w x n) = []
 targets (Instance k i connections) = []
 
--- no name stands twice
+-- no name occurs twice
 abbrev pub AreOnce : List Name → Type 0
 AreOnce names = (x : Name) → times_in names x ≤ 1
 
@@ -57,7 +57,7 @@ AloneHasForm = (elements : List Element) → FitAlone elements → list_all is_n
 abbrev pub IsAmong : List Element → List Element → Type 0
 IsAmong some all = (e : Element) → Has some e → Has all e
 
--- what fits behind some elements fits behind more
+-- what fits after some elements fits after more
 abbrev pub FitsAfterMore : Type 0
 FitsAfterMore = (some all : List Element) → IsAmong some all → (elements : List Element) → FitInOrder some elements → FitInOrder all elements
 
@@ -73,7 +73,7 @@ EachFits = (before elements : List Element) → ((e : Element) → Has elements 
 abbrev pub EachPartFits : Type 0
 EachPartFits = (before : List Element) (f : ℕ → List Element) (n : ℕ) → ((k : ℕ) → k < n → FitInOrder before (f k)) → FitInOrder before (each f n)
 
--- the nodes of a tree fit behind its leaves
+-- the nodes of a tree fit after its leaves
 abbrev pub TreesFit : Type 0
 TreesFit =
     (before : List Element) (width : ℕ) (front : Name) (leaves m : ℕ) → IsTrue (is_width width) → ((j : ℕ) → j < leaves → IsNet before (numbered front j) width)

@@ -1,7 +1,7 @@
 -- Which elements fit one after another, so that what is built of them breaks no rule on names, widths and drivers.
 --
--- An element fits beside what stands before it: the names that it declares are new there, its driver and its blocks read
--- names that are declared there, and widths agree. So registers stand before what reads them, and links before the
+-- An element fits after the elements before it: the names that it declares are new there, its driver and its blocks read
+-- names that are declared there, and widths agree. So registers come before what reads them, and `InstanceWire`s before the
 -- instances that drive them. Drivers are counted over all elements.
 use Rattle.std.specs.Prelude.{◌≡◌, ℕ, ◌+◌, ◌-◌, ◌*◌, ◌^◌, ◌<◌, ◌≤◌, Bool, true, false, ◌&&◌, ◌==◌, List, [], ◌∷◌, ◌++◌, nat_le, bytes_eq, map, sum, count_by, not, IsTrue}
 use Rattle.std.specs.List.{list_any, list_all, flat_map, AllByRecursion}
@@ -23,13 +23,13 @@ use Rattle.vlog_tree.specs.V2.{value_uses, step_uses, connection_uses, all_conne
 use Rattle.vlog_tree.specs.V3.{is_width, is_cell_count, atom_bits, is_divisor}
 use Rattle.vlog_tree.specs.V4.{line_driven, step_assigns}
 use Rattle.vlog_module_laws.specs.Larger.{IsRightBeside}
-use Rattle.hw_build.specs.Elements.{Element, Input, Output, Outlet, Wire, Link, Register, Memory, Block, Instance, element_ports, element_items, empty, built}
+use Rattle.hw_build.specs.Elements.{Element, Input, Output, Outlet, Wire, InstanceWire, Register, Memory, Block, Instance, element_ports, element_items, empty, built}
 
 -- what an element declares
 abbrev pub declarations : Element → List Declaration
 declarations e = map port_declared (element_ports e) ++ items_declared (element_items e)
 
--- what stands before the first element: the clock and the reset
+-- the declarations before the first element: the clock and the reset
 abbrev pub first_table : List Declaration
 first_table = map port_declared (empty []).ports
 
@@ -54,7 +54,7 @@ has_fitting_names ms t (Input w x) = is_new t x
 has_fitting_names ms t (Output w x v) = is_new t x && are_kept (value_uses t v)
 has_fitting_names ms t (Outlet w x) = is_new t x
 has_fitting_names ms t (Wire w x v) = is_new t x && are_kept (value_uses t v)
-has_fitting_names ms t (Link w x) = is_new t x
+has_fitting_names ms t (InstanceWire w x) = is_new t x
 has_fitting_names ms t (Register w x) = is_new t x
 has_fitting_names ms t (Memory w x n) = is_new t x
 has_fitting_names ms t (Block b) = are_kept (flat_map (step_uses t) b)
@@ -116,7 +116,7 @@ HasFittingWidths ms t (Input w x) = IsTrue (is_width w)
 HasFittingWidths ms t (Output w x v) = IsTrue (is_width w) × ValueFits t w v
 HasFittingWidths ms t (Outlet w x) = IsTrue (is_width w)
 HasFittingWidths ms t (Wire w x v) = IsTrue (is_width w) × ValueFits t w v
-HasFittingWidths ms t (Link w x) = IsTrue (is_width w)
+HasFittingWidths ms t (InstanceWire w x) = IsTrue (is_width w)
 HasFittingWidths ms t (Register w x) = IsTrue (is_width w)
 HasFittingWidths ms t (Memory w x n) = IsTrue (is_width w) × IsTrue (is_cell_count n)
 HasFittingWidths ms t (Block b) = AllByRecursion (StepFits t) b
@@ -129,7 +129,7 @@ HaveFittingWidths ms t (e ∷ elements) = HasFittingWidths ms t e × HaveFitting
 -- the nets that instances are to drive
 abbrev pub link_names : Element → List Name
 link_names (Outlet w x) = x ∷ []
-link_names (Link w x) = x ∷ []
+link_names (InstanceWire w x) = x ∷ []
 link_names (Input w x) = []
 link_names (Output w x v) = []
 link_names (Wire w x v) = []
@@ -145,7 +145,7 @@ instance_driven ms (Input w x) = []
 instance_driven ms (Output w x v) = []
 instance_driven ms (Outlet w x) = []
 instance_driven ms (Wire w x v) = []
-instance_driven ms (Link w x) = []
+instance_driven ms (InstanceWire w x) = []
 instance_driven ms (Register w x) = []
 instance_driven ms (Memory w x n) = []
 instance_driven ms (Block b) = []
@@ -158,7 +158,7 @@ stored_names (Input w x) = []
 stored_names (Output w x v) = []
 stored_names (Outlet w x) = []
 stored_names (Wire w x v) = []
-stored_names (Link w x) = []
+stored_names (InstanceWire w x) = []
 stored_names (Block b) = []
 stored_names (Instance k i connections) = []
 
@@ -169,12 +169,12 @@ assigns x (Input w y) = false
 assigns x (Output w y v) = false
 assigns x (Outlet w y) = false
 assigns x (Wire w y v) = false
-assigns x (Link w y) = false
+assigns x (InstanceWire w y) = false
 assigns x (Register w y) = false
 assigns x (Memory w y n) = false
 assigns x (Instance k i connections) = false
 
--- instances drive each outlet and each link once, and nothing else
+-- instances drive each `Outlet` and each `InstanceWire` once, and nothing else
 abbrev pub drive_links_once : List ModuleTree → List Element → Bool
 drive_links_once ms elements =
     list_all (λ x. times_in (flat_map (instance_driven ms) elements) x == 1) (flat_map link_names elements)
@@ -184,7 +184,7 @@ drive_links_once ms elements =
 abbrev pub have_own_blocks : List Element → Bool
 have_own_blocks elements = list_all (λ x. nat_le (count_by (assigns x) elements) 1) (flat_map stored_names elements)
 
--- elements that fit one after another, beside modules among which those of their instances stand
+-- elements that fit one after another, beside modules that include those of their instances
 pub record AreFitting (ms : List ModuleTree) (elements : List Element) : Type 0 where
   pub names : IsTrue (have_fitting_names ms first_table elements)
   pub widths : HaveFittingWidths ms first_table elements
@@ -193,4 +193,5 @@ pub record AreFitting (ms : List ModuleTree) (elements : List Element) : Type 0 
 
 -- what is built of them is right in names, widths and drivers
 abbrev pub BuiltIsRight : Type 0
-BuiltIsRight = (ms : List ModuleTree) (name : Name) (elements : List Element) → is_doubled_name (map module_declared ms) name ≡ false → AreFitting ms elements → IsRightBeside ms (built name elements)
+BuiltIsRight =
+    (ms : List ModuleTree) (name : Name) (elements : List Element) → is_doubled_name (map module_declared ms) name ≡ false → AreFitting ms elements → IsRightBeside ms (built name elements)

@@ -4,14 +4,14 @@ use Rattle.std.specs.List.{list_all}
 use Rattle.vlog_tree.specs.Names.{is_name}
 use Rattle.vlog_tree.specs.Form.{is_value, is_step, is_connection, nested, IsModule}
 use Rattle.vlog_tree.specs.Table.{Name}
-use Rattle.hw_build.specs.Elements.{Element, Input, Output, Outlet, Wire, Link, Register, Memory, Block, Instance, built}
+use Rattle.hw_build.specs.Elements.{Element, Input, Output, Outlet, Wire, InstanceWire, Register, Memory, Block, Instance, built}
 
 abbrev pub is_element : Element → Bool
 is_element (Input w x) = nat_le 1 w && is_name x
 is_element (Output w x v) = nat_le 1 w && is_name x && is_value v
 is_element (Outlet w x) = nat_le 1 w && is_name x
 is_element (Wire w x v) = nat_le 1 w && is_name x && is_value v
-is_element (Link w x) = nat_le 1 w && is_name x
+is_element (InstanceWire w x) = nat_le 1 w && is_name x
 is_element (Register w x) = nat_le 1 w && is_name x
 is_element (Memory w x n) = nat_le 1 w && is_name x && nat_le 1 n
 is_element (Block b) = nested [] b && list_all is_step b

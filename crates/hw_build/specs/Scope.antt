@@ -1,4 +1,4 @@
--- Elements of a module without instances, each fitting behind those before it.
+-- Elements of a module without instances, each fitting after those before it.
 --
 -- What an element reads is declared by elements before it, with the width that is asked for. So a list that grows with what
 -- it is made of is looked at part by part, without a table of all that is declared.
@@ -17,7 +17,7 @@ use Rattle.tapa_base.specs.Lists.{Has}
 use Rattle.vlog_tree.specs.Labels.{rst}
 use Rattle.vlog_tree.specs.Table.{Name}
 use Rattle.vlog_tree.specs.V3.{is_width, is_cell_count, is_divisor}
-use Rattle.hw_build.specs.Elements.{Element, Input, Output, Outlet, Wire, Link, Register, Memory, Block, Instance}
+use Rattle.hw_build.specs.Elements.{Element, Input, Output, Outlet, Wire, InstanceWire, Register, Memory, Block, Instance}
 
 -- f 0, f 1 and so on, n of them
 abbrev pub each : {A : Type 0} → (ℕ → List A) → ℕ → List A
@@ -30,7 +30,7 @@ readable (Input w x) = (x, w) ∷ []
 readable (Output w x v) = (x, w) ∷ []
 readable (Outlet w x) = (x, w) ∷ []
 readable (Wire w x v) = (x, w) ∷ []
-readable (Link w x) = (x, w) ∷ []
+readable (InstanceWire w x) = (x, w) ∷ []
 readable (Register w x) = (x, w) ∷ []
 readable (Memory w x n) = []
 readable (Block b) = []
@@ -42,7 +42,7 @@ register_of (Input w x) = []
 register_of (Output w x v) = []
 register_of (Outlet w x) = []
 register_of (Wire w x v) = []
-register_of (Link w x) = []
+register_of (InstanceWire w x) = []
 register_of (Memory w x n) = []
 register_of (Block b) = []
 register_of (Instance k i connections) = []
@@ -53,7 +53,7 @@ memory_of (Input w x) = []
 memory_of (Output w x v) = []
 memory_of (Outlet w x) = []
 memory_of (Wire w x v) = []
-memory_of (Link w x) = []
+memory_of (InstanceWire w x) = []
 memory_of (Register w x) = []
 memory_of (Block b) = []
 memory_of (Instance k i connections) = []
@@ -133,13 +133,13 @@ abbrev pub IsBlockOf : List Element → List Step → List Name → Type 0
 IsBlockOf before b [] = ⊥
 IsBlockOf before b (x ∷ xs) = IsTrue (nested [] b) × AllByRecursion (StepIs before x) b
 
--- an element behind others
+-- an element after others
 abbrev pub FitsAfter : List Element → Element → Type 0
 FitsAfter before (Input w x) = IsTrue (is_width w)
 FitsAfter before (Output w x v) = IsTrue (is_width w) × ValueIs before w v
 FitsAfter before (Outlet w x) = ⊥
 FitsAfter before (Wire w x v) = IsTrue (is_width w) × ValueIs before w v
-FitsAfter before (Link w x) = ⊥
+FitsAfter before (InstanceWire w x) = ⊥
 FitsAfter before (Register w x) = IsTrue (is_width w)
 FitsAfter before (Memory w x n) = IsTrue (is_width w) × IsTrue (is_cell_count n)
 FitsAfter before (Block b) = IsBlockOf before b (first_assigned b)

@@ -1,4 +1,4 @@
--- Values behind gates, and trees of ors over numbered nets, each node over two nets before it.
+-- Gated values, and trees of ors over numbered nets, each node over two nets before it.
 use Rattle.std.specs.Prelude.{◌≡◌, ℕ, zero, suc, ◌+◌, ◌-◌, ◌*◌, ◌<◌, List, [], ◌∷◌, ◌++◌, bit_or, decimal, ◌==◌, if◌then◌else◌}
 use Rattle.vlog_tree.specs.declared.tree.Atom.{Atom}
 use Rattle.vlog_tree.specs.declared.tree.Atom.TheVariants.{Net, Literal}
@@ -16,9 +16,8 @@ numbered front n = front ++ 95 ∷ decimal n
 abbrev pub gated : (width : ℕ) (x condition : Name) → Atom → Element
 gated width x condition value = Wire width x (Choose (Net condition) value (Literal width 0))
 
--- Over so many leaves, which are the nets 0, 1 and so on, node m is the net behind the leaves and the nodes before it, and
--- has the nets 2 m and 2 m + 1. So the last of one node fewer than leaves has all of them below it, at depths that differ
--- by one at most.
+-- Node m of a tree over the leaves, which are the nets 0, 1 and so on, is the net leaves + m, the or of the nets 2 m and
+-- 2 m + 1. So the last of one node fewer than leaves has all of them below it, at depths that differ by one at most.
 abbrev pub tree_node : (width : ℕ) (front : Name) (leaves m : ℕ) → Element
 tree_node width front leaves m = Wire width (numbered front (leaves + m)) (Binary (Net (numbered front (2 * m))) Or (Net (numbered front (2 * m + 1))))
 
@@ -30,7 +29,7 @@ tree_nodes width front leaves (suc m) = tree_nodes width front leaves m ++ tree_
 abbrev pub tree_root : Name → (leaves : ℕ) → Name
 tree_root front leaves = numbered front (2 * leaves - 2)
 
--- the or of n numbers from a place on
+-- the or of n numbers from an index on
 abbrev pub or_range : (ℕ → ℕ) → (from n : ℕ) → ℕ
 or_range v a zero = 0
 or_range v a (suc n) = bit_or (v a) (or_range v (suc a) n)
@@ -46,7 +45,7 @@ NoneIsZero = (v : ℕ → ℕ) (n : ℕ) → ((j : ℕ) → j < n → v j ≡ 0)
 abbrev pub SetBitStays : Type 0
 SetBitStays = (v : ℕ → ℕ) (n i : ℕ) → i < n → ((j : ℕ) → j < n → v j < 2) → v i ≡ 1 → or_range v 0 n ≡ 1
 
--- numbers of which each behind the first n is the or of two before it, as in a tree, end in the or of the first n
+-- numbers of which each after the first n is the or of two before it, as in a tree: the last is the or of the first n
 abbrev pub TreesAreOrs : Type 0
 TreesAreOrs = (v : ℕ → ℕ) (n : ℕ) → 0 < n → ((m : ℕ) → m + 1 < n → v (n + m) ≡ bit_or (v (2 * m)) (v (2 * m + 1))) → v (2 * n - 2) ≡ or_range v 0 n
 

@@ -3,7 +3,7 @@
 ghost use Rattle.std.specs.Prelude.{◌≡◌, ◌+◌, ◌≤◌, ◌^◌, ◌++◌, ◌∷◌, [], length, IfOk};
 ghost use Rattle.std.specs.Str.{IsAscii};
 ghost use Rattle.vlog_tree.specs.Form.{IsModule};
-ghost use Rattle.hw_build.specs.Elements.{with, empty, Input as InputElement, Output as OutputElement, Outlet as OutletElement, Wire as WireElement, Link as LinkElement};
+ghost use Rattle.hw_build.specs.Elements.{with, empty, Input as InputElement, Output as OutputElement, Outlet as OutletElement, Wire as WireElement, InstanceWire as LinkElement};
 ghost use Rattle.hw_build.specs.Elements.{Register as RegisterElement, Memory as MemoryElement, Block as BlockElement, Instance as InstanceElement};
 
 use crate::texts::{clock_name, reset_name, text};
@@ -59,7 +59,7 @@ impl Draft {
         })
     }
 
-    /// Adds an input of so many bits. Want of memory is the only error.
+    /// Adds an input of `width` bits. Want of memory is the only error.
     pub fn input(&mut self, alloc: Global, width: u32, name: &[u8]) -> Result<(), AllocError>
         requires { IsAscii name.now }
         ensures { IfOk result (λ u. self.new ≡ with self.old (InputElement width name.now)) }
@@ -139,7 +139,7 @@ impl Draft {
         Ok(())
     }
 
-    /// Adds a register of so many bits. Want of memory is the only error.
+    /// Adds a register of `width` bits. Want of memory is the only error.
     pub fn register(&mut self, alloc: Global, width: u32, name: &[u8]) -> Result<(), AllocError>
         requires { IsAscii name.now }
         ensures { IfOk result (λ u. self.new ≡ with self.old (RegisterElement width name.now)) }
@@ -149,7 +149,7 @@ impl Draft {
         Ok(())
     }
 
-    /// A memory of so many cells of a width.
+    /// Adds a memory of `cells` cells of `width` bits.
     pub fn memory(
         &mut self,
         alloc: Global,
@@ -190,7 +190,7 @@ impl Draft {
         Ok(())
     }
 
-    /// Whether its ports and its items together are at most 2^64. What is held in memory has no more.
+    /// Whether its ports and its items together are at most 2^64. What fits in memory has no more.
     pub fn count(&self) -> Result<(), AllocError>
         ensures { IfOk result (λ u. length self.now.ports + length self.now.items ≤ 2 ^ 64) }
     {

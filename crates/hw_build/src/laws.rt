@@ -25,21 +25,21 @@ pub fn law_built_is_right()
     ensures { BuiltIsRight }
 {}
 
-/// No net of what is built of fitting elements rests on itself: in the order of the elements if the instances keep it too,
-/// and without more where no output of an instance rests on an input of it.
+/// No net of what is built of fitting elements depends on itself: in the order of the elements if the instances keep it too,
+/// and without more where no output of an instance depends on an input of it.
 pub fn law_built_has_no_loop()
     ensures ordered { BuiltHasNoLoop }
     ensures registered { RegisteredChildrenMakeNoLoop }
 {}
 
-/// Which outputs of what is built rest on none of its inputs: those that are called free, where no driver of a free net reads
+/// Which outputs of what is built depend on none of its inputs: those that are called free, where no driver of a free net reads
 /// another net.
 pub fn law_rests_on_no_input()
     ensures nets { FreeNetsRestOnNoInput }
     ensures modules { FreeModulesRestOnNoInput }
 {}
 
-/// Modules that contain modules of lower level, and in none of which a net rests on itself, have no loop together.
+/// Modules that contain modules of lower level, and in none of which a net depends on itself, have no loop together.
 pub fn law_loopless()
     ensures { LooplessByLevels }
 {}

@@ -3,7 +3,7 @@
 ghost use Rattle.hw_build.specs.Choices.{AnyFits, AnyIsClear, AnyIsSet, PickFits, PickIsChosen};
 ghost use Rattle.hw_build.specs.Fits.{AloneHasForm, AloneIsFitting, EachFits, EachPartFits, FitsAfterMore, PartsFit, PartsOnce, TreesFit, TwoOnce};
 
-/// Elements without instances fit beside any modules, where each fits behind those before it, no name is declared twice, and
+/// Elements without instances fit beside any modules, where each fits after those before it, no name is declared twice, and
 /// no two blocks assign one register or memory.
 pub fn law_fit_in_order()
     ensures fitting { AloneIsFitting }
@@ -19,13 +19,13 @@ pub fn law_fit_in_parts()
     ensures trees { TreesFit }
 {}
 
-/// Names stand once in lists that have none in common.
+/// Lists in which each name occurs once, and which have none in common, have each once when appended.
 pub fn law_names_once()
     ensures two { TwoOnce }
     ensures parts { PartsOnce }
 {}
 
-/// Whether one of many conditions holds, and the value whose condition does: trees of ors over gates give both in each cycle.
+/// Whether one of many conditions holds, and the value whose condition does: trees of ors over gated values give both in each cycle.
 pub fn law_choices()
     ensures set { AnyIsSet }
     ensures clear { AnyIsClear }

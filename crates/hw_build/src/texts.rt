@@ -82,7 +82,7 @@ fn add_next(bytes: &mut Vec<u8>, number: u32) -> Result<(), AllocError>
     add_number(bytes, number)
 }
 
-/// A name with a number behind it, as `w_7`.
+/// A prefix with a number after it, as `w_7`.
 #[tactic(auto, unfolding(crate::specs::Trees::numbered))]
 pub fn numbered(alloc: Global, front: &[u8], number: u32) -> Result<Text, AllocError>
     requires { IsAscii front.now }

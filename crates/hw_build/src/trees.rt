@@ -32,7 +32,7 @@ impl Draft {
         self.wire(alloc, width, name, gate)
     }
 
-    /// The or of the nets `front_0`, `front_1` and so on, as many as leaves: the nodes of a balanced tree over them are the
+    /// The or of the `leaves` nets `front_0`, `front_1` and so on: the nodes of a balanced tree over them are the
     /// nets that follow, and the last of these is its root.
     pub fn or_tree(
         &mut self,

@@ -8,12 +8,12 @@ use Rattle.vlog_tree.specs.declared.tree.Value.TheVariants.{Plain, Binary, Choos
 use Rattle.vlog_tree.specs.declared.tree.Connection.{Connection}
 use Rattle.vlog_tree.specs.Form.{ModuleTree}
 use Rattle.vlog_tree.specs.Table.{Name}
-use Rattle.hw_build.specs.Elements.{Element, Input, Output, Outlet, Wire, Link, Register, Memory, Block, Instance, built, copied, reset_or, reset_or_set, stored}
+use Rattle.hw_build.specs.Elements.{Element, Input, Output, Outlet, Wire, InstanceWire, Register, Memory, Block, Instance, built, copied, reset_or, reset_or_set, stored}
 use Rattle.hw_build.specs.Widths.{bits_for}
 use Rattle.hw_channel_lines.specs.Names.{channel_name, fifo_name, relay_name}
 
-abbrev pub joined_to : Name → Name → Connection
-joined_to port net = record { port = port; net = net }
+abbrev pub connected_to : Name → Name → Connection
+connected_to port net = record { port = port; net = net }
 
 abbrev pub of_net : Name → Value
 of_net x = Plain (Net x)
@@ -25,7 +25,7 @@ abbrev pub with_number : Name → BinaryOp → ℕ → ℕ → Value
 with_number x op w n = Binary (Net x) op (Literal w n)
 
 abbrev pub clocks : List Connection → List Connection
-clocks connections = joined_to (codes "clk") (codes "clk") ∷ joined_to (codes "rst") (codes "rst") ∷ connections
+clocks connections = connected_to (codes "clk") (codes "clk") ∷ connected_to (codes "rst") (codes "rst") ∷ connections
 
 -- One step: the registers are the ports on the other side, and the token is not reset.
 abbrev pub step_elements : ℕ → List Element
@@ -37,29 +37,29 @@ step_elements bits =
     (reset_or (codes "room") (Literal 1 0) (Net (codes "rdy_early"))) ∷ []
 
 -- the nets of an instance of a relay
-abbrev pub relay_ends : (put din rdy_early put_late din_late rdy : Name) → List Connection
-relay_ends put din rdy_early put_late din_late rdy =
-    clocks (joined_to (codes "put") put ∷ joined_to (codes "din") din ∷ joined_to (codes "rdy_early") rdy_early
-    ∷ joined_to (codes "put_late") put_late ∷ joined_to (codes "din_late") din_late ∷ joined_to (codes "rdy") rdy ∷ [])
+abbrev pub relay_connections : (put din rdy_early put_late din_late rdy : Name) → List Connection
+relay_connections put din rdy_early put_late din_late rdy =
+    clocks (connected_to (codes "put") put ∷ connected_to (codes "din") din ∷ connected_to (codes "rdy_early") rdy_early
+    ∷ connected_to (codes "put_late") put_late ∷ connected_to (codes "din_late") din_late ∷ connected_to (codes "rdy") rdy ∷ [])
 
--- the ports of a relay that is made of others, and the wires behind its first part
+-- the ports of a relay that is made of others, and the wires after its first part
 abbrev pub row_ports : ℕ → List Element → List Element
 row_ports bits rest =
     Input 1 (codes "put") ∷ Input bits (codes "din") ∷ Input 1 (codes "rdy_early")
     ∷ Outlet 1 (codes "put_late") ∷ Outlet bits (codes "din_late") ∷ Outlet 1 (codes "rdy")
-    ∷ Link 1 (codes "put_1") ∷ Link bits (codes "din_1") ∷ Link 1 (codes "rdy_1") ∷ rest
+    ∷ InstanceWire 1 (codes "put_1") ∷ InstanceWire bits (codes "din_1") ∷ InstanceWire 1 (codes "rdy_1") ∷ rest
 
 abbrev pub first_part : List Connection
-first_part = relay_ends (codes "put") (codes "din") (codes "rdy_1") (codes "put_1") (codes "din_1") (codes "rdy")
+first_part = relay_connections (codes "put") (codes "din") (codes "rdy_1") (codes "put_1") (codes "din_1") (codes "rdy")
 
 abbrev pub second_of_two : List Connection
-second_of_two = relay_ends (codes "put_1") (codes "din_1") (codes "rdy_early") (codes "put_late") (codes "din_late") (codes "rdy_1")
+second_of_two = relay_connections (codes "put_1") (codes "din_1") (codes "rdy_early") (codes "put_late") (codes "din_late") (codes "rdy_1")
 
 abbrev pub second_of_three : List Connection
-second_of_three = relay_ends (codes "put_1") (codes "din_1") (codes "rdy_2") (codes "put_2") (codes "din_2") (codes "rdy_1")
+second_of_three = relay_connections (codes "put_1") (codes "din_1") (codes "rdy_2") (codes "put_2") (codes "din_2") (codes "rdy_1")
 
 abbrev pub third_part : List Connection
-third_part = relay_ends (codes "put_2") (codes "din_2") (codes "rdy_early") (codes "put_late") (codes "din_late") (codes "rdy_2")
+third_part = relay_connections (codes "put_2") (codes "din_2") (codes "rdy_early") (codes "put_late") (codes "din_late") (codes "rdy_2")
 
 -- two halves in a row
 abbrev pub even_elements : (bits : ℕ) (half : Name) → List Element
@@ -69,7 +69,7 @@ even_elements bits half = row_ports bits (Instance half (codes "part_0") first_p
 abbrev pub odd_elements : (bits : ℕ) (half step : Name) → List Element
 odd_elements bits half step =
     row_ports bits
-    (Link 1 (codes "put_2") ∷ Link bits (codes "din_2") ∷ Link 1 (codes "rdy_2")
+    (InstanceWire 1 (codes "put_2") ∷ InstanceWire bits (codes "din_2") ∷ InstanceWire 1 (codes "rdy_2")
     ∷ Instance half (codes "part_0") first_part ∷ Instance half (codes "part_1") second_of_three ∷ Instance step (codes "part_2") third_part ∷ [])
 
 abbrev pub step_tree : ℕ → ModuleTree
@@ -81,7 +81,7 @@ even_tree bits steps half = built (relay_name bits steps) (even_elements bits (r
 abbrev pub odd_tree : (bits steps half : ℕ) → ModuleTree
 odd_tree bits steps half = built (relay_name bits steps) (odd_elements bits (relay_name bits half) (relay_name bits 1))
 
--- the wires for the place after another: `_up`, `_last` and `_next`
+-- the wires for the next index of a ring: `_up`, `_last` and `_next`
 abbrev pub next_wires : (place_bits places : ℕ) (place up last next : Name) → List Element → List Element
 next_wires place_bits places place up last next rest =
     Wire place_bits up (with_number place Plus place_bits 1) ∷ Wire 1 last (with_number place Equals place_bits (places - 1))
@@ -105,7 +105,7 @@ count_wires count_bits rest =
     ∷ Wire count_bits (codes "fewer") (with_number (codes "count") Minus count_bits 1)
     ∷ Wire count_bits (codes "count_next") (Choose (Net (codes "put")) (Net (codes "more")) (Net (codes "fewer"))) ∷ rest
 
--- A ring of places, read at its head. It is written without asking, and says whether it holds fewer tokens than its depth.
+-- A ring of entries, read at its head. It is written without asking, and says whether it holds fewer tokens than its depth.
 abbrev pub fifo_elements : (bits depth places place_bits count_bits : ℕ) → List Element
 fifo_elements bits depth places place_bits count_bits =
     Input 1 (codes "put") ∷ Input bits (codes "din") ∷ Input 1 (codes "take")
@@ -119,28 +119,28 @@ abbrev pub fifo_tree : (bits depth places : ℕ) → ModuleTree
 fifo_tree bits depth places = built (fifo_name bits depth places) (fifo_elements bits depth places (bits_for (places - 1)) (bits_for places))
 
 -- the nets of an instance of a FIFO
-abbrev pub fifo_ends : (put din rdy : Name) → List Connection
-fifo_ends put din rdy =
-    clocks (joined_to (codes "put") put ∷ joined_to (codes "din") din ∷ joined_to (codes "take") (codes "take")
-    ∷ joined_to (codes "rdy") rdy ∷ joined_to (codes "has") (codes "has") ∷ joined_to (codes "dout") (codes "dout") ∷ [])
+abbrev pub fifo_connections : (put din rdy : Name) → List Connection
+fifo_connections put din rdy =
+    clocks (connected_to (codes "put") put ∷ connected_to (codes "din") din ∷ connected_to (codes "take") (codes "take")
+    ∷ connected_to (codes "rdy") rdy ∷ connected_to (codes "has") (codes "has") ∷ connected_to (codes "dout") (codes "dout") ∷ [])
 
 -- a token is put in where it is written and the channel is ready
 abbrev pub channel_ports : ℕ → List Element → List Element
 channel_ports bits rest =
     Input bits (codes "din") ∷ Input 1 (codes "wr") ∷ Input 1 (codes "take")
-    ∷ Link 1 (codes "ready") ∷ Output 1 (codes "rdy") (of_net (codes "ready")) ∷ Outlet 1 (codes "has") ∷ Outlet bits (codes "dout")
+    ∷ InstanceWire 1 (codes "ready") ∷ Output 1 (codes "rdy") (of_net (codes "ready")) ∷ Outlet 1 (codes "has") ∷ Outlet bits (codes "dout")
     ∷ Wire 1 (codes "put") (two (codes "wr") And (codes "ready")) ∷ rest
 
 -- without added latency a FIFO alone
 abbrev pub plain_tree : (bits depth : ℕ) → ModuleTree
 plain_tree bits depth =
-    built (channel_name bits depth 0) (channel_ports bits (Instance (fifo_name bits depth depth) (codes "fifo") (fifo_ends (codes "put") (codes "din") (codes "ready")) ∷ []))
+    built (channel_name bits depth 0) (channel_ports bits (Instance (fifo_name bits depth depth) (codes "fifo") (fifo_connections (codes "put") (codes "din") (codes "ready")) ∷ []))
 
 abbrev pub relayed_inside : (bits : ℕ) (relay fifo : Name) → List Element
 relayed_inside bits relay fifo =
-    Link 1 (codes "put_late") ∷ Link bits (codes "din_late") ∷ Link 1 (codes "rdy_early")
-    ∷ Instance relay (codes "relay") (relay_ends (codes "put") (codes "din") (codes "rdy_early") (codes "put_late") (codes "din_late") (codes "ready"))
-    ∷ Instance fifo (codes "fifo") (fifo_ends (codes "put_late") (codes "din_late") (codes "rdy_early")) ∷ []
+    InstanceWire 1 (codes "put_late") ∷ InstanceWire bits (codes "din_late") ∷ InstanceWire 1 (codes "rdy_early")
+    ∷ Instance relay (codes "relay") (relay_connections (codes "put") (codes "din") (codes "rdy_early") (codes "put_late") (codes "din_late") (codes "ready"))
+    ∷ Instance fifo (codes "fifo") (fifo_connections (codes "put_late") (codes "din_late") (codes "rdy_early")) ∷ []
 
 -- with added latency a relay before it
 abbrev pub relayed_tree : (bits depth late : ℕ) → ModuleTree
@@ -151,7 +151,7 @@ relayed_tree bits depth late =
 abbrev pub row_tree : (bits steps : ℕ) → ModuleTree
 row_tree bits steps = if steps % 2 == 0 then even_tree bits steps (steps / 2) else odd_tree bits steps (steps / 2)
 
--- a relay of so many steps, and below it those that it is made of
+-- a relay of a number of steps, and below it those that it is made of
 pub data AreRelays (bits : ℕ) : ℕ → List ModuleTree → Type 0 where
   One : (steps : ℕ) → steps ≡ 1 → AreRelays bits steps (step_tree bits ∷ [])
   More : (steps : ℕ) (rest : List ModuleTree) → 1 < steps → AreRelays bits (steps / 2) rest → AreRelays bits steps (row_tree bits steps ∷ rest)
@@ -159,4 +159,5 @@ pub data AreRelays (bits : ℕ) : ℕ → List ModuleTree → Type 0 where
 -- the modules of a channel, its outermost module first
 pub data AreModules (bits depth : ℕ) : ℕ → List ModuleTree → Type 0 where
   Alone : (late : ℕ) → late ≡ 0 → AreModules bits depth late (plain_tree bits depth ∷ fifo_tree bits depth depth ∷ [])
-  Relayed : (late : ℕ) (relays : List ModuleTree) → 0 < late → AreRelays bits late relays → AreModules bits depth late (relayed_tree bits depth late ∷ fifo_tree bits depth (depth + 2 * late) ∷ relays)
+  Relayed : (late : ℕ) (relays : List ModuleTree) → 0 < late → AreRelays bits late relays
+      → AreModules bits depth late (relayed_tree bits depth late ∷ fifo_tree bits depth (depth + 2 * late) ∷ relays)

@@ -17,7 +17,7 @@ use Rattle.hw_build.specs.Trees.{numbered}
 use Rattle.task_fsm.specs.Machine.{Expression, Number, Reg, CellOf, Converted, Applied, Flipped, Inverse, Both, Either, Chosen}
 use Rattle.hw_lines.specs.Fixed.{fixed}
 use Rattle.hw_lines.specs.Drivers.{Driver, wires_of, last_of, one, operation}
-use Rattle.hw_lines.specs.Wires.{Compiled, read_count, constant, behind, by_fixed, converting, one_more, joining, choosing, compiled}
+use Rattle.hw_lines.specs.Wires.{Compiled, read_count, constant, after_operands, by_fixed, converting, one_more, joining, choosing, compiled}
 use Rattle.hw_nets.proofs.Grows.{both}
 use Rattle.hw_expressions.specs.declared.wires.Wired.{Wired}
 use Rattle.hw_expressions.specs.Grown.{Grows}
@@ -41,9 +41,9 @@ pub wires_done : (front : Name) (n : ℕ) (xs : List Driver) (m : ModuleTree) �
 wires_done front n [] m h = refl
 wires_done front n (x ∷ xs) m h = absurd (omega arith)
 
--- what is behind the wires of the operands
+-- what is after_operands the wires of the operands
 pub behind_grows : (old mid new : ModuleTree) (told : Wired) (front : Name) (k n : ℕ) (elements : List Element) (count : ℕ) (drivers : List Driver) (a : Atom) → mid ≡ with_all old elements
-    → new ≡ with_all mid (wires_of front n drivers) → n ≡ k + count → told.atom ≡ last_of front n drivers a → told.count ≡ count + length drivers → Grows old new told (behind front k elements count drivers a)
+    → new ≡ with_all mid (wires_of front n drivers) → n ≡ k + count → told.atom ≡ last_of front n drivers a → told.count ≡ count + length drivers → Grows old new told (after_operands front k elements count drivers a)
 behind_grows old mid new told front k n elements count drivers a p q e x y = record {
   elements = both old mid new elements (wires_of front (k + count) drivers) p (q ∙ ap (λ i. with_all mid (wires_of front i drivers)) e);
   atom = x ∙ ap (λ i. last_of front i drivers a) e;
@@ -51,24 +51,24 @@ behind_grows old mid new told front k n elements count drivers a p q e x y = rec
 }
 
 behind_same : (old new : ModuleTree) (told : Wired) (front : Name) (k : ℕ) (elements : List Element) (c d : ℕ) (xs ys : List Driver) (a b : Atom) → c ≡ d → xs ≡ ys → a ≡ b
-    → Grows old new told (behind front k elements c xs a) → Grows old new told (behind front k elements d ys b)
+    → Grows old new told (after_operands front k elements c xs a) → Grows old new told (after_operands front k elements d ys b)
 behind_same old new told front k elements c d xs ys a b e f g h =
-    subst (λ i. Grows old new told (behind front k elements i ys b)) e
-    (subst (λ i. Grows old new told (behind front k elements c i b)) f (subst (λ i. Grows old new told (behind front k elements c xs i)) g h))
+    subst (λ i. Grows old new told (after_operands front k elements i ys b)) e
+    (subst (λ i. Grows old new told (after_operands front k elements c i b)) f (subst (λ i. Grows old new told (after_operands front k elements c xs i)) g h))
 
--- what the wires of an operator add, behind any elements
+-- what the wires of an operator add, after_operands any elements
 abbrev pub AddsBehind : (mid new : ModuleTree) (told : Wired) (front : Name) (n count : ℕ) (drivers : List Driver) (a : Atom) → Type 0
 AddsBehind mid new told front n count drivers a =
-    (old : ModuleTree) (elements : List Element) (k : ℕ) → mid ≡ with_all old elements → n ≡ k + count → Grows old new told (behind front k elements count drivers a)
+    (old : ModuleTree) (elements : List Element) (k : ℕ) → mid ≡ with_all old elements → n ≡ k + count → Grows old new told (after_operands front k elements count drivers a)
 
 pub one_operand : (old mid new : ModuleTree) (front : Name) (first n : ℕ) (operand told : Wired) (xs ys : List Driver) (C : Compiled) → AddsBehind mid new told front n operand.count xs operand.atom
-    → n ≡ first + operand.count → Grows old mid operand C → xs ≡ ys → Grows old new told (behind front first C.elements C.count ys C.atom)
+    → n ≡ first + operand.count → Grows old mid operand C → xs ≡ ys → Grows old new told (after_operands front first C.elements C.count ys C.atom)
 one_operand old mid new front first n operand told xs ys C h e g s =
     behind_same old new told front first C.elements operand.count C.count xs ys operand.atom C.atom g.count s g.atom (h old C.elements first g.elements e)
 
 pub two_operands : (old second mid new : ModuleTree) (front : Name) (first n count : ℕ) (left right told : Wired) (xs ys : List Driver) (C D : Compiled)
     → AddsBehind mid new told front n count xs left.atom → count ≡ left.count + right.count → n ≡ first + count → Grows old second left C → Grows second mid right D → xs ≡ ys
-    → Grows old new told (behind front first (C.elements ++ D.elements) (C.count + D.count) ys C.atom)
+    → Grows old new told (after_operands front first (C.elements ++ D.elements) (C.count + D.count) ys C.atom)
 two_operands old second mid new front first n count left right told xs ys C D h t e g f s =
     let all : count ≡ C.count + D.count = omega (arith, t, g.count, f.count) in
     behind_same old new told front first (C.elements ++ D.elements) count (C.count + D.count) xs ys left.atom C.atom all s g.atom
@@ -76,7 +76,7 @@ two_operands old second mid new front first n count left right told xs ys C D h 
 
 pub three_operands : (old second third mid new : ModuleTree) (front : Name) (first n count : ℕ) (test left right told : Wired) (xs ys : List Driver) (C D E : Compiled)
     → AddsBehind mid new told front n count xs test.atom → count ≡ test.count + (left.count + right.count) → n ≡ first + count → Grows old second test C → Grows second third left D → Grows third mid right E
-    → xs ≡ ys → Grows old new told (behind front first (C.elements ++ (D.elements ++ E.elements)) (C.count + (D.count + E.count)) ys C.atom)
+    → xs ≡ ys → Grows old new told (after_operands front first (C.elements ++ (D.elements ++ E.elements)) (C.count + (D.count + E.count)) ys C.atom)
 three_operands old second third mid new front first n count test left right told xs ys C D E h t e g f l s =
     let all : count ≡ C.count + (D.count + E.count) = omega (arith, t, g.count, f.count, l.count) in
     behind_same old new told front first (C.elements ++ (D.elements ++ E.elements)) count (C.count + (D.count + E.count)) xs ys test.atom C.atom all s g.atom

@@ -7,7 +7,7 @@ ghost use Rattle.vlog_tree.specs.declared.tree.Value.TheVariants.{Binary, Invert
 ghost use Rattle.hw_build.specs.Elements.{Element, with_all};
 ghost use Rattle.task_fsm.specs.Machine.{expression_of};
 ghost use Rattle.hw_lines.specs.Drivers.{one as one_lem, operation as operation_lem, wires_of};
-ghost use Rattle.hw_lines.specs.Wires.{Compiled, behind, choosing, compiled, converting, joining, one_more};
+ghost use Rattle.hw_lines.specs.Wires.{Compiled, after_operands, choosing, compiled, converting, joining, one_more};
 ghost use Rattle.hw_expressions.specs.Grown.{Grows};
 
 use crate::fixed::fixed;
@@ -59,7 +59,7 @@ fn with_drivers(
     count: u32,
 ) -> Result<Wired, AllocError>
     ensures { IfOk result (λ r. (old : ModuleTree) (elements : List Element) (k : ℕ) → draft.old ≡ with_all old elements → n ≡ k + count
-        → Grows old draft.new r (behind front.now k elements count drivers.items before.now)) }
+        → Grows old draft.new r (after_operands front.now k elements count drivers.items before.now)) }
 {
     let atom = last(alloc, front, n, &drivers, before)?;
     let count = plus(count, narrow(drivers.len())?)?;

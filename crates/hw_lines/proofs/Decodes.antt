@@ -19,10 +19,10 @@ use Rattle.hw_build.specs.Fits.{IsAmong}
 use Rattle.hw_build.proofs.Parts.{has_each, of_each}
 use Rattle.hw_build.proofs.Picks.{any_set, any_clear, pick_chosen}
 use Rattle.task_fsm.specs.Machine.{StateForm, SetAt, CellAt, TestAt, ReadAt, WriteAt, PeekAt, EotAt, OpenAt, CloseAt, LoadAt, StoreAt, ClearAt, EndAt, TrapAt}
-use Rattle.hw_lines.specs.Nets.{Net, State, At, Go, Inside, Into, ReadInside, ReadOn, Datum, Has as HasNet, Eot as EotNet, Ack, name, Choice, ToState, ToEnd, Set, In, Stores, Place, Content, Reads, Spot, Puts, Token, Takes, Asks, Saves, Data, front}
+use Rattle.hw_lines.specs.Nets.{Net, State, At, Go, Inside, Into, ReadInside, ReadOn, Datum, Has as HasNet, Eot as EotNet, Ack, name, Choice, ToState, ToEnd, Set, NextValue, Stores, WriteIndex, WriteData, Reads, ArrayIndex, Puts, Token, Takes, Address, StoreEnable, Data, front}
 use Rattle.hw_lines.specs.Shape.{Shape, state_count, form_at}
 use Rattle.hw_lines.specs.Wires.{ArrayRead}
-use Rattle.hw_lines.specs.States.{net, number_of, reads_at, awaited, acts_late, go_of, more_wires}
+use Rattle.hw_lines.specs.States.{net, number_of, reads_at, awaited, needs_go, go_of, more_wires}
 use Rattle.hw_lines.specs.Effects.{entry, at, sets, places, contents, spot_of, tokens, takings, askings, savings, endings, effect, entries}
 use Rattle.hw_lines.specs.Texts.{asked_of, read_index, most, read_numbers, task_elements}
 use Rattle.hw_lines.proofs.Members.{all, decode_in, go_in, more_in, asked_in}
@@ -46,10 +46,10 @@ got_low (y ∷ ys) zero x e = omega arith
 got_low (y ∷ ys) (suc i) x e = let r = got_low ys i x e in omega (arith, r)
 
 module _ (S : Shape) (k : ℕ) (low : k < state_count S) where
-  go_there : (f : StateForm) → form_at S k ≡ f → (w : Net) → awaited f ≡ Some w → acts_late f ≡ true → Has (all S) (Wire 1 (name (Go k)) (Binary (net (At k)) And (net w)))
+  go_there : (f : StateForm) → form_at S k ≡ f → (w : Net) → awaited f ≡ Some w → needs_go f ≡ true → Has (all S) (Wire 1 (name (Go k)) (Binary (net (At k)) And (net w)))
   go_there f is w e l =
-      let same : go_of k (awaited (form_at S k)) (acts_late (form_at S k)) ≡ Wire 1 (name (Go k)) (Binary (net (At k)) And (net w)) ∷ [] =
-      ap (λ g. go_of k (awaited g) (acts_late g)) is ∙ ap (λ o. go_of k o (acts_late f)) e ∙ ap (go_of k (Some w)) l in
+      let same : go_of k (awaited (form_at S k)) (needs_go (form_at S k)) ≡ Wire 1 (name (Go k)) (Binary (net (At k)) And (net w)) ∷ [] =
+      ap (λ g. go_of k (awaited g) (needs_go g)) is ∙ ap (λ o. go_of k o (needs_go f)) e ∙ ap (go_of k (Some w)) l in
       go_in S k low (Wire 1 (name (Go k)) (Binary (net (At k)) And (net w))) (subst (λ es. Has es (Wire 1 (name (Go k)) (Binary (net (At k)) And (net w)))) (sym same) (inl refl))
 
   into_there : (f : StateForm) → form_at S k ≡ f → Has (more_wires S k f) (Wire 1 (name (Into k)) (Binary (net (At k)) And (net (Inside k)))) → Has (all S) (Wire 1 (name (Into k)) (Binary (net (At k)) And (net (Inside k))))
@@ -74,7 +74,7 @@ module _ (S : Shape) (k : ℕ) (low : k < state_count S) where
     here true j = h d j
     here false j = absurd j
 
-  by_go : (f : StateForm) → form_at S k ≡ f → (w : Net) → awaited f ≡ Some w → acts_late f ≡ true → (a : Atom) → Own (entry (Go k) a)
+  by_go : (f : StateForm) → form_at S k ≡ f → (w : Net) → awaited f ≡ Some w → needs_go f ≡ true → (a : Atom) → Own (entry (Go k) a)
   by_go f is w e l a = of_entry (Go k) a (Gated (name (Go k)) w (go_there f is w e l))
 
   by_into : (f : StateForm) → form_at S k ≡ f → Has (more_wires S k f) (Wire 1 (name (Into k)) (Binary (net (At k)) And (net (Inside k)))) → (a : Atom) → Own (entry (Into k) a)
@@ -221,17 +221,17 @@ module _ (S : Shape) (k : ℕ) (low : k < state_count S) where
   own ToState d i = of_entry (At k) _ Decoded d i
   own ToEnd d i = own_endings (form_at S k) refl d i
   own (Set r) d i = own_sets r (form_at S k) refl d i
-  own (In r) d i = own_sets r (form_at S k) refl d i
+  own (NextValue r) d i = own_sets r (form_at S k) refl d i
   own (Stores a) d i = own_places a (form_at S k) refl d i
-  own (Place a) d i = own_places a (form_at S k) refl d i
-  own (Content a) d i = own_contents a (form_at S k) refl d i
+  own (WriteIndex a) d i = own_places a (form_at S k) refl d i
+  own (WriteData a) d i = own_contents a (form_at S k) refl d i
   own (Reads p a) d i = own_spot p a (slice_get (reads_at S k) p) refl d i
-  own (Spot p a) d i = own_spot p a (slice_get (reads_at S k) p) refl d i
+  own (ArrayIndex p a) d i = own_spot p a (slice_get (reads_at S k) p) refl d i
   own (Puts s) d i = own_tokens s (form_at S k) refl d i
   own (Token s) d i = own_tokens s (form_at S k) refl d i
   own (Takes s) d i = own_takings s (form_at S k) refl d i
-  own (Asks m) d i = own_askings m (form_at S k) refl d i
-  own (Saves m) d i = own_savings m (form_at S k) refl d i
+  own (Address m) d i = own_askings m (form_at S k) refl d i
+  own (StoreEnable m) d i = own_savings m (form_at S k) refl d i
   own (Data m) d i = own_savings m (form_at S k) refl d i
 
 module _ (S : Shape) (title : Name) (run : ℕ → Cycle) (f : Follows (built title (task_elements S)) run) where

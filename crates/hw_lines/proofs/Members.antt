@@ -10,7 +10,7 @@ use Rattle.hw_build.specs.Fits.{IsAmong}
 use Rattle.hw_build.proofs.Parts.{has_each}
 use Rattle.hw_lines.specs.Nets.{State, At, name, Reads}
 use Rattle.hw_lines.specs.Shape.{Shape, state_count}
-use Rattle.hw_lines.specs.States.{net, number_of, state_wires, decoded, index_wires, value_wires, more_wires, go_of, next_wires, awaited, acts_late}
+use Rattle.hw_lines.specs.States.{net, number_of, state_wires, decoded, index_wires, value_wires, more_wires, go_of, next_wires, awaited, needs_go}
 use Rattle.hw_lines.specs.Shape.{form_at}
 use Rattle.hw_lines.specs.Texts.{inputs, held, offered, asked, answered, unless_none, reads_of, read_numbers, choices, outputs, blocks, task_elements}
 use Rattle.hw_lines.specs.Effects.{entries}
@@ -131,12 +131,12 @@ module _ (S : Shape) where
   state_more k = state_front k ++ more_wires S k (form_at S k)
 
   abbrev state_go : ℕ → List Element
-  state_go k = go_of k (awaited (form_at S k)) (acts_late (form_at S k))
+  state_go k = go_of k (awaited (form_at S k)) (needs_go (form_at S k))
 
   pub next_in : (k : ℕ) → k < state_count S → IsAmong (next_wires S k (form_at S k)) all
   next_in k h = among_right (state_more k ++ state_go k) (next_wires S k (form_at S k)) all (state_in k h)
 
-  pub go_in : (k : ℕ) → k < state_count S → IsAmong (go_of k (awaited (form_at S k)) (acts_late (form_at S k))) all
+  pub go_in : (k : ℕ) → k < state_count S → IsAmong (go_of k (awaited (form_at S k)) (needs_go (form_at S k))) all
   go_in k h = among_right (state_more k) (state_go k) all (among_left (state_more k ++ state_go k) (next_wires S k (form_at S k)) all (state_in k h))
 
   more_front_in : (k : ℕ) → k < state_count S → IsAmong (state_more k) all

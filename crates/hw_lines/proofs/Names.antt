@@ -9,7 +9,7 @@ use Rattle.vlog_tree.specs.Table.{Name}
 use Rattle.vlog_module_laws.proofs.Lists.{both_true}
 use Rattle.hw_build.specs.Trees.{numbered}
 use Rattle.hw_build.proofs.Forms.{all_append, yes_and}
-use Rattle.hw_lines.specs.Nets.{Choice, Net, choice_word, choice_numbers, word, numbers, spelled, name, ToState, ToEnd, Set, In, Stores, Place, Content, Reads, Spot, Puts, Token, Takes, Asks, Saves, Data, State, Ended, Done, Scalar, Variable, Array, Has, Dout, Taken, Din, Wr, Rdy, Ack, Rdata, Addr, Wdata, We, Plain, Datum, Eot, At, Go, Inside, Into, Packed, Next, Value, Index, ReadIndex, ReadInside, ReadOn, Raw, Answer, Node}
+use Rattle.hw_lines.specs.Nets.{Choice, Net, choice_word, choice_numbers, word, numbers, spelled, name, ToState, ToEnd, Set, NextValue, Stores, WriteIndex, WriteData, Reads, ArrayIndex, Puts, Token, Takes, Address, StoreEnable, Data, State, Ended, Done, Scalar, Variable, Array, Has, Dout, Taken, Din, Wr, Rdy, Ack, Rdata, Addr, Wdata, We, Plain, Datum, Eot, At, Go, Inside, Into, Packed, Next, Value, Index, ReadIndex, ReadInside, ReadOn, Raw, Answer, Node}
 use Rattle.hw_lines.specs.Names.{AreSmall, NamesTellNets}
 
 -- below `_`, as digits and the letters of words are
@@ -76,17 +76,17 @@ choice_unmarked : (c : Choice) → list_all no_mark (choice_word c) ≡ true
 choice_unmarked ToState = refl
 choice_unmarked ToEnd = refl
 choice_unmarked (Set a) = refl
-choice_unmarked (In a) = refl
+choice_unmarked (NextValue a) = refl
 choice_unmarked (Stores a) = refl
-choice_unmarked (Place a) = refl
-choice_unmarked (Content a) = refl
+choice_unmarked (WriteIndex a) = refl
+choice_unmarked (WriteData a) = refl
 choice_unmarked (Reads a b) = refl
-choice_unmarked (Spot a b) = refl
+choice_unmarked (ArrayIndex a b) = refl
 choice_unmarked (Puts a) = refl
 choice_unmarked (Token a) = refl
 choice_unmarked (Takes a) = refl
-choice_unmarked (Asks a) = refl
-choice_unmarked (Saves a) = refl
+choice_unmarked (Address a) = refl
+choice_unmarked (StoreEnable a) = refl
 choice_unmarked (Data a) = refl
 
 unmarked : (x : Net) → list_all no_mark (word x) ≡ true
@@ -167,17 +167,17 @@ back w ns =
     cond (bytes_eq w (codes "to")) (Node ToState (nth ns 0)) (
     cond (bytes_eq w (codes "last")) (Node ToEnd (nth ns 0)) (
     cond (bytes_eq w (codes "set")) (Node (Set (nth ns 0)) (nth ns 1)) (
-    cond (bytes_eq w (codes "in")) (Node (In (nth ns 0)) (nth ns 1)) (
+    cond (bytes_eq w (codes "in")) (Node (NextValue (nth ns 0)) (nth ns 1)) (
     cond (bytes_eq w (codes "store")) (Node (Stores (nth ns 0)) (nth ns 1)) (
-    cond (bytes_eq w (codes "place")) (Node (Place (nth ns 0)) (nth ns 1)) (
-    cond (bytes_eq w (codes "content")) (Node (Content (nth ns 0)) (nth ns 1)) (
+    cond (bytes_eq w (codes "place")) (Node (WriteIndex (nth ns 0)) (nth ns 1)) (
+    cond (bytes_eq w (codes "content")) (Node (WriteData (nth ns 0)) (nth ns 1)) (
     cond (bytes_eq w (codes "read")) (Node (Reads (nth ns 0) (nth ns 1)) (nth ns 2)) (
-    cond (bytes_eq w (codes "spot")) (Node (Spot (nth ns 0) (nth ns 1)) (nth ns 2)) (
+    cond (bytes_eq w (codes "spot")) (Node (ArrayIndex (nth ns 0) (nth ns 1)) (nth ns 2)) (
     cond (bytes_eq w (codes "put")) (Node (Puts (nth ns 0)) (nth ns 1)) (
     cond (bytes_eq w (codes "token")) (Node (Token (nth ns 0)) (nth ns 1)) (
     cond (bytes_eq w (codes "get")) (Node (Takes (nth ns 0)) (nth ns 1)) (
-    cond (bytes_eq w (codes "ask")) (Node (Asks (nth ns 0)) (nth ns 1)) (
-    cond (bytes_eq w (codes "save")) (Node (Saves (nth ns 0)) (nth ns 1)) (
+    cond (bytes_eq w (codes "ask")) (Node (Address (nth ns 0)) (nth ns 1)) (
+    cond (bytes_eq w (codes "save")) (Node (StoreEnable (nth ns 0)) (nth ns 1)) (
     cond (bytes_eq w (codes "data")) (Node (Data (nth ns 0)) (nth ns 1)) (
     State))))))))))))))))))))))))))))))))))))))))))))))))
 
@@ -185,17 +185,17 @@ choice_back : (c : Choice) (j : ℕ) → back (choice_word c) (choice_numbers c 
 choice_back ToState j = refl
 choice_back ToEnd j = refl
 choice_back (Set a) j = refl
-choice_back (In a) j = refl
+choice_back (NextValue a) j = refl
 choice_back (Stores a) j = refl
-choice_back (Place a) j = refl
-choice_back (Content a) j = refl
+choice_back (WriteIndex a) j = refl
+choice_back (WriteData a) j = refl
 choice_back (Reads a b) j = refl
-choice_back (Spot a b) j = refl
+choice_back (ArrayIndex a b) j = refl
 choice_back (Puts a) j = refl
 choice_back (Token a) j = refl
 choice_back (Takes a) j = refl
-choice_back (Asks a) j = refl
-choice_back (Saves a) j = refl
+choice_back (Address a) j = refl
+choice_back (StoreEnable a) j = refl
 choice_back (Data a) j = refl
 
 back_is : (x : Net) → back (word x) (numbers x) ≡ x

@@ -9,7 +9,7 @@ use Rattle.vlog_tree.specs.Table.{Name}
 use Rattle.vlog_module_laws.proofs.Labelled.{early_name}
 use Rattle.vlog_module_laws.proofs.Lists.{both_true}
 use Rattle.hw_build.proofs.Forms.{all_append, yes_and}
-use Rattle.hw_lines.specs.Nets.{Choice, Net, choice_word, choice_numbers, word, numbers, spelled, name, front, ToState, ToEnd, Set, In, Stores, Place, Content, Reads, Spot, Puts, Token, Takes, Asks, Saves, Data, State, Ended, Done, Scalar, Variable, Array, Has, Dout, Taken, Din, Wr, Rdy, Ack, Rdata, Addr, Wdata, We, Plain, Datum, Eot, At, Go, Inside, Into, Packed, Next, Value, Index, ReadIndex, ReadInside, ReadOn, Raw, Answer, Node}
+use Rattle.hw_lines.specs.Nets.{Choice, Net, choice_word, choice_numbers, word, numbers, spelled, name, front, ToState, ToEnd, Set, NextValue, Stores, WriteIndex, WriteData, Reads, ArrayIndex, Puts, Token, Takes, Address, StoreEnable, Data, State, Ended, Done, Scalar, Variable, Array, Has, Dout, Taken, Din, Wr, Rdy, Ack, Rdata, Addr, Wdata, We, Plain, Datum, Eot, At, Go, Inside, Into, Packed, Next, Value, Index, ReadIndex, ReadInside, ReadOn, Raw, Answer, Node}
 use Rattle.hw_lines.specs.Names.{AreSmall, NetsHaveNames, NodesAreNumbered}
 use Rattle.hw_lines.proofs.Names.{tail_of, spelled_tail}
 
@@ -22,17 +22,17 @@ unfolding name front
 nodes_numbered ToState j = refl
 nodes_numbered ToEnd j = refl
 nodes_numbered (Set a) j = refl
-nodes_numbered (In a) j = refl
+nodes_numbered (NextValue a) j = refl
 nodes_numbered (Stores a) j = refl
-nodes_numbered (Place a) j = refl
-nodes_numbered (Content a) j = refl
+nodes_numbered (WriteIndex a) j = refl
+nodes_numbered (WriteData a) j = refl
 nodes_numbered (Reads a b) j = refl
-nodes_numbered (Spot a b) j = refl
+nodes_numbered (ArrayIndex a b) j = refl
 nodes_numbered (Puts a) j = refl
 nodes_numbered (Token a) j = refl
 nodes_numbered (Takes a) j = refl
-nodes_numbered (Asks a) j = refl
-nodes_numbered (Saves a) j = refl
+nodes_numbered (Address a) j = refl
+nodes_numbered (StoreEnable a) j = refl
 nodes_numbered (Data a) j = refl
 
 middle : (a b c : Bool) → b ≡ true → (a || b || c) ≡ true
@@ -75,34 +75,34 @@ unfolding starts_name goes_on
 choice_form ToState = refl
 choice_form ToEnd = refl
 choice_form (Set a) = refl
-choice_form (In a) = refl
+choice_form (NextValue a) = refl
 choice_form (Stores a) = refl
-choice_form (Place a) = refl
-choice_form (Content a) = refl
+choice_form (WriteIndex a) = refl
+choice_form (WriteData a) = refl
 choice_form (Reads a b) = refl
-choice_form (Spot a b) = refl
+choice_form (ArrayIndex a b) = refl
 choice_form (Puts a) = refl
 choice_form (Token a) = refl
 choice_form (Takes a) = refl
-choice_form (Asks a) = refl
-choice_form (Saves a) = refl
+choice_form (Address a) = refl
+choice_form (StoreEnable a) = refl
 choice_form (Data a) = refl
 
 choice_short : (c : Choice) → length (choice_word c) < 10
 choice_short ToState = omega arith
 choice_short ToEnd = omega arith
 choice_short (Set a) = omega arith
-choice_short (In a) = omega arith
+choice_short (NextValue a) = omega arith
 choice_short (Stores a) = omega arith
-choice_short (Place a) = omega arith
-choice_short (Content a) = omega arith
+choice_short (WriteIndex a) = omega arith
+choice_short (WriteData a) = omega arith
 choice_short (Reads a b) = omega arith
-choice_short (Spot a b) = omega arith
+choice_short (ArrayIndex a b) = omega arith
 choice_short (Puts a) = omega arith
 choice_short (Token a) = omega arith
 choice_short (Takes a) = omega arith
-choice_short (Asks a) = omega arith
-choice_short (Saves a) = omega arith
+choice_short (Address a) = omega arith
+choice_short (StoreEnable a) = omega arith
 choice_short (Data a) = omega arith
 
 word_form : (x : Net) → has_name_form (word x) ≡ true
@@ -182,17 +182,17 @@ node_named : (c : Choice) (j : ℕ) → AreSmall (choice_numbers c ++ j ∷ []) 
 node_named ToState j h = numbered_name (choice_word ToState) j ([]) (choice_short ToState) (choice_form ToState) h
 node_named ToEnd j h = numbered_name (choice_word ToEnd) j ([]) (choice_short ToEnd) (choice_form ToEnd) h
 node_named (Set a) j h = numbered_name (choice_word (Set a)) a (j ∷ []) (choice_short (Set a)) (choice_form (Set a)) h
-node_named (In a) j h = numbered_name (choice_word (In a)) a (j ∷ []) (choice_short (In a)) (choice_form (In a)) h
+node_named (NextValue a) j h = numbered_name (choice_word (NextValue a)) a (j ∷ []) (choice_short (NextValue a)) (choice_form (NextValue a)) h
 node_named (Stores a) j h = numbered_name (choice_word (Stores a)) a (j ∷ []) (choice_short (Stores a)) (choice_form (Stores a)) h
-node_named (Place a) j h = numbered_name (choice_word (Place a)) a (j ∷ []) (choice_short (Place a)) (choice_form (Place a)) h
-node_named (Content a) j h = numbered_name (choice_word (Content a)) a (j ∷ []) (choice_short (Content a)) (choice_form (Content a)) h
+node_named (WriteIndex a) j h = numbered_name (choice_word (WriteIndex a)) a (j ∷ []) (choice_short (WriteIndex a)) (choice_form (WriteIndex a)) h
+node_named (WriteData a) j h = numbered_name (choice_word (WriteData a)) a (j ∷ []) (choice_short (WriteData a)) (choice_form (WriteData a)) h
 node_named (Reads a b) j h = numbered_name (choice_word (Reads a b)) a (b ∷ j ∷ []) (choice_short (Reads a b)) (choice_form (Reads a b)) h
-node_named (Spot a b) j h = numbered_name (choice_word (Spot a b)) a (b ∷ j ∷ []) (choice_short (Spot a b)) (choice_form (Spot a b)) h
+node_named (ArrayIndex a b) j h = numbered_name (choice_word (ArrayIndex a b)) a (b ∷ j ∷ []) (choice_short (ArrayIndex a b)) (choice_form (ArrayIndex a b)) h
 node_named (Puts a) j h = numbered_name (choice_word (Puts a)) a (j ∷ []) (choice_short (Puts a)) (choice_form (Puts a)) h
 node_named (Token a) j h = numbered_name (choice_word (Token a)) a (j ∷ []) (choice_short (Token a)) (choice_form (Token a)) h
 node_named (Takes a) j h = numbered_name (choice_word (Takes a)) a (j ∷ []) (choice_short (Takes a)) (choice_form (Takes a)) h
-node_named (Asks a) j h = numbered_name (choice_word (Asks a)) a (j ∷ []) (choice_short (Asks a)) (choice_form (Asks a)) h
-node_named (Saves a) j h = numbered_name (choice_word (Saves a)) a (j ∷ []) (choice_short (Saves a)) (choice_form (Saves a)) h
+node_named (Address a) j h = numbered_name (choice_word (Address a)) a (j ∷ []) (choice_short (Address a)) (choice_form (Address a)) h
+node_named (StoreEnable a) j h = numbered_name (choice_word (StoreEnable a)) a (j ∷ []) (choice_short (StoreEnable a)) (choice_form (StoreEnable a)) h
 node_named (Data a) j h = numbered_name (choice_word (Data a)) a (j ∷ []) (choice_short (Data a)) (choice_form (Data a)) h
 
 pub nets_named : NetsHaveNames

@@ -27,7 +27,7 @@ wires_of front n (d ∷ drivers) = Wire d.0 (numbered front n) d.1 ∷ wires_of 
 abbrev pub wire : Name → ℕ → Atom
 wire front n = Net (numbered front n)
 
--- the number behind them
+-- the first number after those of the drivers
 abbrev pub after : ℕ → List Driver → ℕ
 after n [] = n
 after n (d ∷ drivers) = after (suc n) drivers
@@ -55,7 +55,7 @@ sign_of w (Net x) = Part x (w - 1) (w - 1)
 sign_of w (Part x high low) = Part x high high
 sign_of w (Literal v n) = Literal 1 ((n / half w) % 2)
 
--- zeros in front, or copies of the sign
+-- an extension by zeros, or by copies of the sign
 abbrev pub extended : Bool → Name → ℕ → (narrow wide : ℕ) → Atom → List Driver
 extended false front n narrow wide a = one wide (Concat (Literal (wide - narrow) 0 ∷ a ∷ []))
 extended true front n narrow wide a = (wide - narrow, Repeat (wide - narrow) (sign_of narrow a)) ∷ one wide (Concat (wire front n ∷ a ∷ []))
@@ -87,7 +87,7 @@ less false front n w a b = one 1 (Binary a Less b)
 less true front n w a b =
     (turned w a ++ turned w b) ++ one 1 (Binary (turned_atom front n w a) Less (turned_atom front (after n (turned w a)) w b))
 
--- one more wire behind others
+-- one more wire after others
 abbrev pub then_one : Name → ℕ → List Driver → (Atom → List Driver) → List Driver
 then_one front n drivers next = drivers ++ next (last_of front n drivers (Literal 1 0))
 
@@ -123,7 +123,8 @@ is_negative w a = false
 abbrev pub divided : Bool → BinaryOp → Bool → Name → ℕ → ℕ → Atom → Atom → List Driver
 divided false o back front n w a b = one w (Binary a o b)
 divided true o back front n w a b =
-    (w, Binary (Literal w 0) Minus a) ∷ (w, Choose (sign_of w a) (wire front n) a) ∷ (w, Binary (wire front (suc n)) o (absolute w b)) ∷ (w, Binary (Literal w 0) Minus (wire front (suc (suc n))))
+    (w, Binary (Literal w 0) Minus a) ∷ (w, Choose (sign_of w a) (wire front n) a) ∷ (w, Binary (wire front (suc n)) o (absolute w b))
+    ∷ (w, Binary (Literal w 0) Minus (wire front (suc (suc n))))
     ∷ one w (Choose (sign_of w a) (if back then wire front (suc (suc n)) else wire front (suc (suc (suc n)))) (if back then wire front (suc (suc (suc n))) else wire front (suc (suc n))))
 
 -- an operator in a kind, for a result of another kind where it is a comparison

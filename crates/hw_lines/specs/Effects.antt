@@ -6,8 +6,8 @@ use Rattle.vlog_tree.specs.declared.tree.Atom.TheVariants.{Part, Literal}
 use Rattle.task_fsm.specs.Machine.{StateForm, SetAt, CellAt, TestAt, ReadAt, WriteAt, PeekAt, EotAt, OpenAt, CloseAt, LoadAt, StoreAt, ClearAt, EndAt, TrapAt}
 use Rattle.hw_build.specs.Scope.{each}
 use Rattle.hw_build.specs.Choices.{Entry}
-use Rattle.hw_lines.specs.Nets.{Net, Variable, Dout, Rdata, At, Go, Into, Packed, Value, ReadOn, name, read_front, Choice, ToState, ToEnd, Set, In, Stores, Place, Content}
-use Rattle.hw_lines.specs.Nets.{Reads, Spot, Puts, Token, Takes, Asks, Saves, Data}
+use Rattle.hw_lines.specs.Nets.{Net, Variable, Dout, Rdata, At, Go, Into, Packed, Value, ReadOn, name, read_front, Choice, ToState, ToEnd, Set, NextValue, Stores, WriteIndex, WriteData}
+use Rattle.hw_lines.specs.Nets.{Reads, ArrayIndex, Puts, Token, Takes, Address, StoreEnable, Data}
 use Rattle.hw_lines.specs.Shape.{Shape, array_kind, array_cells, stream_kind, index_bits, state_count, form_at}
 use Rattle.hw_lines.specs.Drivers.{low_bits}
 use Rattle.hw_lines.specs.Wires.{ArrayRead, compiled}
@@ -94,17 +94,17 @@ abbrev pub effect : Shape → Choice → ℕ → List Entry
 effect S ToState k = entry (At k) (next_atom S k (form_at S k))
 effect S ToEnd k = endings k (form_at S k)
 effect S (Set r) k = sets S r k (form_at S k)
-effect S (In r) k = sets S r k (form_at S k)
+effect S (NextValue r) k = sets S r k (form_at S k)
 effect S (Stores a) k = places S a k (form_at S k)
-effect S (Place a) k = places S a k (form_at S k)
-effect S (Content a) k = contents S a k (form_at S k)
+effect S (WriteIndex a) k = places S a k (form_at S k)
+effect S (WriteData a) k = contents S a k (form_at S k)
 effect S (Reads p a) k = spots S p a k (form_at S k)
-effect S (Spot p a) k = spots S p a k (form_at S k)
+effect S (ArrayIndex p a) k = spots S p a k (form_at S k)
 effect S (Puts s) k = tokens S s k (form_at S k)
 effect S (Token s) k = tokens S s k (form_at S k)
 effect S (Takes s) k = takings S s k (form_at S k)
-effect S (Asks m) k = askings S m k (form_at S k)
-effect S (Saves m) k = savings S m k (form_at S k)
+effect S (Address m) k = askings S m k (form_at S k)
+effect S (StoreEnable m) k = savings S m k (form_at S k)
 effect S (Data m) k = savings S m k (form_at S k)
 
 -- and all states together

@@ -3,7 +3,7 @@ use Rattle.std.specs.Prelude.{ℕ, List, [], ◌∷◌, ◌++◌, codes}
 use Rattle.vlog_tree.specs.Table.{Name}
 use Rattle.hw_build.specs.Trees.{numbered}
 pub use Rattle.hw_lines.specs.declared.nets.Choice.{Choice}
-pub use Rattle.hw_lines.specs.declared.nets.Choice.TheVariants.{ToState, ToEnd, Set, In, Stores, Place, Content, Reads, Spot, Puts, Token, Takes, Asks, Saves, Data}
+pub use Rattle.hw_lines.specs.declared.nets.Choice.TheVariants.{ToState, ToEnd, Set, NextValue, Stores, WriteIndex, WriteData, Reads, ArrayIndex, Puts, Token, Takes, Address, StoreEnable, Data}
 pub use Rattle.hw_lines.specs.declared.nets.Net.{Net}
 pub use Rattle.hw_lines.specs.declared.nets.Net.TheVariants.{
   State,
@@ -46,34 +46,34 @@ abbrev pub choice_word : Choice → Name
 choice_word ToState = codes "to"
 choice_word ToEnd = codes "last"
 choice_word (Set a) = codes "set"
-choice_word (In a) = codes "in"
+choice_word (NextValue a) = codes "in"
 choice_word (Stores a) = codes "store"
-choice_word (Place a) = codes "place"
-choice_word (Content a) = codes "content"
+choice_word (WriteIndex a) = codes "place"
+choice_word (WriteData a) = codes "content"
 choice_word (Reads a b) = codes "read"
-choice_word (Spot a b) = codes "spot"
+choice_word (ArrayIndex a b) = codes "spot"
 choice_word (Puts a) = codes "put"
 choice_word (Token a) = codes "token"
 choice_word (Takes a) = codes "get"
-choice_word (Asks a) = codes "ask"
-choice_word (Saves a) = codes "save"
+choice_word (Address a) = codes "ask"
+choice_word (StoreEnable a) = codes "save"
 choice_word (Data a) = codes "data"
 
 abbrev pub choice_numbers : Choice → List ℕ
 choice_numbers ToState = []
 choice_numbers ToEnd = []
 choice_numbers (Set a) = a ∷ []
-choice_numbers (In a) = a ∷ []
+choice_numbers (NextValue a) = a ∷ []
 choice_numbers (Stores a) = a ∷ []
-choice_numbers (Place a) = a ∷ []
-choice_numbers (Content a) = a ∷ []
+choice_numbers (WriteIndex a) = a ∷ []
+choice_numbers (WriteData a) = a ∷ []
 choice_numbers (Reads a b) = a ∷ b ∷ []
-choice_numbers (Spot a b) = a ∷ b ∷ []
+choice_numbers (ArrayIndex a b) = a ∷ b ∷ []
 choice_numbers (Puts a) = a ∷ []
 choice_numbers (Token a) = a ∷ []
 choice_numbers (Takes a) = a ∷ []
-choice_numbers (Asks a) = a ∷ []
-choice_numbers (Saves a) = a ∷ []
+choice_numbers (Address a) = a ∷ []
+choice_numbers (StoreEnable a) = a ∷ []
 choice_numbers (Data a) = a ∷ []
 
 abbrev pub word : Net → Name
@@ -155,7 +155,7 @@ spelled word (n ∷ ns) = spelled (numbered word n) ns
 unfoldable pub name : Net → Name
 name x = spelled (word x) (numbers x)
 
--- the front of the names of a choice's leaves and nodes
+-- the prefix of the names of a choice's leaves and nodes
 unfoldable pub front : Choice → Name
 front c = spelled (choice_word c) (choice_numbers c)
 

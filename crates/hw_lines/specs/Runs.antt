@@ -49,7 +49,7 @@ vars_at S run n = each (λ r. number_at run (Variable r) n ∷ []) (length S.reg
 abbrev pub array_at : Shape → (ℕ → Cycle) → ℕ → ℕ → List ℕ
 array_at S run n a = each (λ i. (run n).cell (name (Array a)) i ∷ []) (array_cells S a)
 
--- what the registers and the arrays hold, with what stands in the memories outside
+-- what the registers and the arrays hold, with the cells of the memories outside
 abbrev pub held_at : Shape → (ℕ → Cycle) → (ℕ → List (List ℕ)) → ℕ → State
 held_at S run cells n = record { vars = vars_at S run n; arrays = each (λ a. array_at S run n a ∷ []) (length S.arrays); cells = cells n }
 
@@ -64,7 +64,7 @@ abbrev pub all_stored : Shape → (ℕ → Cycle) → ℕ → ℕ → List (List
 all_stored S run n zero cells = cells
 all_stored S run n (suc m) cells = stored_in S run n m (all_stored S run n m cells)
 
--- what stands around the module: a cycle of reset, numbers of the widths of the inputs, and memories that show their cells in the
+-- the surroundings of the module: a cycle of reset, numbers of the widths of the inputs, and memories that show their cells in the
 -- cycles in which they answer
 pub record StandsAround (S : Shape) (run : ℕ → Cycle) (cells : ℕ → List (List ℕ)) : Type 0 where
   pub reset : (run 0).net rst ≡ 1
@@ -79,7 +79,7 @@ pub record StandsAround (S : Shape) (run : ℕ → Cycle) (cells : ℕ → List 
   pub fit : (n m i : ℕ) → cell (cells n) m i < values_of (memory_kind S m)
   pub goes : (n : ℕ) → cells (suc n) ≡ all_stored S run n (length S.memories) (cells n)
 
--- the values of the scalar parameters stand at their ports in the cycle of reset
+-- the value at the port of register r's scalar parameter in the cycle of reset; 0 if r is of none
 abbrev pub first_of : Shape → (ℕ → Cycle) → ℕ → ℕ → ℕ
 first_of S run r zero = 0
 first_of S run r (suc i) = if slice_index S.scalars i == r then number_at run (Scalar i) 0 else first_of S run r i

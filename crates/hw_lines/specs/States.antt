@@ -17,7 +17,7 @@ use Rattle.hw_lines.specs.Wires.{ArrayRead, Compiled, reads_in, read_count, comp
 abbrev pub net : Net → Atom
 net x = NetAtom (name x)
 
--- the index and the value of a state; a state without one has a number in its place, which makes no wire
+-- the index and the value of a state; a state without one has a number instead, which makes no wire
 abbrev pub nothing : Expression
 nothing = Number kind.Bool 0
 
@@ -69,13 +69,13 @@ is_some_register None = false
 is_some_register (Some r) = true
 
 -- whether something is done by its tick alone
-abbrev pub acts_late : StateForm → Bool
-acts_late (ReadAt s into next) = true
-acts_late (OpenAt s next) = true
-acts_late (PeekAt s into next) = is_some_register into
-acts_late (EotAt s into next) = is_some_register into
-acts_late (LoadAt m i into next) = is_some_register into
-acts_late _ = false
+abbrev pub needs_go : StateForm → Bool
+needs_go (ReadAt s into next) = true
+needs_go (OpenAt s next) = true
+needs_go (PeekAt s into next) = is_some_register into
+needs_go (EotAt s into next) = is_some_register into
+needs_go (LoadAt m i into next) = is_some_register into
+needs_go _ = false
 
 abbrev pub go_of : ℕ → Option Net → Bool → List Element
 go_of k None late = []
@@ -124,7 +124,7 @@ counting S k a c =
     ((1, Binary (net (Variable c)) Less (Literal 32 (array_cells S a - 1))) ∷ (32, Binary (net (Variable c)) Plus (Literal 32 1)) ∷
     (32, Choose (net (Value k 0)) (net (Value k 1)) (Literal 32 0)) ∷ [])
 
--- the token of a datum: the bit of an end of a transaction stands on top
+-- the token of a datum: the top bit, 0, says that it ends no transaction
 abbrev pub packed : Shape → ℕ → ℕ → Atom → List Element
 packed S k s a = Wire (bits_of (stream_kind S s) + 1) (name (Packed k)) (Concat (Literal 1 0 ∷ a ∷ [])) ∷ []
 
@@ -136,7 +136,7 @@ more_wires S k _ = []
 
 abbrev pub state_wires : Shape → ℕ → List Element
 state_wires S k =
-    (index_wires S k).elements ++ (value_wires S k).elements ++ more_wires S k (form_at S k) ++ go_of k (awaited (form_at S k)) (acts_late (form_at S k)) ++ next_wires S k (form_at S k)
+    (index_wires S k).elements ++ (value_wires S k).elements ++ more_wires S k (form_at S k) ++ go_of k (awaited (form_at S k)) (needs_go (form_at S k)) ++ next_wires S k (form_at S k)
 
 abbrev pub decoded : Shape → ℕ → List Element
 decoded S k = Wire 1 (name (At k)) (Binary (net State) Equals (number_of S k)) ∷ []

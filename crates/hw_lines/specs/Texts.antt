@@ -19,8 +19,8 @@ use Rattle.hw_build.specs.Choices.{Entry, any_elements, pick_elements, choice}
 use Rattle.task_fsm.specs.declared.machine.Fsm.{Fsm}
 use Rattle.tapa_base.specs.declared.kind.Kind.{Kind}
 use Rattle.hw_lines.specs.Nets.{Net, State, Ended, Done, Scalar, Variable, Array, Has, Dout, Taken, Din, Wr, Rdy, Ack, Rdata, Addr, Wdata, We, Plain as PlainNet, Datum}
-use Rattle.hw_lines.specs.Nets.{Eot, At, ReadIndex, ReadInside, ReadOn, Raw, Answer, Choice, ToState, ToEnd, Set, In, Stores, Place, Content, Reads, Spot, Puts, Token}
-use Rattle.hw_lines.specs.Nets.{Takes, Asks, Saves, Data, name, front, read_front}
+use Rattle.hw_lines.specs.Nets.{Eot, At, ReadIndex, ReadInside, ReadOn, Raw, Answer, Choice, ToState, ToEnd, Set, NextValue, Stores, WriteIndex, WriteData, Reads, ArrayIndex, Puts, Token}
+use Rattle.hw_lines.specs.Nets.{Takes, Address, StoreEnable, Data, name, front, read_front}
 use Rattle.hw_lines.specs.Shape.{Shape, shape_of, array_kind, array_cells, stream_kind, register_kind, memory_kind, index_bits, state_count, state_bits}
 use Rattle.hw_lines.specs.Wires.{ArrayRead, Compiled, compiled}
 use Rattle.hw_lines.specs.States.{net, reads_at, state_wires, decoded}
@@ -59,7 +59,7 @@ array S a = Memory (bits_of (array_kind S a)) (name (Array a)) (array_cells S a)
 abbrev pub held : Shape → List Element
 held S = (Register (state_bits S) (name State) ∷ Register 1 (name Ended) ∷ []) ++ each (variable S) (length S.registers) ++ each (array S) (length S.arrays)
 
--- ---- what stands at the reader's end of a stream
+-- ---- the nets at the reader's end of a stream
 
 abbrev pub offers : Shape → ℕ → List Element
 offers S s =
@@ -77,7 +77,8 @@ abbrev pub asked_of : Shape → ℕ → ℕ → Option ArrayRead → List Elemen
 asked_of S p k None = []
 asked_of S p k (Some r) =
     (read_index p k r).elements
-    ++ (Wire 1 (name (ReadInside k p)) (Binary (read_index p k r).atom Less (Literal 64 (array_cells S r.array))) ∷ Wire 1 (name (ReadOn k p)) (Binary (net (At k)) And (net (ReadInside k p))) ∷ [])
+    ++ (Wire 1 (name (ReadInside k p)) (Binary (read_index p k r).atom Less (Literal 64 (array_cells S r.array)))
+    ∷ Wire 1 (name (ReadOn k p)) (Binary (net (At k)) And (net (ReadInside k p))) ∷ [])
 
 abbrev pub asked : Shape → ℕ → ℕ → List Element
 asked S p k = asked_of S p k (slice_get (reads_at S k) p)
@@ -85,8 +86,8 @@ asked S p k = asked_of S p k (slice_get (reads_at S k) p)
 -- the cell that is read, where the index is one of the array's
 abbrev pub answered : Shape → ℕ → ℕ → List Element
 answered S p a =
-    any_elements (front (Reads p a)) (entries S (Reads p a)) ++ pick_elements (index_bits S a) (front (Spot p a)) (entries S (Spot p a))
-    ++ (Wire (bits_of (array_kind S a)) (name (Raw p a)) (Cell (name (Array a)) (choice (front (Spot p a)) (entries S (Spot p a))))
+    any_elements (front (Reads p a)) (entries S (Reads p a)) ++ pick_elements (index_bits S a) (front (ArrayIndex p a)) (entries S (ArrayIndex p a))
+    ++ (Wire (bits_of (array_kind S a)) (name (Raw p a)) (Cell (name (Array a)) (choice (front (ArrayIndex p a)) (entries S (ArrayIndex p a))))
     ∷ Wire (bits_of (array_kind S a)) (name (Answer p a)) (Choose (NetAtom (choice (front (Reads p a)) (entries S (Reads p a)))) (net (Raw p a)) (Literal (bits_of (array_kind S a)) 0)) ∷ [])
 
 abbrev pub unless_none : List Entry → List Element → List Element
@@ -124,10 +125,10 @@ abbrev pub root : Shape → Choice → Name
 root S c = choice (front c) (entries S c)
 
 abbrev pub variable_choices : Shape → ℕ → List Element
-variable_choices S r = any S (Set r) ++ pick S (bits_of (register_kind S r)) (In r)
+variable_choices S r = any S (Set r) ++ pick S (bits_of (register_kind S r)) (NextValue r)
 
 abbrev pub array_choices : Shape → ℕ → List Element
-array_choices S a = any S (Stores a) ++ pick S (index_bits S a) (Place a) ++ pick S (bits_of (array_kind S a)) (Content a)
+array_choices S a = any S (Stores a) ++ pick S (index_bits S a) (WriteIndex a) ++ pick S (bits_of (array_kind S a)) (WriteData a)
 
 abbrev pub choices : Shape → List Element
 choices S = pick S (state_bits S) ToState ++ any S ToEnd ++ each (variable_choices S) (length S.registers) ++ each (array_choices S) (length S.arrays)
@@ -147,9 +148,9 @@ stream_outputs S s = by_end (written S s) (taken S s) (writes S s)
 
 abbrev pub memory_outputs : Shape → ℕ → List Element
 memory_outputs S m =
-    pick S 64 (Asks m) ++ any S (Saves m) ++ pick S (bits_of (memory_kind S m)) (Data m)
-    ++ (Output 64 (name (Addr m)) (result S 64 (Asks m)) ∷ Output (bits_of (memory_kind S m)) (name (Wdata m))
-    (result S (bits_of (memory_kind S m)) (Data m)) ∷ Output 1 (name (We m)) (result S 1 (Saves m)) ∷ [])
+    pick S 64 (Address m) ++ any S (StoreEnable m) ++ pick S (bits_of (memory_kind S m)) (Data m)
+    ++ (Output 64 (name (Addr m)) (result S 64 (Address m)) ∷ Output (bits_of (memory_kind S m)) (name (Wdata m))
+    (result S (bits_of (memory_kind S m)) (Data m)) ∷ Output 1 (name (We m)) (result S 1 (StoreEnable m)) ∷ [])
 
 abbrev pub outputs : Shape → List Element
 outputs S = (Output 1 (name Done) (Plain (net Ended)) ∷ []) ++ each (stream_outputs S) (length S.streams) ++ each (memory_outputs S) (length S.memories)
@@ -170,10 +171,10 @@ register_block x first [] set next = set_block rst x first
 register_block x first (e ∷ es) set next = reset_or_set x first set next
 
 abbrev pub variable_block : Shape → ℕ → List Element
-variable_block S r = Block (register_block (name (Variable r)) (first_value S r) (entries S (Set r)) (root S (Set r)) (NetAtom (root S (In r)))) ∷ []
+variable_block S r = Block (register_block (name (Variable r)) (first_value S r) (entries S (Set r)) (root S (Set r)) (NetAtom (root S (NextValue r)))) ∷ []
 
 abbrev pub array_block : Shape → ℕ → List Element
-array_block S a = unless_none (entries S (Stores a)) (Block (stored (name (Array a)) (root S (Stores a)) (root S (Place a)) (NetAtom (root S (Content a)))) ∷ [])
+array_block S a = unless_none (entries S (Stores a)) (Block (stored (name (Array a)) (root S (Stores a)) (root S (WriteIndex a)) (NetAtom (root S (WriteData a)))) ∷ [])
 
 abbrev pub blocks : Shape → List Element
 blocks S =

@@ -59,13 +59,13 @@ constant k n = record { elements = []; count = 0; atom = Literal (bits_of k) n }
 abbrev pub as_is : Atom → Compiled
 as_is a = record { elements = []; count = 0; atom = a }
 
--- operands that stand before some number
+-- the elements of two operands
 abbrev pub two : Compiled → Compiled → List Element
 two C D = C.elements ++ D.elements
 
--- an operator behind the wires of its operands, the first of which has number n
-abbrev pub behind : Name → ℕ → List Element → ℕ → List Driver → Atom → Compiled
-behind front n elements count drivers a = record {
+-- an operator after the wires of its operands, the first of which has number n
+abbrev pub after_operands : Name → ℕ → List Element → ℕ → List Driver → Atom → Compiled
+after_operands front n elements count drivers a = record {
   elements = elements ++ wires_of front (n + count) drivers;
   count = count + length drivers;
   atom = last_of front (n + count) drivers a;
@@ -76,17 +76,17 @@ by_fixed (Some v) k C = constant k v
 by_fixed None k C = C
 
 abbrev pub converting : Name → ℕ → (source target : Kind) → Compiled → Compiled
-converting front n source target C = behind front n C.elements C.count (conversion front (n + C.count) source target C.atom) C.atom
+converting front n source target C = after_operands front n C.elements C.count (conversion front (n + C.count) source target C.atom) C.atom
 
 abbrev pub one_more : Name → ℕ → Compiled → (Atom → List Driver) → Compiled
-one_more front n C drivers = behind front n C.elements C.count (drivers C.atom) C.atom
+one_more front n C drivers = after_operands front n C.elements C.count (drivers C.atom) C.atom
 
 abbrev pub joining : Name → ℕ → Compiled → Compiled → (ℕ → Atom → Atom → List Driver) → Compiled
-joining front n C D drivers = behind front n (C.elements ++ D.elements) (C.count + D.count) (drivers (n + (C.count + D.count)) C.atom D.atom) C.atom
+joining front n C D drivers = after_operands front n (C.elements ++ D.elements) (C.count + D.count) (drivers (n + (C.count + D.count)) C.atom D.atom) C.atom
 
 abbrev pub choosing : Name → ℕ → Kind → Compiled → Compiled → Compiled → Compiled
 choosing front n k C D E =
-    behind front n (C.elements ++ (D.elements ++ E.elements)) (C.count + (D.count + E.count)) (one (bits_of k) (Choose C.atom D.atom E.atom)) C.atom
+    after_operands front n (C.elements ++ (D.elements ++ E.elements)) (C.count + (D.count + E.count)) (one (bits_of k) (Choose C.atom D.atom E.atom)) C.atom
 
 -- an expression of kind k, whose first wire has number n and whose first read number m
 abbrev pub compiled : Name → (m n : ℕ) → Kind → Expression → Compiled

@@ -3,7 +3,7 @@
 ghost use Rattle.hw_lines.specs.Decides.{StateClearsAny, StatePicks, StateSetsAny};
 ghost use Rattle.hw_lines.specs.Names.{NamesTellNets, NetsHaveNames, NodesAreNumbered};
 
-/// Each net of a task's module has a name, and is told by it.
+/// Each net of a task's module has a name of its own.
 pub fn law_nets()
     ensures tell { NamesTellNets }
     ensures nodes { NodesAreNumbered }

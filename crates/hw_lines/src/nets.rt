@@ -10,17 +10,17 @@ pub enum Choice {
     /// Whether a register gets a value.
     Set(u32),
     /// The value that a register gets.
-    In(u32),
+    NextValue(u32),
     /// Whether an array gets a value.
     Stores(u32),
     /// The index of an array's write.
-    Place(u32),
+    WriteIndex(u32),
     /// The value of an array's write.
-    Content(u32),
+    WriteData(u32),
     /// Whether an array is read by a read's number.
     Reads(u32, u32),
     /// The index of an array's read, by the read's number.
-    Spot(u32, u32),
+    ArrayIndex(u32, u32),
     /// Whether a token is written.
     Puts(u32),
     /// The token that is written to a stream.
@@ -28,9 +28,9 @@ pub enum Choice {
     /// Whether a token is taken.
     Takes(u32),
     /// The address that a memory is asked for.
-    Asks(u32),
+    Address(u32),
     /// Whether a memory stores.
-    Saves(u32),
+    StoreEnable(u32),
     /// The value that a memory stores.
     Data(u32),
 }
@@ -52,9 +52,9 @@ pub enum Net {
     Array(u32),
     /// A stream that is read: whether a token is there.
     Has(u32),
-    /// The token at the front of a stream that is read.
+    /// The token at the head of a stream that is read.
     Dout(u32),
-    /// Whether the token at the front of a stream is taken.
+    /// Whether the token at the head of a stream is taken.
     Taken(u32),
     /// The token that is written to a stream.
     Din(u32),

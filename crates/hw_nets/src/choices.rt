@@ -1,4 +1,4 @@
-// Choices among the states: trees of ors over gates.
+// Choices among the states: trees of ors over gated values.
 
 ghost use Rattle.std.specs.Prelude.{◌≡◌, ◌-◌, IfOk, length};
 ghost use Rattle.vlog_tree.specs.declared.tree.Atom.TheVariants.{Net as NetAtom};
@@ -19,7 +19,7 @@ use std::alloc::{AllocError, Global};
 use tapa_base::{Text, narrow, plus};
 use vlog_tree::{Atom, Value};
 
-// A tree over so many leaves.
+// A tree over `leaves` leaves.
 fn add_tree(
     alloc: Global,
     draft: &mut Draft,

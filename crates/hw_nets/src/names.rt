@@ -33,7 +33,7 @@ fn three_numbers(
     numbered(alloc, front.bytes(), third)
 }
 
-/// The front of the names of a choice's leaves and nodes.
+/// The prefix of the names of a choice's leaves and nodes.
 #[tactic(auto, unfolding(hw_lines::specs::Nets::front))]
 pub fn front(alloc: Global, choice: Choice) -> Result<Text, AllocError>
     ensures { IfOk result (λ t. t ≡ front_lem choice) }
@@ -42,17 +42,17 @@ pub fn front(alloc: Global, choice: Choice) -> Result<Text, AllocError>
         Choice::ToState => text(alloc, b"to"),
         Choice::ToEnd => text(alloc, b"last"),
         Choice::Set(a) => numbered(alloc, b"set", a),
-        Choice::In(a) => numbered(alloc, b"in", a),
+        Choice::NextValue(a) => numbered(alloc, b"in", a),
         Choice::Stores(a) => numbered(alloc, b"store", a),
-        Choice::Place(a) => numbered(alloc, b"place", a),
-        Choice::Content(a) => numbered(alloc, b"content", a),
+        Choice::WriteIndex(a) => numbered(alloc, b"place", a),
+        Choice::WriteData(a) => numbered(alloc, b"content", a),
         Choice::Reads(a, b) => two_numbers(alloc, b"read", a, b),
-        Choice::Spot(a, b) => two_numbers(alloc, b"spot", a, b),
+        Choice::ArrayIndex(a, b) => two_numbers(alloc, b"spot", a, b),
         Choice::Puts(a) => numbered(alloc, b"put", a),
         Choice::Token(a) => numbered(alloc, b"token", a),
         Choice::Takes(a) => numbered(alloc, b"get", a),
-        Choice::Asks(a) => numbered(alloc, b"ask", a),
-        Choice::Saves(a) => numbered(alloc, b"save", a),
+        Choice::Address(a) => numbered(alloc, b"ask", a),
+        Choice::StoreEnable(a) => numbered(alloc, b"save", a),
         Choice::Data(a) => numbered(alloc, b"data", a),
     }
 }
@@ -109,7 +109,7 @@ pub fn name(alloc: Global, net: Net) -> Result<Text, AllocError>
     }
 }
 
-/// The front of the names of the operators of a state's value.
+/// The prefix of the names of the operators of a state's value.
 #[tactic(auto, unfolding(hw_lines::specs::Nets::value_front))]
 pub fn value_front(alloc: Global, state: u32) -> Result<Text, AllocError>
     ensures { IfOk result (λ t. t ≡ value_front_lem state) }
@@ -117,7 +117,7 @@ pub fn value_front(alloc: Global, state: u32) -> Result<Text, AllocError>
     numbered(alloc, b"e", state)
 }
 
-/// The front of the names of the operators of a state's index.
+/// The prefix of the names of the operators of a state's index.
 #[tactic(auto, unfolding(hw_lines::specs::Nets::index_front))]
 pub fn index_front(alloc: Global, state: u32) -> Result<Text, AllocError>
     ensures { IfOk result (λ t. t ≡ index_front_lem state) }
@@ -125,7 +125,7 @@ pub fn index_front(alloc: Global, state: u32) -> Result<Text, AllocError>
     numbered(alloc, b"i", state)
 }
 
-/// The front of the names of the operators of the index of a state's read.
+/// The prefix of the names of the operators of the index of a state's read.
 #[tactic(auto, unfolding(hw_lines::specs::Nets::read_front))]
 pub fn read_front(alloc: Global, state: u32, read: u32) -> Result<Text, AllocError>
     ensures { IfOk result (λ t. t ≡ read_front_lem state read) }

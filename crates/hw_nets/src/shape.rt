@@ -24,7 +24,7 @@ pub struct Shape<'a> {
 }
 
 impl<'a> Shape<'a> {
-    /// How many states stand before the trap.
+    /// The number of states before the trap.
     #[tactic(auto, using(crate::proofs::Shapes::count_is), unfolding(crate::specs::Shapes::form))]
     pub fn state_count(&self) -> Result<u32, AllocError>
         ensures { IfOk result (λ n. n ≡ state_count_lem (form self.now)) }

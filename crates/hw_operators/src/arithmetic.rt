@@ -11,7 +11,7 @@ use std::alloc::{AllocError, Global};
 use tapa_base::{Text, plus};
 use vlog_tree::{Atom, BinaryOp, Value};
 
-/// Half as many as there are numbers of some bits.
+/// Half the number of values of `width` bits.
 pub(crate) fn half(width: u32) -> u128
     requires { width ≤ 128 }
     ensures { result ≡ half_lem width }

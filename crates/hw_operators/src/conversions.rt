@@ -9,7 +9,7 @@ use std::alloc::{AllocError, Global};
 use tapa_base::{Kind, Text};
 use vlog_tree::{Atom, BinaryOp, Value};
 
-// Copies of the sign in front.
+// An extension by copies of the sign.
 fn sign_extended(
     alloc: Global,
     front: &Text,
@@ -32,7 +32,7 @@ fn sign_extended(
     Ok(drivers)
 }
 
-// Zeros in front, or copies of the sign.
+// An extension by zeros, or by copies of the sign.
 fn extended(
     alloc: Global,
     signed: bool,

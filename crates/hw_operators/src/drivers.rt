@@ -1,4 +1,4 @@
-// Drivers of wires that stand one after another.
+// Drivers of wires, one after another.
 
 ghost use Rattle.std.specs.Prelude.{◌≡◌, IfOk};
 ghost use Rattle.hw_lines.specs.Drivers.{last_of, one as one_lem};

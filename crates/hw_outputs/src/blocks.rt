@@ -141,7 +141,7 @@ fn add_variable_block(
     let first = first_value(alloc, shape, r)?;
     let register = name(alloc, Net::Variable(r))?;
     let set = root(alloc, Choice::Set(r), &found)?;
-    let next = Atom::Net(root(alloc, Choice::In(r), &found)?);
+    let next = Atom::Net(root(alloc, Choice::NextValue(r), &found)?);
     let steps = register_steps(alloc, &register, first, &found, &set, next)?;
     draft.block(steps)?;
     Ok(())
@@ -178,11 +178,11 @@ fn add_array_block(
     if count == 0 {
         return Ok(());
     }
-    let contents = entries_of(alloc, shape, Choice::Content(a), operands)?;
+    let contents = entries_of(alloc, shape, Choice::WriteData(a), operands)?;
     let array = name(alloc, Net::Array(a))?;
     let write = root(alloc, Choice::Stores(a), &found)?;
-    let place = root(alloc, Choice::Place(a), &found)?;
-    let content = Atom::Net(root(alloc, Choice::Content(a), &contents)?);
+    let place = root(alloc, Choice::WriteIndex(a), &found)?;
+    let content = Atom::Net(root(alloc, Choice::WriteData(a), &contents)?);
     let steps = store_steps(alloc, array.bytes(), write.bytes(), place.bytes(), content)?;
     draft.block(steps)?;
     Ok(())

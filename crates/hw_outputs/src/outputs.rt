@@ -5,7 +5,7 @@ ghost use Rattle.tapa_base.specs.Kinds.{bits_of};
 ghost use Rattle.vlog_tree.specs.declared.tree.Value.TheVariants.{Plain as PlainValue};
 ghost use Rattle.hw_build.specs.Elements.{Output, with, with_all};
 ghost use Rattle.hw_build.specs.Scope.{each};
-ghost use Rattle.hw_lines.specs.declared.nets.Choice.TheVariants.{Asks, Data, Puts, Saves, Takes, Token};
+ghost use Rattle.hw_lines.specs.declared.nets.Choice.TheVariants.{Address, Data, Puts, StoreEnable, Takes, Token};
 ghost use Rattle.hw_lines.specs.declared.nets.Net.TheVariants.{Addr, Din, Done, Ended, Taken, Wdata, We, Wr};
 ghost use Rattle.hw_lines.specs.Nets.{name as name_lem};
 ghost use Rattle.hw_lines.specs.Shape.{memory_kind as memory_kind_lem, state_count, stream_kind as stream_kind_lem};
@@ -70,7 +70,7 @@ fn add_variable_choices(
 {
     let width = shape.register_kind(r).bits();
     add_condition(alloc, draft, shape, operands, Choice::Set(r))?;
-    add_value(alloc, draft, shape, operands, width, Choice::In(r))?;
+    add_value(alloc, draft, shape, operands, width, Choice::NextValue(r))?;
     Ok(())
 }
 
@@ -104,8 +104,8 @@ fn add_array_choices(
     let place = shape.index_bits(a);
     let width = shape.array_kind(a).bits();
     add_condition(alloc, draft, shape, operands, Choice::Stores(a))?;
-    add_value(alloc, draft, shape, operands, place, Choice::Place(a))?;
-    add_value(alloc, draft, shape, operands, width, Choice::Content(a))?;
+    add_value(alloc, draft, shape, operands, place, Choice::WriteIndex(a))?;
+    add_value(alloc, draft, shape, operands, width, Choice::WriteData(a))?;
     Ok(())
 }
 
@@ -263,14 +263,14 @@ fn add_memory_ports(
 ) -> Result<(), AllocError>
     requires { AreOperands (form shape.now) operands.now (state_count (form shape.now)) }
     ensures { IfOk result (λ u. draft.new ≡ with_all draft.old
-        (Output 64 (name_lem (Addr m)) (result_lem (form shape.now) 64 (Asks m)) ∷ Output (bits_of (memory_kind_lem (form shape.now) m)) (name_lem (Wdata m))
+        (Output 64 (name_lem (Addr m)) (result_lem (form shape.now) 64 (Address m)) ∷ Output (bits_of (memory_kind_lem (form shape.now) m)) (name_lem (Wdata m))
         (result_lem (form shape.now) (bits_of (memory_kind_lem (form shape.now) m)) (Data m)) ∷ Output 1 (name_lem (We m))
-        (result_lem (form shape.now) 1 (Saves m)) ∷ [])) }
+        (result_lem (form shape.now) 1 (StoreEnable m)) ∷ [])) }
 {
     let width = shape.memory_kind(m).bits();
-    let asks = Choice::Asks(m);
+    let asks = Choice::Address(m);
     let data = Choice::Data(m);
-    let saves = Choice::Saves(m);
+    let saves = Choice::StoreEnable(m);
     add_output(alloc, draft, shape, operands, 64, Net::Addr(m), asks)?;
     add_output(alloc, draft, shape, operands, width, Net::Wdata(m), data)?;
     add_output(alloc, draft, shape, operands, 1, Net::We(m), saves)?;
@@ -289,8 +289,8 @@ fn add_memory(
     ensures { IfOk result (λ u. draft.new ≡ with_all draft.old (memory_outputs (form shape.now) m)) }
 {
     let width = shape.memory_kind(m).bits();
-    add_value(alloc, draft, shape, operands, 64, Choice::Asks(m))?;
-    add_condition(alloc, draft, shape, operands, Choice::Saves(m))?;
+    add_value(alloc, draft, shape, operands, 64, Choice::Address(m))?;
+    add_condition(alloc, draft, shape, operands, Choice::StoreEnable(m))?;
     add_value(alloc, draft, shape, operands, width, Choice::Data(m))?;
     add_memory_ports(alloc, draft, shape, operands, m)?;
     Ok(())
@@ -320,7 +320,7 @@ fn add_done(alloc: Global, draft: &mut Draft) -> Result<(), AllocError>
     draft.output(alloc, 1, done.bytes(), ended)
 }
 
-/// Adds the outputs, each behind its choices.
+/// Adds the outputs, each after its choices.
 #[tactic(auto, using(hw_nets::proofs::Grows::all_append))]
 pub fn add_outputs(
     alloc: Global,

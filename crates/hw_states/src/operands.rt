@@ -21,7 +21,7 @@ pub struct Operands {
     pub value: Atom,
 }
 
-/// Adds the wires of all states, and tells the atoms of their indices and values.
+/// Adds the wires of all states, and returns the atoms of their indices and values.
 pub fn add_states(
     alloc: Global,
     draft: &mut Draft,

@@ -4,7 +4,7 @@ ghost use Rattle.std.specs.Prelude.{◌≡◌, ◌++◌, IfOk, length};
 ghost use Rattle.std.specs.Option.{option_copied};
 ghost use Rattle.task_fsm.specs.Machine.{form_of};
 ghost use Rattle.hw_lines.specs.Wires.{read_count as read_count_lem, reads_in};
-ghost use Rattle.hw_lines.specs.States.{acts_late as acts_late_lem, awaited as awaited_lem, index_of as index_of_lem, value_kind as value_kind_lem, value_of as value_of_lem};
+ghost use Rattle.hw_lines.specs.States.{needs_go as needs_go_lem, awaited as awaited_lem, index_of as index_of_lem, value_kind as value_kind_lem, value_of as value_of_lem};
 ghost use Rattle.hw_expressions.specs.Reads.{read_forms};
 ghost use Rattle.hw_states.specs.Operands.{expression_in};
 ghost use Rattle.hw_nets.specs.Shapes.{form};
@@ -79,7 +79,8 @@ pub fn reads_count(state: &State) -> Result<u32, AllocError>
 
 /// The reads of a state's index and value.
 pub fn reads_at(alloc: Global, state: &State) -> Result<Vec<ArrayRead<'_>>, AllocError>
-    ensures { IfOk result (λ v. read_forms v.items ≡ reads_in 0 (index_of_lem (form_of state.now)) ++ reads_in (read_count_lem (index_of_lem (form_of state.now))) (value_of_lem (form_of state.now))) }
+    ensures { IfOk result (λ v. read_forms v.items ≡ reads_in 0 (index_of_lem (form_of state.now))
+        ++ reads_in (read_count_lem (index_of_lem (form_of state.now))) (value_of_lem (form_of state.now))) }
 {
     let mut reads = Vec::new(alloc);
     add_index_reads(&mut reads, state)?;
@@ -124,8 +125,8 @@ pub fn awaited(state: &State) -> Option<Net>
 }
 
 /// Whether something is done by its tick alone.
-pub fn acts_late(state: &State) -> bool
-    ensures { result ≡ acts_late_lem (form_of state.now) }
+pub fn needs_go(state: &State) -> bool
+    ensures { result ≡ needs_go_lem (form_of state.now) }
 {
     match state {
         State::Read { .. } => true,

@@ -13,7 +13,7 @@ ghost use Rattle.hw_states.specs.Operands.{IsOperands};
 ghost use Rattle.hw_nets.specs.Shapes.{form};
 
 use crate::operands::Operands;
-use crate::parts::{acts_late, awaited, index_of, index_reads, value_kind, value_of};
+use crate::parts::{awaited, index_of, index_reads, needs_go, value_kind, value_of};
 use hw_build::{Draft, numbered};
 use hw_expressions::compile;
 use hw_lines::Net;
@@ -37,7 +37,7 @@ pub fn add_wire(
     draft.wire(alloc, width, name.bytes(), value)
 }
 
-// Adds the wires of the index, and tells its atom.
+// Adds the wires of the index, and returns its atom.
 fn add_index(
     alloc: Global,
     draft: &mut Draft,
@@ -56,7 +56,7 @@ fn add_index(
     }
 }
 
-// Adds the wires of the value, and tells its atom.
+// Adds the wires of the value, and returns its atom.
 fn add_value(
     alloc: Global,
     draft: &mut Draft,
@@ -243,7 +243,7 @@ fn add_counting(
     add_numbered(alloc, draft, 32, &front, 2, next)
 }
 
-// The token of a datum: the bit of an end of a transaction stands on top.
+// The token of a datum: its top bit, 0, says that it ends no transaction.
 fn add_packed(
     alloc: Global,
     draft: &mut Draft,
@@ -307,7 +307,7 @@ fn add_more(
     }
 }
 
-/// Adds the wires of a state, and tells the atoms of its index and value.
+/// Adds the wires of a state, and returns the atoms of its index and value.
 pub fn add_state(
     alloc: Global,
     draft: &mut Draft,
@@ -323,7 +323,7 @@ pub fn add_state(
     let value = add_value(alloc, draft, shape, k, state)?;
     let operands = Operands { index, value };
     add_more(alloc, draft, shape, k, state, &operands)?;
-    add_go(alloc, draft, k, awaited(state), acts_late(state))?;
+    add_go(alloc, draft, k, awaited(state), needs_go(state))?;
     add_next_wire(alloc, draft, shape, k, state, &operands.value)?;
     Ok(operands)
 }

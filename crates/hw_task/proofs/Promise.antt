@@ -32,7 +32,7 @@ kept leaf machine o c =
       right = λ ms single. tasks_are_right leaf machine o.well_formed o.lowered c ms title single;
       loopless = λ ms is_top inner x rests. tasks_have_no_loop leaf machine o.well_formed o.lowered c ms is_top title inner x rests;
       ports = modules_have_ports (leaf_shape leaf machine) title;
-      rests = λ ms is_top inner x y out in_ rests. only_takes_rest leaf machine o.well_formed o.lowered c ms is_top title inner x y out in_ rests;
+      rests = λ ms is_top inner x y out in_ rests. only_takes_rest leaf machine o.well_formed o.lowered c ms is_top title x y out in_ rests;
     }
 
 -- of any module that is the one of the machine

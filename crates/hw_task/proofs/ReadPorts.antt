@@ -11,7 +11,7 @@ use Rattle.vlog_tree.specs.Form.{ModuleTree}
 use Rattle.hw_build.specs.Elements.{Element, Wire, with_all}
 use Rattle.hw_build.specs.Scope.{each}
 use Rattle.hw_build.specs.Choices.{Entry as EntryForm, any_elements, pick_elements, choice}
-use Rattle.hw_lines.specs.declared.nets.Choice.TheVariants.{Reads, Spot}
+use Rattle.hw_lines.specs.declared.nets.Choice.TheVariants.{Reads, ArrayIndex}
 use Rattle.hw_lines.specs.declared.nets.Net.TheVariants.{Array, Raw, Answer, ReadOn}
 use Rattle.hw_lines.specs.Nets.{front, name}
 use Rattle.hw_lines.specs.Drivers.{low_bits}
@@ -115,18 +115,18 @@ an_entry S p a k x y e n = entry_here S p a k (Some (y.array, y.index)) (sym (ap
 
 -- the port
 pub answered_grows : (S : Shape) (p a : ℕ) (F : List EntryForm) (c d e f : ModuleTree) → F ≡ entries S (Reads p a) → d ≡ with_all c (any_elements (front (Reads p a)) F)
-    → e ≡ with_all d (pick_elements (index_bits S a) (front (Spot p a)) F)
-    → f ≡ with_all e (Wire (bits_of (array_kind S a)) (name (Raw p a)) (Cell (name (Array a)) (choice (front (Spot p a)) F))
+    → e ≡ with_all d (pick_elements (index_bits S a) (front (ArrayIndex p a)) F)
+    → f ≡ with_all e (Wire (bits_of (array_kind S a)) (name (Raw p a)) (Cell (name (Array a)) (choice (front (ArrayIndex p a)) F))
     ∷ Wire (bits_of (array_kind S a)) (name (Answer p a)) (Choose (Net (choice (front (Reads p a)) F)) (net (Raw p a)) (Literal (bits_of (array_kind S a)) 0)) ∷ [])
     → f ≡ with_all c (answered S p a)
 answered_grows S p a F c d e f is x y z =
     let G : List EntryForm = entries S (Reads p a) in
     let cells : List EntryForm → List Element =
-    λ (E : List EntryForm). Wire (bits_of (array_kind S a)) (name (Raw p a)) (Cell (name (Array a)) (choice (front (Spot p a)) E))
+    λ (E : List EntryForm). Wire (bits_of (array_kind S a)) (name (Raw p a)) (Cell (name (Array a)) (choice (front (ArrayIndex p a)) E))
     ∷ Wire (bits_of (array_kind S a)) (name (Answer p a)) (Choose (Net (choice (front (Reads p a)) E)) (net (Raw p a)) (Literal (bits_of (array_kind S a)) 0)) ∷ [] in
-    both c e f (any_elements (front (Reads p a)) G ++ pick_elements (index_bits S a) (front (Spot p a)) G) (cells G)
-    (both c d e (any_elements (front (Reads p a)) G) (pick_elements (index_bits S a) (front (Spot p a)) G) (x ∙ ap (λ E. with_all c (any_elements (front (Reads p a)) E)) is)
-    (y ∙ ap (λ E. with_all d (pick_elements (index_bits S a) (front (Spot p a)) E)) is))
+    both c e f (any_elements (front (Reads p a)) G ++ pick_elements (index_bits S a) (front (ArrayIndex p a)) G) (cells G)
+    (both c d e (any_elements (front (Reads p a)) G) (pick_elements (index_bits S a) (front (ArrayIndex p a)) G) (x ∙ ap (λ E. with_all c (any_elements (front (Reads p a)) E)) is)
+    (y ∙ ap (λ E. with_all d (pick_elements (index_bits S a) (front (ArrayIndex p a)) E)) is))
     (z ∙ ap (λ E. with_all e (cells E)) is)
 
 -- the most reads so far

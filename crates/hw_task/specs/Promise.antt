@@ -40,11 +40,11 @@ pub record KeepsPromise (leaf : Leaf) (machine : Fsm) (tree : ModuleTree) : Type
   pub childless : module_children tree ≡ []
   -- it breaks no rule on names, widths and drivers beside modules of other names
   pub right : (ms : List ModuleTree) → is_doubled_name (map module_declared ms) (task_name machine.name) ≡ false → IsRightBeside ms tree
-  -- none of its nets rests on itself in one cycle
+  -- none of its nets depends on itself in one cycle
   pub loopless : (ms : List ModuleTree) (is_top : Name → Bool) → is_top (task_name machine.name) ≡ false → (x : Name) → Rests ms is_top tree x x → ⊥
   -- its ports are the clock, the reset and those of the task
   pub ports : tree.ports ≡ (empty (task_name machine.name)).ports ++ (task_inputs (leaf_shape leaf machine) ++ task_outputs (leaf_shape leaf machine))
-  -- no output rests on an input in the same cycle, but those that take a token
+  -- no output depends on an input in the same cycle, but those that take a token
   pub rests :
       (ms : List ModuleTree) (is_top : Name → Bool) → is_top (task_name machine.name) ≡ false → (x y : Name) → net_kind_of (map port_declared tree.ports) x ≡ Output
       → net_kind_of (map port_declared tree.ports) y ≡ Input → Rests ms is_top tree x y → TakesToken (leaf_shape leaf machine) x

@@ -61,7 +61,7 @@ fn drafted(
     Ok(draft)
 }
 
-// Whether the states have numbers of 32 bits, and the lines of 64. What is held in memory has no larger ones.
+// Whether the states have numbers of 32 bits, and the lines of 64. What fits in memory has no larger ones.
 fn count(machine: &Fsm, draft: &Draft) -> Result<(), AllocError>
     ensures states { IfOk result (λ u. length machine.now.states.items ≤ 2 ^ 32) }
     ensures lines { IfOk result (λ u. length draft.now.ports + length draft.now.items ≤ 2 ^ 64) }
@@ -72,7 +72,7 @@ fn count(machine: &Fsm, draft: &Draft) -> Result<(), AllocError>
 
 /// The module of a machine whose task has memories of these kinds and streams with these ends. In each cycle after reset it
 /// makes its machine's tick or none. The machine is that of a leaf: the module runs it in any design, breaks no rule on
-/// names, widths, drivers and loops, has the ports of the task, and none of its outputs rests on an input in the same cycle
+/// names, widths, drivers and loops, has the ports of the task, and none of its outputs depends on an input in the same cycle
 /// but those that take a token.
 pub fn module_of(
     alloc: Global,

@@ -1,4 +1,4 @@
-// Inputs, registers and arrays, and what stands at the reader's end of a stream.
+// Inputs, registers and arrays, and the nets at the reader's end of a stream.
 
 ghost use Rattle.std.specs.Prelude.{◌≡◌, ◌∷◌, ◌++◌, [], IfOk, length};
 ghost use Rattle.hw_build.specs.Elements.{Input, Register, with, with_all};
@@ -188,7 +188,7 @@ fn add_offered(alloc: Global, draft: &mut Draft, shape: &Shape, s: u32) -> Resul
     }
 }
 
-/// Adds what stands at the reader's ends of streams.
+/// Adds the nets at the reader's ends of streams.
 pub(crate) fn add_offers(alloc: Global, draft: &mut Draft, shape: &Shape) -> Result<(), AllocError>
     ensures { IfOk result (λ u. draft.new ≡ with_all draft.old (each (offered (form shape.now)) (length (form shape.now).streams))) }
 {

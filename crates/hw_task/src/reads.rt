@@ -8,7 +8,7 @@ ghost use Rattle.vlog_tree.specs.declared.tree.BinaryOp.TheVariants.{And, Less};
 ghost use Rattle.hw_build.specs.Elements.{Wire, with_all};
 ghost use Rattle.hw_build.specs.Scope.{each};
 ghost use Rattle.hw_build.specs.Choices.{choice as choice_lem};
-ghost use Rattle.hw_lines.specs.declared.nets.Choice.TheVariants.{Reads, Spot};
+ghost use Rattle.hw_lines.specs.declared.nets.Choice.TheVariants.{Reads, ArrayIndex};
 ghost use Rattle.hw_lines.specs.declared.nets.Net.TheVariants.{Answer, Array, At, Raw, ReadInside, ReadOn};
 ghost use Rattle.hw_lines.specs.Nets.{front as front_lem, name as name_lem};
 ghost use Rattle.hw_lines.specs.Drivers.{low_bits as low_bits_lem};
@@ -62,7 +62,7 @@ fn add_inside(
     add_wire(alloc, draft, 1, Net::ReadOn(k, p), on)
 }
 
-// Adds the wires of a read, and tells what it asks for.
+// Adds the wires of a read, and returns what it asks for.
 fn add_read(
     alloc: Global,
     draft: &mut Draft,
@@ -192,14 +192,14 @@ fn add_cell(
 ) -> Result<(), AllocError>
     ensures { IfOk result (λ u. draft.new ≡ with_all draft.old
         (Wire (bits_of (array_kind_lem (form shape.now) a)) (name_lem (Raw p a))
-        (CellValue (name_lem (Array a)) (choice_lem (front_lem (Spot p a)) (entry_forms found.now))) ∷ Wire (bits_of (array_kind_lem (form shape.now) a))
+        (CellValue (name_lem (Array a)) (choice_lem (front_lem (ArrayIndex p a)) (entry_forms found.now))) ∷ Wire (bits_of (array_kind_lem (form shape.now) a))
         (name_lem (Answer p a)) (Choose (NetAtom (choice_lem (front_lem (Reads p a)) (entry_forms found.now))) (net_lem (Raw p a))
         (Literal (bits_of (array_kind_lem (form shape.now) a)) 0)) ∷ [])) }
 {
     let width = shape.array_kind(a).bits();
     let cell = Value::Cell {
         memory: name(alloc, Net::Array(a))?,
-        index: root(alloc, Choice::Spot(p, a), found)?,
+        index: root(alloc, Choice::ArrayIndex(p, a), found)?,
     };
     add_wire(alloc, draft, width, Net::Raw(p, a), cell)?;
     let on = Atom::Net(root(alloc, Choice::Reads(p, a), found)?);
@@ -220,7 +220,7 @@ fn add_answer(
 {
     let width = shape.index_bits(a);
     add_any(alloc, draft, Choice::Reads(p, a), found)?;
-    add_pick(alloc, draft, width, Choice::Spot(p, a), found)?;
+    add_pick(alloc, draft, width, Choice::ArrayIndex(p, a), found)?;
     add_cell(alloc, draft, shape, p, a, found)?;
     Ok(())
 }

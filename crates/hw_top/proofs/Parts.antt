@@ -11,7 +11,7 @@ use Rattle.vlog_tree.specs.Table.{Name}
 use Rattle.hw_build.specs.Elements.{Element, Instance as InstanceElement, with, with_all}
 use Rattle.hw_channel_lines.specs.Names.{channel_name}
 use Rattle.hw_top_lines.specs.Names.{channel_instance}
-use Rattle.hw_top_lines.specs.Texts.{token_bits, of_leaf, of_instance, at_instance, channel_ends, channel_part}
+use Rattle.hw_top_lines.specs.Texts.{token_bits, of_leaf, of_instance, at_instance, channel_connections, channel_part}
 
 -- an instance of a leaf
 pub part_at : (program : Program) (f : ℕ → Instance → Leaf → List Element) (i : ℕ) (x : Instance) (leaf : Leaf) → slice_get program.instances.items i ≡ Some x → slice_get program.bodies.items x.body ≡ Some leaf
@@ -26,7 +26,7 @@ no_instance_at program f i p = ap (of_instance program (f i)) p
 
 -- the instance of a channel
 pub channel_grows : (program : Program) (added : List ℕ) (s late bits : ℕ) (r : Stream) (d f : ModuleTree) (module_name name : Name) (ends : List Connection) → slice_get program.streams.items s ≡ Some r → late ≡ slice_index added s
-    → bits ≡ token_bits r.kind → module_name ≡ channel_name bits r.depth late → name ≡ channel_instance r.label → ends ≡ channel_ends r.label → f ≡ with d (InstanceElement module_name name ends)
+    → bits ≡ token_bits r.kind → module_name ≡ channel_name bits r.depth late → name ≡ channel_instance r.label → ends ≡ channel_connections r.label → f ≡ with d (InstanceElement module_name name ends)
     → f ≡ with_all d (channel_part (slice_index added s) (slice_get program.streams.items s))
 channel_grows program added s late bits r d f module_name name ends at is wide of_channel of_stream joined grown =
     let title = of_channel ∙ ap (λ b. channel_name b r.depth late) wide ∙ ap (channel_name (token_bits r.kind) r.depth) is in

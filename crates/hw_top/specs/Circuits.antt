@@ -16,7 +16,7 @@ use Rattle.hw_top_laws.specs.kahn.Carries.{CarriesStreams, CarriesBeside}
 -- A design that breaks no rule, with a top of the program's name, whose scalars, memories and streams are the program's in order,
 -- with the program's labels and their bits. In each run in an environment that fits it, from any power-up contents, it carries the
 -- program's streams; and so it does beside memories that show a cell in the cycles in which they answer, and any number of their
--- width in the others. No output rests on an input within a cycle, so that a memory may answer by what it is asked in the same
+-- width in the others. No output depends on an input within a cycle, so that a memory may answer by what it is asked in the same
 -- cycle.
 pub record IsCircuitOf (program : Program) (added : List ℕ) (design : DesignTree) : Type 0 where
   pub top : ModuleTree

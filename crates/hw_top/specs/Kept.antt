@@ -9,7 +9,8 @@ use Rattle.hw_task.specs.Promise.{IsOfLeaf, KeepsPromise}
 
 -- body b and its machine belong together
 pub record IsOfBody (program : Program) (machines : List Fsm) (b : ℕ) : Type 0 where
-  pub of_leaf : (leaf : Leaf) (machine : Fsm) → slice_get program.bodies.items b ≡ Some leaf → slice_get machines b ≡ Some machine → IsOfLeaf leaf machine leaf.memories.items leaf.streams.items
+  pub of_leaf : (leaf : Leaf) (machine : Fsm) → slice_get program.bodies.items b ≡ Some leaf → slice_get machines b ≡ Some machine
+      → IsOfLeaf leaf machine leaf.memories.items leaf.streams.items
 
 -- the module of body b keeps its promise, where some instance has it
 pub record IsKept (program : Program) (machines : List Fsm) (b : ℕ) : Type 0 where

@@ -15,7 +15,7 @@ use tapa_syntax::{Program, Stream};
 use vlog_scope::{NameTable, add_before, find_name};
 use vlog_tree::Module;
 
-// Adds a module if none has its name. A name is found in the table, without a walk over the modules.
+// Adds a module if none has its name, which is looked up in the table without a walk over the modules.
 fn add_one(
     alloc: Global,
     modules: &mut Vec<Module>,

@@ -3,13 +3,13 @@
 ghost use Rattle.std.specs.Prelude.{◌≡◌, ◌++◌, ◌∷◌, [], IfOk, length, slice_get, slice_index, codes};
 ghost use Rattle.std.specs.Str.{IsAscii};
 ghost use Rattle.hw_build.specs.Scope.{each};
-ghost use Rattle.hw_channel_lines.specs.Texts.{clocks as clocks_lem, joined_to};
+ghost use Rattle.hw_channel_lines.specs.Texts.{clocks as clocks_lem, connected_to};
 ghost use Rattle.hw_lines.specs.declared.nets.Net.TheVariants.{Done};
 ghost use Rattle.hw_lines.specs.Nets.{name as name_lem};
 ghost use Rattle.hw_lines.specs.Texts.{is_written as is_written_lem};
 ghost use Rattle.hw_top_lines.specs.Names.{ended_net as ended_net_lem};
-ghost use Rattle.hw_top_lines.specs.Texts.{channel_ends as channel_ends_lem, memory_ends, memory_name as memory_name_lem, named_ends, read_ends, scalar_ends, stream_ends};
-ghost use Rattle.hw_top_lines.specs.Texts.{stream_label as stream_label_lem, task_ends as task_ends_lem, written_ends};
+ghost use Rattle.hw_top_lines.specs.Texts.{channel_connections as channel_ends_lem, memory_connections, memory_name as memory_name_lem, named_connections, read_connections, scalar_connections, stream_connections};
+ghost use Rattle.hw_top_lines.specs.Texts.{stream_label as stream_label_lem, task_connections as task_ends_lem, written_connections};
 
 use crate::bounds::bound_by;
 use crate::names::{ack, addr, din, dout, ended_net, has, rdata, rdy, take, wdata, we, wr};
@@ -22,26 +22,26 @@ use tapa_syntax::{Instance, Leaf, Program};
 use vlog_tree::{Connection, Connections};
 
 fn join(connections: &mut Vec<Connection>, port: Text, net: Text) -> Result<(), AllocError>
-    ensures { IfOk result (λ u. connections.new.items ≡ connections.old.items ++ joined_to port net ∷ []) }
+    ensures { IfOk result (λ u. connections.new.items ≡ connections.old.items ++ connected_to port net ∷ []) }
 {
     connections.push(Connection { port, net })?;
     Ok(())
 }
 
-// A port of a task, joined to a net.
+// A port of a task, connected to a net.
 fn join_port(
     alloc: Global,
     ends: &mut Vec<Connection>,
     port: Net,
     net: Text,
 ) -> Result<(), AllocError>
-    ensures { IfOk result (λ u. ends.new.items ≡ ends.old.items ++ joined_to (name_lem port) net ∷ []) }
+    ensures { IfOk result (λ u. ends.new.items ≡ ends.old.items ++ connected_to (name_lem port) net ∷ []) }
 {
     let port = name(alloc, port)?;
     join(ends, port, net)
 }
 
-// A port of this name, joined to a net.
+// A port of this name, connected to a net.
 fn join_named(
     alloc: Global,
     ends: &mut Vec<Connection>,
@@ -49,7 +49,7 @@ fn join_named(
     net: Text,
 ) -> Result<(), AllocError>
     requires { IsAscii port.now }
-    ensures { IfOk result (λ u. ends.new.items ≡ ends.old.items ++ joined_to port.now net ∷ []) }
+    ensures { IfOk result (λ u. ends.new.items ≡ ends.old.items ++ connected_to port.now net ∷ []) }
 {
     let port = text(alloc, port)?;
     join(ends, port, net)
@@ -66,7 +66,7 @@ fn clocks(alloc: Global) -> Result<Vec<Connection>, AllocError>
 }
 
 /// The connections of a channel's instance.
-pub fn channel_ends(alloc: Global, label: &Text) -> Result<Connections, AllocError>
+pub fn channel_connections(alloc: Global, label: &Text) -> Result<Connections, AllocError>
     ensures { IfOk result (λ c. c ≡ channel_ends_lem label.now) }
 {
     let mut ends = clocks(alloc)?;
@@ -104,7 +104,7 @@ fn add_scalar(
     x: &Instance,
     p: u32,
 ) -> Result<(), AllocError>
-    ensures { IfOk result (λ u. ends.new.items ≡ ends.old.items ++ scalar_ends i x.now p) }
+    ensures { IfOk result (λ u. ends.new.items ≡ ends.old.items ++ scalar_connections i x.now p) }
 {
     join_port(alloc, ends, Net::Scalar(p), bound_by(alloc, i, p, x)?)
 }
@@ -115,7 +115,7 @@ fn add_written(
     p: u32,
     label: &Text,
 ) -> Result<(), AllocError>
-    ensures { IfOk result (λ u. ends.new.items ≡ ends.old.items ++ written_ends p label.now) }
+    ensures { IfOk result (λ u. ends.new.items ≡ ends.old.items ++ written_connections p label.now) }
 {
     join_port(alloc, ends, Net::Rdy(p), rdy(alloc, label)?)?;
     join_port(alloc, ends, Net::Wr(p), wr(alloc, label)?)?;
@@ -129,7 +129,7 @@ fn add_read(
     p: u32,
     label: &Text,
 ) -> Result<(), AllocError>
-    ensures { IfOk result (λ u. ends.new.items ≡ ends.old.items ++ read_ends p label.now) }
+    ensures { IfOk result (λ u. ends.new.items ≡ ends.old.items ++ read_connections p label.now) }
 {
     join_port(alloc, ends, Net::Has(p), has(alloc, label)?)?;
     join_port(alloc, ends, Net::Dout(p), dout(alloc, label)?)?;
@@ -154,7 +154,7 @@ fn add_stream(
     leaf: &Leaf,
     p: u32,
 ) -> Result<(), AllocError>
-    ensures { IfOk result (λ u. ends.new.items ≡ ends.old.items ++ stream_ends program.now x.now leaf.now p) }
+    ensures { IfOk result (λ u. ends.new.items ≡ ends.old.items ++ stream_connections program.now x.now leaf.now p) }
 {
     let s = number_at(&x.streams, p);
     let label = stream_label(alloc, program, s)?;
@@ -171,7 +171,7 @@ fn add_named(
     p: u32,
     memory: &Text,
 ) -> Result<(), AllocError>
-    ensures { IfOk result (λ u. ends.new.items ≡ ends.old.items ++ named_ends p memory.now) }
+    ensures { IfOk result (λ u. ends.new.items ≡ ends.old.items ++ named_connections p memory.now) }
 {
     join_port(alloc, ends, Net::Ack(p), ack(alloc, memory)?)?;
     join_port(alloc, ends, Net::Rdata(p), rdata(alloc, memory)?)?;
@@ -188,7 +188,7 @@ fn add_memory(
     x: &Instance,
     p: u32,
 ) -> Result<(), AllocError>
-    ensures { IfOk result (λ u. ends.new.items ≡ ends.old.items ++ memory_ends program.now x.now p) }
+    ensures { IfOk result (λ u. ends.new.items ≡ ends.old.items ++ memory_connections program.now x.now p) }
 {
     let m = number_at(&x.memories, p);
     let memory = memory_name(alloc, program, m)?;
@@ -202,7 +202,7 @@ fn add_scalars(
     x: &Instance,
     leaf: &Leaf,
 ) -> Result<(), AllocError>
-    ensures { IfOk result (λ u. ends.new.items ≡ ends.old.items ++ each (scalar_ends i x.now) (length leaf.now.scalars.items)) }
+    ensures { IfOk result (λ u. ends.new.items ≡ ends.old.items ++ each (scalar_connections i x.now) (length leaf.now.scalars.items)) }
 {
     let count = narrow(leaf.scalars.len())?;
     for p in 0..count {
@@ -218,7 +218,7 @@ fn add_streams(
     x: &Instance,
     leaf: &Leaf,
 ) -> Result<(), AllocError>
-    ensures { IfOk result (λ u. ends.new.items ≡ ends.old.items ++ each (stream_ends program.now x.now leaf.now) (length leaf.now.streams.items)) }
+    ensures { IfOk result (λ u. ends.new.items ≡ ends.old.items ++ each (stream_connections program.now x.now leaf.now) (length leaf.now.streams.items)) }
 {
     let count = narrow(leaf.streams.len())?;
     for p in 0..count {
@@ -234,7 +234,7 @@ fn add_memories(
     x: &Instance,
     leaf: &Leaf,
 ) -> Result<(), AllocError>
-    ensures { IfOk result (λ u. ends.new.items ≡ ends.old.items ++ each (memory_ends program.now x.now) (length leaf.now.memories.items)) }
+    ensures { IfOk result (λ u. ends.new.items ≡ ends.old.items ++ each (memory_connections program.now x.now) (length leaf.now.memories.items)) }
 {
     let count = narrow(leaf.memories.len())?;
     for p in 0..count {
@@ -244,8 +244,8 @@ fn add_memories(
 }
 
 // The connections that every task has.
-fn first_ends(alloc: Global, i: u32) -> Result<Vec<Connection>, AllocError>
-    ensures { IfOk result (λ c. c.items ≡ clocks_lem (joined_to (name_lem Done) (ended_net_lem i) ∷ [])) }
+fn first_connections(alloc: Global, i: u32) -> Result<Vec<Connection>, AllocError>
+    ensures { IfOk result (λ c. c.items ≡ clocks_lem (connected_to (name_lem Done) (ended_net_lem i) ∷ [])) }
 {
     let mut ends = clocks(alloc)?;
     join_port(alloc, &mut ends, Net::Done, ended_net(alloc, i)?)?;
@@ -253,7 +253,7 @@ fn first_ends(alloc: Global, i: u32) -> Result<Vec<Connection>, AllocError>
 }
 
 /// The connections of an instance of a task.
-pub fn task_ends(
+pub fn task_connections(
     alloc: Global,
     program: &Program,
     i: u32,
@@ -262,7 +262,7 @@ pub fn task_ends(
 ) -> Result<Connections, AllocError>
     ensures { IfOk result (λ c. c ≡ task_ends_lem program.now i x.now leaf.now) }
 {
-    let mut ends = first_ends(alloc, i)?;
+    let mut ends = first_connections(alloc, i)?;
     add_scalars(alloc, &mut ends, i, x, leaf)?;
     add_streams(alloc, &mut ends, program, x, leaf)?;
     add_memories(alloc, &mut ends, program, x, leaf)?;

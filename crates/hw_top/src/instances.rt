@@ -5,7 +5,7 @@ ghost use Rattle.hw_build.specs.Elements.{with_all};
 ghost use Rattle.hw_build.specs.Scope.{each};
 ghost use Rattle.hw_top_lines.specs.Texts.{at_instance, channel_part, instances, task_part};
 
-use crate::ends::{channel_ends, task_ends};
+use crate::ends::{channel_connections, task_connections};
 use crate::names::{channel_instance, channel_name, task_instance, task_name};
 use hw_build::Draft;
 use std::alloc::{AllocError, Global};
@@ -24,7 +24,7 @@ fn add_part(
 {
     let module = task_name(alloc, &leaf.name)?;
     let name = task_instance(alloc, &x.label)?;
-    let ends = task_ends(alloc, program, i, x, leaf)?;
+    let ends = task_connections(alloc, program, i, x, leaf)?;
     draft.instance(module, name, ends)
 }
 
@@ -55,7 +55,7 @@ fn add_channel(
         Some(r) => {
             let module = channel_name(alloc, r.kind.token_bits(), r.depth, number_at(added, s))?;
             let name = channel_instance(alloc, &r.label)?;
-            let ends = channel_ends(alloc, &r.label)?;
+            let ends = channel_connections(alloc, &r.label)?;
             draft.instance(module, name, ends)
         }
         None => Ok(()),

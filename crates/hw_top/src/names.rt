@@ -13,7 +13,7 @@ use hw_build::{numbered, text};
 use std::alloc::{AllocError, Global};
 use tapa_base::Text;
 
-// A label behind a front.
+// A label after a prefix.
 fn fronted(alloc: Global, front: &[u8], label: &Text) -> Result<Text, AllocError>
     requires { IsAscii front.now }
     ensures { IfOk result (λ t. t ≡ front.now ++ label.now) }
@@ -23,7 +23,7 @@ fn fronted(alloc: Global, front: &[u8], label: &Text) -> Result<Text, AllocError
     Ok(Text::new(bytes))
 }
 
-// A label between a front and an end.
+// A label between a prefix and a suffix.
 fn labelled(alloc: Global, front: &[u8], label: &Text, end: &[u8]) -> Result<Text, AllocError>
     requires front { IsAscii front.now }
     requires end { IsAscii end.now }
@@ -59,7 +59,7 @@ pub fn rdata(alloc: Global, name: &Text) -> Result<Text, AllocError>
     labelled(alloc, b"m_", name, b"_rdata")
 }
 
-/// The port with the place that a memory is asked for.
+/// The port with the address that a memory is asked for.
 #[tactic(auto, unfolding(vlog_tree::specs::Labels::m_addr))]
 pub fn addr(alloc: Global, name: &Text) -> Result<Text, AllocError>
     ensures { IfOk result (λ t. t ≡ addr_lem name.now) }
@@ -154,7 +154,7 @@ pub fn task_name(alloc: Global, name: &Text) -> Result<Text, AllocError>
     fronted(alloc, b"t_", name)
 }
 
-/// The outermost module of a channel for tokens of so many bits, by its depth and its added latency.
+/// The outermost module of a channel for tokens of `bits` bits, by its depth and its added latency.
 #[tactic(auto, unfolding(hw_channel_lines::specs::Names::channel_name, hw_build::specs::Trees::numbered))]
 pub fn channel_name(alloc: Global, bits: u32, depth: u32, late: u32) -> Result<Text, AllocError>
     ensures { IfOk result (λ t. t ≡ channel_name_lem bits depth late) }
@@ -172,7 +172,7 @@ pub fn ended_net(alloc: Global, i: u32) -> Result<Text, AllocError>
     numbered(alloc, b"ended", i)
 }
 
-/// The front of the names of the nets that say which instances are waited for.
+/// The prefix of the names of the nets that say which instances, but for the detached ones, are not done.
 #[tactic(auto, unfolding(hw_top_lines::specs::Names::waits))]
 pub fn waits(alloc: Global) -> Result<Text, AllocError>
     ensures { IfOk result (λ t. t ≡ waits_lem) }
@@ -188,7 +188,7 @@ pub fn done(alloc: Global) -> Result<Text, AllocError>
     text(alloc, b"done")
 }
 
-/// The net with the value of scalar parameter `p` of instance `i` after so many conversions.
+/// The net with the value of scalar parameter `p` of instance `i` after `steps` conversions.
 #[tactic(auto, unfolding(hw_top_lines::specs::Names::bound_net))]
 pub(crate) fn bound_net(alloc: Global, i: u32, p: u32, steps: u32) -> Result<Text, AllocError>
     ensures { IfOk result (λ t. t ≡ bound_lem i p steps) }

@@ -14,7 +14,7 @@ use tapa_syntax::Program;
 use task_fsm::Fsm;
 use vlog_design::Design;
 
-/// The circuit of a program, whose bodies have these machines, with so many cycles of latency added to each stream, and none
+/// The circuit of a program, whose bodies have these machines, with the listed cycles of latency added to its streams, and none
 /// past the list's end. Of equal channels, and of instances of one task, one module serves all.
 pub fn design(
     alloc: Global,

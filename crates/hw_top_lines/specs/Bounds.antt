@@ -1,5 +1,5 @@
 -- What the scalar parameters of an instance are bound to: a constant, or a scalar of the top task, converted through kinds
--- in order, one net behind each conversion.
+-- in order, one net after each conversion.
 use Rattle.std.specs.Prelude.{ℕ, ◌+◌, ◌-◌, List, [], ◌∷◌, ◌++◌, length, Option, Some, None, option_map, unwrap_or, slice_get, slice_index, slice_index_or, ◌==◌, if◌then◌else◌}
 use Rattle.tapa_base.specs.declared.kind.Kind.{Kind}
 use Rattle.tapa_base.specs.declared.kind.Kind.TheVariants.{U64}
@@ -30,7 +30,7 @@ scalar_name program x = unwrap_or (option_map (λ (c : Scalar). c.name) (slice_g
 abbrev pub parameter_kind : Leaf → ℕ → Kind
 parameter_kind leaf p = slice_index_or leaf.vars.items (slice_index leaf.scalars.items p) U64
 
--- a net with the value of another one as a value of another kind: the wires of the conversion, numbered behind its name,
+-- a net with the value of another one as a value of another kind: the wires of the conversion, whose names are its name and numbers,
 -- and the net itself
 abbrev pub converted_net : Name → (source target : Kind) → Name → List Element
 converted_net x source target old =

@@ -12,7 +12,7 @@ use Rattle.hw_lines.specs.Texts.{task_tree}
 use Rattle.hw_top_lines.specs.Channels.{channel_modules, with_new}
 use Rattle.hw_top_lines.specs.Texts.{token_bits, top_tree}
 
--- the modules of the channel of a stream with so many cycles of added latency
+-- the modules of the channel of a stream with `late` cycles of added latency
 abbrev pub stream_modules : ℕ → Option Stream → List ModuleTree
 stream_modules late None = []
 stream_modules late (Some r) = channel_modules (token_bits r.kind) r.depth late
@@ -35,7 +35,7 @@ leaf_module (Some leaf) machine = machine_module leaf machine
 abbrev pub is_used : Program → ℕ → Bool
 is_used program b = list_any (λ (x : Instance). x.body == b) program.instances.items
 
--- a leaf task without an instance gets no module: no other module than the top stands in none
+-- a leaf task without an instance gets no module, so that the top is the only module that no other contains
 abbrev pub used_module : Program → List Fsm → ℕ → List ModuleTree
 used_module program machines b = if is_used program b then leaf_module (slice_get program.bodies.items b) (slice_get machines b) else []
 

@@ -1,4 +1,4 @@
--- Of which programs a circuit can be made, and what stands at its outside.
+-- Of which programs a circuit can be made, and its ports.
 use Rattle.std.specs.Prelude.{◌≡◌, ℕ, ◌^◌, ◌≤◌, List, length, map, Some, slice_get}
 use Rattle.tapa_base.specs.declared.shape.Port.{Port}
 use Rattle.tapa_base.specs.Kinds.{bits_of}
@@ -19,7 +19,7 @@ pub record AreMachinesOf (program : Program) (machines : List Fsm) : Type 0 wher
   pub as_many : length machines ≡ length program.bodies.items
   pub each : (b : ℕ) (leaf : Leaf) (machine : Fsm) → slice_get program.bodies.items b ≡ Some leaf → slice_get machines b ≡ Some machine → IsLowered leaf machine
 
--- the elements of the top can be counted by 64 bits, so that their numbers are told apart
+-- the elements of the top can be counted by 64 bits, so that their numbers are distinct
 abbrev pub IsCountable : Program → List ℕ → Type 0
 IsCountable program added = length (top_elements program added) ≤ 2 ^ 64
 
@@ -31,7 +31,7 @@ pub record IsReady (program : Program) (machines : List Fsm) (added : List ℕ) 
   pub short : AreShort added
   pub countable : IsCountable program added
 
--- ---- what stands at the outside of the top: the program's scalars, memories and streams in order
+-- ---- the ports of the top: the program's scalars, memories and streams in order
 
 abbrev pub scalar_ports : Program → List Port
 scalar_ports program = map (λ (c : Scalar). record { name = c.name; bits = bits_of c.kind }) program.scalars.items

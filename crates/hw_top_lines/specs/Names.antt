@@ -24,10 +24,10 @@ channel_instance x = codes "c_" ++ x
 unfoldable pub ended_net : ℕ → Name
 ended_net i = numbered (codes "ended") i
 
--- the front of the names of the nets that say which instances are waited for
+-- the prefix of the names of the nets that say which instances, but for the detached ones, are not done
 unfoldable pub waits : Name
 waits = codes "waits"
 
--- scalar parameter p of instance i: the value that it is bound to, after so many conversions
+-- scalar parameter p of instance i: the value that it is bound to, after `steps` conversions
 unfoldable pub bound_net : (i p steps : ℕ) → Name
 bound_net i p steps = numbered (numbered (numbered (codes "b") i) p) steps

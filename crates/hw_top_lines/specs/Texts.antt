@@ -1,5 +1,5 @@
 -- The top module of a circuit by its elements: the top task's scalars and memories as ports, six wires for each stream, the
--- instances of the tasks, joined to these by their parameters, and a channel for each stream.
+-- instances of the tasks, connected to these by their parameters, and a channel for each stream.
 use Rattle.std.specs.Prelude.{ℕ, zero, suc, ◌+◌, ◌-◌, List, [], ◌∷◌, ◌++◌, length, Bool, true, Option, Some, None, option_map, unwrap_or, slice_get, slice_index, if◌then◌else◌, codes}
 use Rattle.tapa_base.specs.declared.kind.Kind.{Kind}
 use Rattle.tapa_base.specs.Kinds.{bits_of}
@@ -16,11 +16,11 @@ use Rattle.vlog_tree.specs.declared.tree.Value.TheVariants.{Plain, Invert}
 use Rattle.vlog_tree.specs.Form.{ModuleTree}
 use Rattle.vlog_tree.specs.Labels.{done, scalar, m_ack, m_rdata, m_addr, m_wdata, m_we, s_din, s_wr, s_rdy}
 use Rattle.vlog_tree.specs.Table.{Name}
-use Rattle.hw_build.specs.Elements.{Element, Input, Output, Outlet, Wire, Link, Instance as InstanceElement, built}
+use Rattle.hw_build.specs.Elements.{Element, Input, Output, Outlet, Wire, InstanceWire, Instance as InstanceElement, built}
 use Rattle.hw_build.specs.Trees.{numbered, tree_nodes, tree_root}
 use Rattle.hw_build.specs.Scope.{each}
 use Rattle.hw_channel_lines.specs.Names.{channel_name}
-use Rattle.hw_channel_lines.specs.Texts.{clocks, joined_to}
+use Rattle.hw_channel_lines.specs.Texts.{clocks, connected_to}
 use Rattle.hw_lines.specs.declared.nets.Net.TheVariants.{Done, Scalar as ScalarPort, Has, Dout, Taken, Din, Wr, Rdy, Ack, Rdata, Addr, Wdata, We}
 use Rattle.hw_lines.specs.Nets.{name}
 use Rattle.hw_lines.specs.Texts.{is_written, task_name}
@@ -33,7 +33,7 @@ abbrev pub scalar_port : Option Scalar → List Element
 scalar_port None = []
 scalar_port (Some c) = Input (bits_of c.kind) (scalar c.name) ∷ []
 
--- a memory is told a place, a cell and whether to store it there, and answers with a cell
+-- a memory gets an address, a cell and whether to store it there, and answers with a cell
 abbrev pub memory_ports : Option Memory → List Element
 memory_ports None = []
 memory_ports (Some m) =
@@ -53,12 +53,12 @@ token_bits k = bits_of k + 1
 abbrev pub stream_wires : Option Stream → List Element
 stream_wires None = []
 stream_wires (Some r) =
-    Link (token_bits r.kind) (s_din r.label) ∷ Link 1 (s_wr r.label) ∷ Link 1 (s_rdy r.label) ∷ Link 1 (s_has r.label) ∷ Link (token_bits r.kind) (s_dout r.label) ∷ []
+    InstanceWire (token_bits r.kind) (s_din r.label) ∷ InstanceWire 1 (s_wr r.label) ∷ InstanceWire 1 (s_rdy r.label) ∷ InstanceWire 1 (s_has r.label) ∷ InstanceWire (token_bits r.kind) (s_dout r.label) ∷ []
 
--- whether a token is taken may rest on all that a task is told, so it stands behind all other wires
+-- whether a token is taken may depend on all inputs of a task, so its wire comes after all other wires
 abbrev pub take_wire : Option Stream → List Element
 take_wire None = []
-take_wire (Some r) = Link 1 (s_take r.label) ∷ []
+take_wire (Some r) = InstanceWire 1 (s_take r.label) ∷ []
 
 -- ---- instances
 
@@ -81,41 +81,41 @@ abbrev pub memory_name : Program → ℕ → Name
 memory_name program m = unwrap_or (option_map (λ (r : Memory). r.name) (slice_get program.memories.items m)) []
 
 -- parameter p of each sort, at a stream of a label or a memory of a name
-abbrev pub scalar_ends : ℕ → Instance → ℕ → List Connection
-scalar_ends i x p = joined_to (name (ScalarPort p)) (bound_by i p (slice_get x.scalars.items p)) ∷ []
+abbrev pub scalar_connections : ℕ → Instance → ℕ → List Connection
+scalar_connections i x p = connected_to (name (ScalarPort p)) (bound_by i p (slice_get x.scalars.items p)) ∷ []
 
-abbrev pub written_ends : ℕ → Name → List Connection
-written_ends p l = joined_to (name (Rdy p)) (s_rdy l) ∷ joined_to (name (Wr p)) (s_wr l) ∷ joined_to (name (Din p)) (s_din l) ∷ []
+abbrev pub written_connections : ℕ → Name → List Connection
+written_connections p l = connected_to (name (Rdy p)) (s_rdy l) ∷ connected_to (name (Wr p)) (s_wr l) ∷ connected_to (name (Din p)) (s_din l) ∷ []
 
-abbrev pub read_ends : ℕ → Name → List Connection
-read_ends p l = joined_to (name (Has p)) (s_has l) ∷ joined_to (name (Dout p)) (s_dout l) ∷ joined_to (name (Taken p)) (s_take l) ∷ []
+abbrev pub read_connections : ℕ → Name → List Connection
+read_connections p l = connected_to (name (Has p)) (s_has l) ∷ connected_to (name (Dout p)) (s_dout l) ∷ connected_to (name (Taken p)) (s_take l) ∷ []
 
-abbrev pub stream_ends : Program → Instance → Leaf → ℕ → List Connection
-stream_ends program x leaf p =
-    if is_written (slice_get leaf.streams.items p) then written_ends p (stream_label program (slice_index x.streams.items p))
-    else read_ends p (stream_label program (slice_index x.streams.items p))
+abbrev pub stream_connections : Program → Instance → Leaf → ℕ → List Connection
+stream_connections program x leaf p =
+    if is_written (slice_get leaf.streams.items p) then written_connections p (stream_label program (slice_index x.streams.items p))
+    else read_connections p (stream_label program (slice_index x.streams.items p))
 
-abbrev pub named_ends : ℕ → Name → List Connection
-named_ends p m =
-    joined_to (name (Ack p)) (m_ack m) ∷ joined_to (name (Rdata p)) (m_rdata m) ∷ joined_to (name (Addr p)) (m_addr m)
-    ∷ joined_to (name (Wdata p)) (m_wdata m) ∷ joined_to (name (We p)) (m_we m) ∷ []
+abbrev pub named_connections : ℕ → Name → List Connection
+named_connections p m =
+    connected_to (name (Ack p)) (m_ack m) ∷ connected_to (name (Rdata p)) (m_rdata m) ∷ connected_to (name (Addr p)) (m_addr m)
+    ∷ connected_to (name (Wdata p)) (m_wdata m) ∷ connected_to (name (We p)) (m_we m) ∷ []
 
-abbrev pub memory_ends : Program → Instance → ℕ → List Connection
-memory_ends program x p = named_ends p (memory_name program (slice_index x.memories.items p))
+abbrev pub memory_connections : Program → Instance → ℕ → List Connection
+memory_connections program x p = named_connections p (memory_name program (slice_index x.memories.items p))
 
 -- the nets of an instance of a task
-abbrev pub task_ends : Program → ℕ → Instance → Leaf → List Connection
-task_ends program i x leaf =
-    clocks (joined_to (name Done) (ended_net i) ∷ [])
-    ++ each (scalar_ends i x) (length leaf.scalars.items) ++ each (stream_ends program x leaf) (length leaf.streams.items) ++ each (memory_ends program x) (length leaf.memories.items)
+abbrev pub task_connections : Program → ℕ → Instance → Leaf → List Connection
+task_connections program i x leaf =
+    clocks (connected_to (name Done) (ended_net i) ∷ [])
+    ++ each (scalar_connections i x) (length leaf.scalars.items) ++ each (stream_connections program x leaf) (length leaf.streams.items) ++ each (memory_connections program x) (length leaf.memories.items)
 
 abbrev pub task_part : Program → ℕ → Instance → Leaf → List Element
-task_part program i x leaf = InstanceElement (task_name leaf.name) (task_instance x.label) (task_ends program i x leaf) ∷ []
+task_part program i x leaf = InstanceElement (task_name leaf.name) (task_instance x.label) (task_connections program i x leaf) ∷ []
 
 -- ---- when all is done
 
 abbrev pub ended_wire : ℕ → List Element
-ended_wire i = Link 1 (ended_net i) ∷ []
+ended_wire i = InstanceWire 1 (ended_net i) ∷ []
 
 -- an instance is waited for until it has ended, and a detached one never (TAPA: `invoke<tapa::detach>`)
 abbrev pub still_waits : ℕ → Bool → Value
@@ -140,19 +140,19 @@ doneness program =
 
 -- ---- channels
 
-abbrev pub channel_ends : Name → List Connection
-channel_ends l =
-    clocks (joined_to (codes "din") (s_din l) ∷ joined_to (codes "wr") (s_wr l) ∷ joined_to (codes "take") (s_take l)
-    ∷ joined_to (codes "rdy") (s_rdy l) ∷ joined_to (codes "has") (s_has l) ∷ joined_to (codes "dout") (s_dout l) ∷ [])
+abbrev pub channel_connections : Name → List Connection
+channel_connections l =
+    clocks (connected_to (codes "din") (s_din l) ∷ connected_to (codes "wr") (s_wr l) ∷ connected_to (codes "take") (s_take l)
+    ∷ connected_to (codes "rdy") (s_rdy l) ∷ connected_to (codes "has") (s_has l) ∷ connected_to (codes "dout") (s_dout l) ∷ [])
 
--- of a stream with so many cycles of added latency
+-- of a stream with `late` cycles of added latency
 abbrev pub channel_part : ℕ → Option Stream → List Element
 channel_part late None = []
-channel_part late (Some r) = InstanceElement (channel_name (token_bits r.kind) r.depth late) (channel_instance r.label) (channel_ends r.label) ∷ []
+channel_part late (Some r) = InstanceElement (channel_name (token_bits r.kind) r.depth late) (channel_instance r.label) (channel_connections r.label) ∷ []
 
 -- ---- the module
 
--- wires stand before the instances that drive them
+-- wires come before the instances that drive them
 abbrev pub wires : Program → List Element
 wires program =
     each (λ s. stream_wires (slice_get program.streams.items s)) (length program.streams.items)

@@ -23,3 +23,5 @@ pub mod Ending
 pub mod Shown
 pub mod Least
 pub mod ByEnd
+pub mod Stops
+pub mod LastCells

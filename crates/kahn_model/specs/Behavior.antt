@@ -20,8 +20,8 @@ pub data Behavior : Type 0 where
   Act : (a : Action) (rest : Behavior) → Behavior
   Await : (s : ℕ) (how : StreamOperation) (rest : ℕ → Behavior) → Behavior
 
--- what an operation finds on a list: nothing, a token that it may not have, or a token with the value that it gives
--- (TAPA: read and peek are for data, open is for the end of a transaction, eot tells which of them is next)
+-- what an operation gets from a list: nothing, a token that it may not have, or a token with the value that it gives (TAPA:
+-- read and peek are for data, open is for the end of a transaction, eot says which of them is next)
 pub data Offer : Type 0 where
   NoToken : Offer
   WrongToken : Offer
@@ -70,7 +70,7 @@ ticks (Act a rest) ins = Did a ∷ ticks rest ins
 ticks (Await s how rest) ins =
     on_offer (first_offer how (ins s)) [] [] (λ t v. tick_of how s t ∷ ticks (rest v) (lists_after how s ins))
 
--- and its end
+-- the end of a behavior on whole lists
 abbrev pub trace_end : Behavior → (ℕ → List Token) → TraceEnd
 trace_end Finished ins = Ended
 trace_end OutOfTurns ins = Turns

@@ -88,11 +88,11 @@ pub record IsEnding (net : Network) (k : ℕ → ℕ) : Type 0 where
   pub reachable : IsReachable net k
   pub over : (i : ℕ) → IsAllowed net k i → ⊥
 
--- a list begins the Kahn stream of s
+-- a list is a prefix of the Kahn stream of s
 abbrev pub IsKahnPrefix : Network → ℕ → List Token → Type 0
 IsKahnPrefix net s c = (n : ℕ) × IsPrefixOf c (stream net n s)
 
--- and is all of it
+-- a list is the whole Kahn stream of s
 abbrev pub IsKahnStream : Network → ℕ → List Token → Type 0
 IsKahnStream net s c = IsKahnPrefix net s c × ((n : ℕ) → IsPrefixOf (stream net n s) c)
 

@@ -29,9 +29,19 @@ RunsSo net n past k = IsPast net n k
 abbrev pub NetworksRunInOneWay : Type 0
 NetworksRunInOneWay = (net : Network) → IsNetwork net → (n : ℕ) (a b : Way) (k m : ℕ → ℕ) → RunsSo net n a k → RunsSo net n b m → (a ≡ b) × ((i : ℕ) → k i ≡ m i)
 
--- ---- where the joined instances end
+-- ---- where no step is allowed
 
--- whatever the order of steps and the bound, they make as many ticks and the streams show the same tokens
+-- no reachable count is past one that allows no step
+abbrev pub NonePassesAnEnd : Type 0
+NonePassesAnEnd = (net : Network) → IsNetwork net → (k m : ℕ → ℕ) → IsReachable net k → IsEnding net m → (i : ℕ) → k i ≤ m i
+
+-- a network that stops within a bound stops at the same count within every greater bound
+abbrev pub StopsStay : Type 0
+StopsStay = (net : Network) → IsNetwork net → (n m : ℕ) → n ≤ m → (k : ℕ → ℕ) → IsStopped net n k → IsStopped net m k
+
+-- ---- where the instances that are waited for end
+
+-- whatever the order of steps and the bound, the number of their ticks is the same and the streams show the same tokens
 pub record ShowAlike (net : Network) (k m : ℕ → ℕ) : Type 0 where
   pub ticks : joined_ticks net k ≡ joined_ticks net m
   pub tokens : (s : ℕ) → net.producer s < net.size → net.consumer s < net.size → shown net k s ≡ shown net m s
@@ -43,14 +53,16 @@ EndsShowAlike = (net : Network) → IsNetwork net → (k m : ℕ → ℕ) → Is
 abbrev pub EndsStay : Type 0
 EndsStay = (net : Network) → IsNetwork net → (n m : ℕ) → n ≤ m → (k : ℕ → ℕ) → IsDone net n k → (l : ℕ → ℕ) × IsDone net m l
 
--- what is shown of a stream begins its Kahn stream, and is all of it where its producer is joined
+-- the tokens that are shown of a stream are a prefix of its Kahn stream, and all of it where its producer is waited for
 abbrev pub ShownBegins : Type 0
 ShownBegins = (net : Network) → IsNetwork net → (k : ℕ → ℕ) → IsReachable net k → (s : ℕ) → IsKahnPrefix net s (shown net k s)
 
 abbrev pub ShownIsWhole : Type 0
-ShownIsWhole = (net : Network) → IsNetwork net → (k : ℕ → ℕ) → HaveJoinedEnded net k → (s : ℕ) → net.producer s < net.size → IsJoined net (net.producer s) → IsKahnStream net s (shown net k s)
+ShownIsWhole =
+    (net : Network) → IsNetwork net → (k : ℕ → ℕ) → HaveJoinedEnded net k → (s : ℕ) → net.producer s < net.size → IsJoined net (net.producer s)
+    → IsKahnStream net s (shown net k s)
 
--- the fewest ticks of all instances, detached ones too, with which every joined instance can have ended
+-- the fewest ticks of all instances, detached ones too, with which every instance that is waited for can have ended
 pub record IsLeastToEnd (net : Network) (a : ℕ) : Type 0 where
   pub count : ℕ → ℕ
   pub reachable : IsReachable net count
@@ -61,7 +73,7 @@ pub record IsLeastToEnd (net : Network) (a : ℕ) : Type 0 where
 abbrev pub EndsHaveALeast : Type 0
 EndsHaveALeast = (net : Network) → IsNetwork net → (n : ℕ) (k : ℕ → ℕ) → IsDone net n k → (a : ℕ) × IsLeastToEnd net a
 
--- ---- where every instance is joined, the one count that allows no step tells the outcome
+-- ---- where every instance is waited for, the one count that allows no step determines the outcome
 
 abbrev pub AreAllJoined : Network → Type 0
 AreAllJoined net = (i : ℕ) → i < net.size → IsJoined net i
@@ -84,7 +96,7 @@ pub record IsToldByItsEnd (net : Network) (n : ℕ) : Type 0 where
   -- it makes more ticks, or never ends
   pub past : GoesPast net n ↔ ((m : ℕ → ℕ) → IsEnding net m → n < total net.size m)
   pub ticks : (k : ℕ → ℕ) → joined_ticks net k ≡ total net.size k
-  -- and the least sum is that of the end
+  -- the least sum is that of the end
   pub least : (a : ℕ) (k : ℕ → ℕ) → IsLeastToEnd net a → IsDone net n k → a ≡ total net.size k
 
 abbrev pub JoinedNetworksAreToldByTheirEnd : Type 0

@@ -13,3 +13,4 @@ pub mod Cells
 pub mod OneMeaning
 pub mod Standing
 pub mod Ending
+pub mod LastCells

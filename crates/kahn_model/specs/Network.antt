@@ -5,7 +5,7 @@ use Rattle.tapa_base.specs.declared.token.Token.{Token}
 use Rattle.kahn_model.specs.Behavior.{Action, Put, Tick, Did, Take, Behavior, Finished, OutOfTurns, Act, Await, ticks, Extends, Lasts}
 
 -- a network: for each instance a job, which has a behavior for each number of tests that a run of a loop may make, and
--- whether it is not waited for (TAPA: `invoke<tapa::detach>`); and for each stream its two ends and its depth
+-- whether it is not waited for (TAPA: `invoke<tapa::detach>`); and for each stream its producer, its consumer and its depth
 pub record Network : Type 0 where
   pub size : ℕ
   pub job : ℕ → ℕ → Behavior

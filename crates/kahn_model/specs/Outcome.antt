@@ -1,5 +1,5 @@
--- How a network ends at its declared depths, within a bound on ticks. A stream holds no more tokens than its depth (TAPA,
--- streams). A run waits for the joined instances; a detached one goes on as long as it may and is not waited for (TAPA,
+-- How a network ends at its declared depths, within a bound on ticks. A stream has no more tokens than its depth (TAPA,
+-- streams). A run waits for the instances that are not detached; a detached one goes on as long as it may (TAPA,
 -- `invoke<tapa::detach>`).
 use Rattle.std.specs.Prelude.{◌≡◌, ◌⊎◌, ℕ, ◌<◌, ◌≤◌, List, [], length, false, if◌then◌else◌, Some}
 use Rattle.tapa_base.specs.declared.token.Token.{Token}
@@ -27,15 +27,15 @@ IsJoined net i = net.detached i ≡ false
 abbrev pub joined_part : Network → (ℕ → ℕ) → ℕ → ℕ
 joined_part net k i = if net.detached i then 0 else k i
 
--- their ticks in a count
+-- the ticks of the instances that are waited for
 abbrev pub joined_ticks : Network → (ℕ → ℕ) → ℕ
 joined_ticks net k = total net.size (joined_part net k)
 
--- each of them has made its last tick
+-- each instance that is waited for has made its last tick
 abbrev pub HaveJoinedEnded : Network → (ℕ → ℕ) → Type 0
 HaveJoinedEnded net k = (i : ℕ) → i < net.size → IsJoined net i → HasEnded net k i
 
--- one of them has not
+-- some instance that is waited for has not made its last tick
 pub record HasJoinedLeft (net : Network) (k : ℕ → ℕ) : Type 0 where
   pub instance : ℕ
   pub inside : instance < net.size
@@ -44,34 +44,34 @@ pub record HasJoinedLeft (net : Network) (k : ℕ → ℕ) : Type 0 where
 
 -- ---- the outcome for the bound n, by the greatest count k
 
--- every joined instance has ended, and they have made at most n ticks in all
+-- every instance that is waited for has ended, and they have made at most n ticks in all
 pub record IsDone (net : Network) (n : ℕ) (k : ℕ → ℕ) : Type 0 where
   pub greatest : IsGreatest net n k
   pub ended : HaveJoinedEnded net k
   pub within : joined_ticks net k ≤ n
 
--- no step is allowed, some joined instance has not ended, and they have made at most n ticks in all
+-- no step is allowed, some instance that is waited for has not ended, and they have made at most n ticks in all
 pub record IsStopped (net : Network) (n : ℕ) (k : ℕ → ℕ) : Type 0 where
   pub greatest : IsGreatest net n k
   pub over : (i : ℕ) → IsAllowed net k i → ⊥
   pub left : HasJoinedLeft net k
   pub within : joined_ticks net k ≤ n
 
--- some joined instance has not ended, and a step is allowed
+-- some instance that is waited for has not ended, and a step is allowed
 pub record GoesOn (net : Network) (k : ℕ → ℕ) : Type 0 where
   pub left : HasJoinedLeft net k
   pub instance : ℕ
   pub allowed : IsAllowed net k instance
 
--- neither of the two: the joined instances have made more than n ticks in all, or go on
+-- neither done nor stopped: the instances that are waited for have made more than n ticks in all, or go on
 pub record IsPast (net : Network) (n : ℕ) (k : ℕ → ℕ) : Type 0 where
   pub greatest : IsGreatest net n k
   pub more : (n < joined_ticks net k) ⊎ GoesOn net k
 
 -- ---- what is shown, and what is waited for
 
--- the tokens of stream s that a run shows where every joined instance has ended: those that are written where its producer
--- is joined, else those that are taken where its consumer is, else none
+-- the tokens of stream s that a run shows where every instance that is waited for has ended: those that are written where its
+-- producer is waited for, else those that are taken where its consumer is, else none
 abbrev pub shown : Network → (ℕ → ℕ) → ℕ → List Token
 shown net k s = if net.detached (net.producer s) then (if net.detached (net.consumer s) then [] else taken net k s) else written net k s
 

@@ -6,7 +6,7 @@ ghost use Rattle.kahn_model.specs.Network.{Network, IsNetwork, stream, round};
 ghost use Rattle.kahn_model.specs.Counts.{IsReachable, IsFounded, IsEnding, IsKahnPrefix, written, ticks_made, next, HasToken, IsSupplied, HasEnded, IsKahnStream, total, round_of};
 ghost use Rattle.kahn_model.specs.Outcome.{WaitsToWrite, WaitsToRead, HasBadToken, IsGreatest, HaveJoinedEnded};
 ghost use Rattle.kahn_model.specs.Ending.{NetworksRunInThreeWays, NetworksRunInOneWay, EndsShowAlike, EndsStay, ShownBegins, ShownIsWhole, IsLeastToEnd, EndsHaveALeast};
-ghost use Rattle.kahn_model.specs.Ending.{JoinedNetworksAreToldByTheirEnd};
+ghost use Rattle.kahn_model.specs.Ending.{JoinedNetworksAreToldByTheirEnd, NonePassesAnEnd, StopsStay};
 ghost use Rattle.kahn_model.specs.Standing.{InstancesStandOneWay};
 ghost use Rattle.kahn_model.specs.Timed.{Clock, IsClock, count_at};
 ghost use Rattle.kahn_model.specs.Trace.{State};
@@ -14,6 +14,7 @@ ghost use Rattle.kahn_model.specs.ProgramNetwork.{network_with, IsWired};
 ghost use Rattle.kahn_model.specs.Start.{network_of};
 ghost use Rattle.kahn_model.specs.OneMeaning.{ProgramsOfOneMeaning};
 ghost use Rattle.kahn_model.specs.Cells.{cells_at};
+ghost use Rattle.kahn_model.specs.LastCells.{EndsLeaveAlike};
 ghost use Rattle.tapa_base.specs.Kinds.{values_of};
 ghost use Rattle.tapa_syntax.specs.declared.program.Memory.{Memory};
 ghost use Rattle.kahn_model.specs.Fits.{IsTokenOf, KeepsKinds, TickFits, stream_kind, memory_kind, FitsInput};
@@ -39,9 +40,15 @@ pub fn law_done_is_whole()
     ensures { (net : Network) → IsNetwork net → (k : ℕ → ℕ) (s : ℕ) → HasEnded net k (net.producer s) → IsKahnStream net s (written net k s) }
 {}
 
-/// At most one reachable count allows no step.
+/// At most one reachable count allows no step, and no reachable count is past it, whatever the order of steps.
 pub fn law_one_end()
-    ensures { (net : Network) → IsNetwork net → (k m : ℕ → ℕ) → IsEnding net k → IsEnding net m → (i : ℕ) → k i ≡ m i }
+    ensures one { (net : Network) → IsNetwork net → (k m : ℕ → ℕ) → IsEnding net k → IsEnding net m → (i : ℕ) → k i ≡ m i }
+    ensures below { NonePassesAnEnd }
+{}
+
+/// A network that stops within a bound on ticks stops at the same count within every greater bound.
+pub fn law_stops_stay()
+    ensures { StopsStay }
 {}
 
 /// The next tick of a count is the tick there of any round, if its token is written or it needs none.
@@ -50,7 +57,7 @@ pub fn law_next_in_time()
         → HasToken net k t → next net k i ≡ Some t }
 {}
 
-/// The laws hold for the network of every program whose streams each have their two ends.
+/// The laws hold for the network of every program whose streams each have a writer and a reader.
 pub fn law_wired_network()
     ensures { (program : Program) → IsWired program → (first : ℕ → State) → IsNetwork (network_with program first) }
 {}
@@ -79,7 +86,7 @@ pub fn law_tokens_fit()
         → All (TickFits (stream_kind program) (memory_kind program i)) (ticks_made (network_of program scalars memories) k i) }
 {}
 
-/// So the cells of each memory at every count are values of its kind.
+/// The cells of each memory at every count are values of its kind.
 pub fn law_cells_fit()
     ensures { (program : Program) → IsWellFormed program → (scalars : List ℕ) (memories : List (List ℕ)) → FitsInput program scalars memories
         → (k : ℕ → ℕ) (m : ℕ) (c : Memory) → slice_get program.memories.items m ≡ Some c → All (λ v. v < values_of c.kind) (cells_at program scalars memories k m) }
@@ -91,8 +98,8 @@ pub fn law_clock_is_founded()
     ensures { (net : Network) → IsNetwork net → (clock : Clock) (n : ℕ) → IsFounded net (count_at net clock n) }
 {}
 
-/// What has ended in a reachable count has ended in the counts of a clock after at most so many cycles. So have all joined
-/// instances after at most so many cycles as the fewest ticks say with which they can end.
+/// What has ended in a reachable count has ended in the counts of a clock after a number of cycles that the ticks of that count bound.
+/// The instances that are waited for have ended after a number of cycles that the fewest ticks with which they can end bound.
 pub fn law_done_in_time()
     ensures ended { (net : Network) → IsNetwork net → (clock : Clock) (top : ℕ) (ready : ℕ → Bool) (waits : ℕ) → IsClock clock top ready waits → (k : ℕ → ℕ) → IsReachable net k
         → (n : ℕ) × (1 ≤ n) × (n ≤ 1 + total net.size k * suc top + waits) × ((i : ℕ) → HasEnded net k i → HasEnded net (count_at net clock n) i) }
@@ -115,32 +122,38 @@ pub fn law_waits()
         ⊎ (((s : ℕ) × WaitsToRead net k i s) ⊎ ((s : ℕ) × HasBadToken net k i s)) }
 {}
 
-/// Within a bound on ticks a network ends, or it stops, or neither, and does one of these alone.
+/// Within a bound on ticks a network ends, or it stops, or neither, and only one of these.
 pub fn law_three_ways()
     ensures some { NetworksRunInThreeWays }
     ensures one { NetworksRunInOneWay }
 {}
 
-/// Where all joined instances have ended, they have made as many ticks and the streams show the same tokens, whatever the
-/// bound and the order of steps; and with a greater bound they end too.
+/// Where all instances that are waited for have ended, the number of their ticks and the tokens that the streams show are the
+/// same, whatever the bound and the order of steps; and with a greater bound they end too.
 pub fn law_ends_alike()
     ensures alike { EndsShowAlike }
     ensures stay { EndsStay }
 {}
 
-/// What is shown of a stream begins its Kahn stream, and is all of it where its producer is joined and every joined
-/// instance has ended.
+/// Where all instances that are waited for have ended, the memories that they own have the same cells, whatever the bound
+/// and the order of steps.
+pub fn law_last_cells_alike()
+    ensures { EndsLeaveAlike }
+{}
+
+/// The tokens that are shown of a stream are a prefix of its Kahn stream, and all of it where its producer is waited for and every
+/// instance that is waited for has ended.
 pub fn law_shown_is_kahn()
     ensures begins { ShownBegins }
     ensures whole { ShownIsWhole }
 {}
 
-/// Where all joined instances end, some number of ticks is the least with which they can.
+/// Where all instances that are waited for end, there is a least number of ticks with which they can.
 pub fn law_least_to_end()
     ensures { EndsHaveALeast }
 {}
 
-/// Where every instance is joined, the outcome is told by the one count that allows no step: how many ticks it has, and
+/// Where every instance is waited for, the one count that allows no step determines the outcome: how many ticks it has, and
 /// whether every instance has ended at it.
 pub fn law_told_by_its_end()
     ensures { JoinedNetworksAreToldByTheirEnd }
@@ -152,7 +165,7 @@ pub fn law_one_standing()
     ensures { InstancesStandOneWay }
 {}
 
-/// Among the reachable counts with at most so many ticks of each instance one is at least every other.
+/// Among the reachable counts with at most `cap` ticks of each instance one is at least every other.
 pub fn law_greatest()
     ensures { (net : Network) → IsNetwork net → (cap : ℕ) → (k : ℕ → ℕ) × IsGreatest net cap k }
 {}

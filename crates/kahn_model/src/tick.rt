@@ -34,7 +34,7 @@ pub enum TraceEnd {
 }
 
 /// An operation that waits for a token. `Read` and `Open` take it, `Peek` and `TestEot` leave it; `Read` and `Peek` are for
-/// data, `Open` is for the end of a transaction, and `TestEot` tells which of them is next.
+/// data, `Open` is for the end of a transaction, and `TestEot` says which of them is next.
 #[derive(Clone, Copy, PartialEq, Eq, Debug)]
 pub enum StreamOperation {
     Read,

@@ -21,7 +21,7 @@ use Rattle.kahn_reference.specs.declared.slow.Turn.{Turn}
 use Rattle.kahn_reference.specs.declared.slow.Turn.TheVariants.{Stopped as StoppedTurn}
 use Rattle.kahn_reference.specs.Slow.{numbers, whole}
 
--- a leaf with these kinds stands at a state of its kinds, and the list at each of its positions has tokens of the kind there
+-- the state of a leaf fits its kinds, and the list at each of its positions has tokens of the kind there
 pub record StandsFit (K : Kinds) (streams : List ℕ) (lists : List (Vec Token Global)) (σ : State) : Type 0 where
   pub state : IsFitState K σ
   pub tokens : (p : ℕ) → All (IsTokenOf (K.streams p)) (whole lists (numbers streams p))

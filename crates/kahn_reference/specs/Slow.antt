@@ -31,14 +31,14 @@ row_at (Some v) = v.items
 abbrev pub whole : List (Vec Token Global) → ℕ → List Token
 whole lists s = row_at (slice_get lists s)
 
--- what is left of each list
+-- the rest of each list, from its head on
 abbrev pub feed : List (Vec Token Global) → List ℕ → ℕ → List Token
 feed lists heads s = drop (slice_index heads s) (row_at (slice_get lists s))
 
 abbrev pub state_of : Variables → State
 state_of s = record { vars = s.vars.items; arrays = rows_of s.arrays.items; cells = rows_of s.cells.items }
 
--- where a run stands: its ticks, what is left of the lists, and its state
+-- the state of a run: its ticks, the rest of each list, and its variables, arrays and cells
 pub record Point : Type 0 where
   pub ticks : List Tick
   pub ins : ℕ → List Token
@@ -52,7 +52,7 @@ pub record GoesOn (before : List Tick) (a : Behavior) (ins : ℕ → List Token)
   pub ticks_are : before ++ ticks a ins ≡ after ++ ticks b outs
   pub trace_end_is : trace_end a ins ≡ trace_end b outs
 
--- the behavior a ends at a end, with the ticks `after`
+-- the behavior a ends with m, with the ticks `after`
 pub record Stops (before : List Tick) (a : Behavior) (ins : ℕ → List Token) (after : List Tick) (m : TraceEnd) : Type 0 where
   pub ticks_are : before ++ ticks a ins ≡ after
   pub trace_end_is : trace_end a ins ≡ m

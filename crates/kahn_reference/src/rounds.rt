@@ -156,7 +156,7 @@ fn next_round(
     Ok(next)
 }
 
-// No token on any of so many streams.
+// No token on any of `count` streams.
 fn no_tokens(alloc: Global, count: usize) -> Result<Vec<Vec<Token>>, AllocError>
     ensures { IfOk result (λ r. (s : ℕ) → whole r.items s ≡ []) }
 {

@@ -1,4 +1,4 @@
-//! The statements that hold no statements, each as it is defined.
+//! The statements that contain no statements, each as it is defined.
 
 ghost use Rattle.std.specs.Prelude.{◌≡◌, ◌≢◌, ℕ, length, IfOk, IfErr};
 ghost use Rattle.tapa_syntax.specs.declared.program.Stmt.TheVariants.{Set, SetCell, SetCellBy, Store as StoreCell, StoreBy, ReadVar, ReadCell, ReadStore, Write, Open as OpenIt, Discard};
@@ -27,7 +27,8 @@ pub(crate) fn run_set(
 ) -> Result<Flow, Fault>
     requires { length run.old.heads.items ≡ length lists.now }
     ensures heads { IfOk result (λ f. length run.new.heads.items ≡ length lists.now) }
-    ensures flow { IfOk result (λ f. (K : Kinds) (n : ℕ) → GivesFlow (numbers streams.now) f (point lists.now run.old) (stmt K n (Set x e.now) (state_of run.old.state)) (point lists.now run.new)) }
+    ensures flow { IfOk result (λ f. (K : Kinds) (n : ℕ) → GivesFlow (numbers streams.now) f (point lists.now run.old)
+        (stmt K n (Set x e.now) (state_of run.old.state)) (point lists.now run.new)) }
     ensures fits { IfOk result (λ f. (K : Kinds) → IsTyped K (Set x e.now) → StandsFit K streams.now lists.now (state_of run.old.state) → FlowFits K (state_of run.new.state) f) }
     ensures cause { IfErr result (λ fault. (K : Kinds) → IsTyped K (Set x e.now) → StandsFit K streams.now lists.now (state_of run.old.state) → fault ≢ NotOfItsKind) }
 {
@@ -53,7 +54,8 @@ pub(crate) fn run_set_cell(
     ensures heads { IfOk result (λ f. length run.new.heads.items ≡ length lists.now) }
     ensures flow { IfOk result (λ f. (K : Kinds) (n : ℕ) → GivesFlow (numbers streams.now) f (point lists.now run.old)
         (stmt K n (SetCell array index.now value.now) (state_of run.old.state)) (point lists.now run.new)) }
-    ensures fits { IfOk result (λ f. (K : Kinds) → IsTyped K (SetCell array index.now value.now) → StandsFit K streams.now lists.now (state_of run.old.state) → FlowFits K (state_of run.new.state) f) }
+    ensures fits { IfOk result (λ f. (K : Kinds) → IsTyped K (SetCell array index.now value.now) → StandsFit K streams.now lists.now (state_of run.old.state)
+        → FlowFits K (state_of run.new.state) f) }
     ensures cause { IfErr result (λ fault. (K : Kinds) → IsTyped K (SetCell array index.now value.now) → StandsFit K streams.now lists.now (state_of run.old.state) → fault ≢ NotOfItsKind) }
 {
     match run_pair(lists, streams, run, value, index)? {
@@ -112,7 +114,8 @@ pub(crate) fn run_store(
         (stmt K n (StoreCell memory index.now value.now) (state_of run.old.state)) (point lists.now run.new)) }
     ensures fits { IfOk result (λ f. (K : Kinds) → IsTyped K (StoreCell memory index.now value.now) → StandsFit K streams.now lists.now (state_of run.old.state)
         → FlowFits K (state_of run.new.state) f) }
-    ensures cause { IfErr result (λ fault. (K : Kinds) → IsTyped K (StoreCell memory index.now value.now) → StandsFit K streams.now lists.now (state_of run.old.state) → fault ≢ NotOfItsKind) }
+    ensures cause { IfErr result (λ fault. (K : Kinds) → IsTyped K (StoreCell memory index.now value.now) → StandsFit K streams.now lists.now (state_of run.old.state)
+        → fault ≢ NotOfItsKind) }
 {
     match run_pair(lists, streams, run, value, index)? {
         Pair::Stopped(m) => Ok(Flow::Stopped(m)),
@@ -170,7 +173,8 @@ pub(crate) fn run_read_var(
         (stmt (kinds_of leaf.now) n (ReadVar stream var) (state_of run.old.state)) (point lists.now run.new)) }
     ensures fits { IfOk result (λ f. IsTyped (kinds_of leaf.now) (ReadVar stream var) → StandsFit (kinds_of leaf.now) streams.now lists.now (state_of run.old.state)
         → FlowFits (kinds_of leaf.now) (state_of run.new.state) f) }
-    ensures cause { IfErr result (λ fault. IsTyped (kinds_of leaf.now) (ReadVar stream var) → StandsFit (kinds_of leaf.now) streams.now lists.now (state_of run.old.state) → fault ≢ NotOfItsKind) }
+    ensures cause { IfErr result (λ fault. IsTyped (kinds_of leaf.now) (ReadVar stream var) → StandsFit (kinds_of leaf.now) streams.now lists.now (state_of run.old.state)
+        → fault ≢ NotOfItsKind) }
 {
     match ask_at(lists, streams, run, stream, StreamOperation::Read)? {
         Value::Stopped(m) => Ok(Flow::Stopped(m)),
@@ -250,7 +254,8 @@ pub(crate) fn run_write(
 ) -> Result<Flow, Fault>
     requires { length run.old.heads.items ≡ length lists.now }
     ensures heads { IfOk result (λ f. length run.new.heads.items ≡ length lists.now) }
-    ensures flow { IfOk result (λ f. (K : Kinds) (n : ℕ) → GivesFlow (numbers streams.now) f (point lists.now run.old) (stmt K n (Write p e.now) (state_of run.old.state)) (point lists.now run.new)) }
+    ensures flow { IfOk result (λ f. (K : Kinds) (n : ℕ) → GivesFlow (numbers streams.now) f (point lists.now run.old)
+        (stmt K n (Write p e.now) (state_of run.old.state)) (point lists.now run.new)) }
     ensures fits { IfOk result (λ f. (K : Kinds) → IsTyped K (Write p e.now) → StandsFit K streams.now lists.now (state_of run.old.state) → FlowFits K (state_of run.new.state) f) }
     ensures cause { IfErr result (λ fault. (K : Kinds) → IsTyped K (Write p e.now) → StandsFit K streams.now lists.now (state_of run.old.state) → fault ≢ NotOfItsKind) }
 {
@@ -294,7 +299,8 @@ pub(crate) fn run_discard(
 ) -> Result<Flow, Fault>
     requires { length run.old.heads.items ≡ length lists.now }
     ensures heads { IfOk result (λ f. length run.new.heads.items ≡ length lists.now) }
-    ensures flow { IfOk result (λ f. (K : Kinds) (n : ℕ) → GivesFlow (numbers streams.now) f (point lists.now run.old) (stmt K n (Discard e.now) (state_of run.old.state)) (point lists.now run.new)) }
+    ensures flow { IfOk result (λ f. (K : Kinds) (n : ℕ) → GivesFlow (numbers streams.now) f (point lists.now run.old)
+        (stmt K n (Discard e.now) (state_of run.old.state)) (point lists.now run.new)) }
     ensures fits { IfOk result (λ f. (K : Kinds) → IsTyped K (Discard e.now) → StandsFit K streams.now lists.now (state_of run.old.state) → FlowFits K (state_of run.new.state) f) }
     ensures cause { IfErr result (λ fault. (K : Kinds) → IsTyped K (Discard e.now) → StandsFit K streams.now lists.now (state_of run.old.state) → fault ≢ NotOfItsKind) }
 {

@@ -23,7 +23,7 @@ use std::alloc::{AllocError, Global};
 use tapa_base::{Token, number_at, value_at};
 use tapa_syntax::{Expr, Leaf, Stmt};
 
-/// What an instance holds: its variables, its arrays, and the cells of its memories.
+/// The state of an instance: its variables, its arrays, and the cells of its memories.
 #[derive(Drop)]
 pub struct Variables {
     pub vars: Vec<u64>,
@@ -31,7 +31,7 @@ pub struct Variables {
     pub cells: Vec<Vec<u64>>,
 }
 
-/// What a run has so far: what the instance holds, how many tokens it has taken from each list, and its ticks.
+/// What a run has so far: the state of the instance, how many tokens it has taken from each list, and its ticks.
 #[derive(Drop)]
 pub struct Run {
     pub state: Variables,
@@ -39,7 +39,7 @@ pub struct Run {
     pub ticks: Vec<Tick>,
 }
 
-/// An expression's value, or the end at which the run ends.
+/// An expression's value, or how the run ends in it.
 #[derive(Clone, Copy, PartialEq, Eq, Debug)]
 pub enum Value {
     Given(u64),
@@ -144,7 +144,7 @@ pub(crate) fn run_expr(
     }
 }
 
-/// How a statement is left: to the next one, by a break, by a continue, or at the end at which the run ends.
+/// What follows a statement: the next one, a break, a continue, or the end of the run.
 #[derive(Clone, Copy, PartialEq, Eq, Debug)]
 pub enum Flow {
     Next,
@@ -161,7 +161,7 @@ pub enum Turn {
     Stopped(TraceEnd),
 }
 
-/// Two values, or the end at which the run ends.
+/// Two values, or how the run ends in them.
 #[derive(Clone, Copy, PartialEq, Eq, Debug)]
 pub enum Pair {
     Given(u64, u64),

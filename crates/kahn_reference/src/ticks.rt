@@ -184,7 +184,7 @@ fn cell_count(arrays: &[Vec<u64>], a: u32) -> usize
     }
 }
 
-// So many ticks.
+// Appends `count` local ticks.
 fn note_times(run: &mut Run, count: usize) -> Result<(), AllocError>
     ensures ticks { IfOk result (λ u. run.new.ticks.items ≡ run.old.ticks.items ++ replicate count (Did Local)) }
     ensures state { IfOk result (λ u. run.new.state ≡ run.old.state) }

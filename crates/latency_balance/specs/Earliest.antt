@@ -1,4 +1,4 @@
--- The least balance in which every group stands as early as it can.
+-- The least balance in which every group is as early as it can be.
 use Rattle.std.specs.Prelude.{ℕ, ◌+◌, ◌-◌, ◌<◌, ◌≤◌}
 use Rattle.task_graph.specs.declared.Graph.{Graph}
 use Rattle.task_graph.specs.Arcs.{streams, tail, head}

@@ -1,7 +1,8 @@
+// Balances the latencies of a graph's streams with the fewest registers: cycles of each group, latency added to each stream, and a flow.
 ghost use Rattle.std.specs.Prelude.{◌≡◌, ◌<◌, ◌≤◌, ◌+◌, ◌-◌, ◌*◌, ◌^◌, ℕ, slice_index, length, IfOk};
 ghost use Rattle.task_graph.specs.Arcs.{streams};
 ghost use Rattle.flow_cert.specs.Verdicts.{balance_of};
-ghost use Rattle.latency_balance.specs.Moves.{AreLatencies, IsCarried};
+ghost use Rattle.latency_balance.specs.Moves.{AreLatencies, IsFlow};
 ghost use Rattle.latency_balance.specs.Result.{IsBalance};
 
 use crate::search::{Found, search_gain};
@@ -20,7 +21,7 @@ pub struct Balance {
 
 /// The widths of the streams that are not inner.
 fn first_flow(alloc: Global, graph: &Graph) -> Result<Vec<u64>, AllocError>
-    ensures { IfOk result (λ flow. IsCarried graph.now flow.items) }
+    ensures { IfOk result (λ flow. IsFlow graph.now flow.items) }
 {
     let mut flow = Vec::new(alloc);
     for e in 0..graph.streams() {

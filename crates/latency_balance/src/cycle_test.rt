@@ -1,3 +1,4 @@
+// The test of a cycle of moves: each is possible, they lead back to their group, no stream is gone back twice, and they gain.
 ghost use Rattle.std.specs.Prelude.{◌≡◌, ◌<◌, ◌≤◌, ◌^◌, IsTrue, length, IfOk};
 ghost use Rattle.task_graph.specs.Arcs.{streams, total};
 ghost use Rattle.latency_balance.specs.Moves.{AreLatencies, IsCycle, IsMove, gain_of, loss_of, move_at};

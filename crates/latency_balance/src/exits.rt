@@ -1,3 +1,4 @@
+// The moves of a graph by the group that they begin at, along its streams and back.
 ghost use Rattle.std.specs.Prelude.{◌<◌, ◌≤◌, length, IfOk, OnOk};
 ghost use Rattle.task_graph.specs.Arcs.{streams};
 ghost use Rattle.latency_balance.specs.Paths.{AreInside, AreExits};
@@ -6,7 +7,7 @@ use crate::moves::Move;
 use std::alloc::{AllocError, Global};
 use task_graph::Graph;
 
-/// The moves of a graph, by the group where they begin: those of a group stand from its number in `first` up to the next.
+/// The moves of a graph, by the group where they begin: those of group g are at the indices from `first[g]` to before `first[g + 1]`.
 #[derive(Drop)]
 pub struct Exits {
     pub moves: Vec<Move>,

@@ -2,7 +2,7 @@
 ghost use Rattle.latency_balance.specs.Result.{BalancesAreOne};
 
 /// A graph has one balance for the latencies of its streams: of those that take the fewest registers the one in which each group
-/// stands as early as it can.
+/// is as early as it can be.
 pub fn law_balances_are_one()
     ensures { BalancesAreOne }
 {}

@@ -1,3 +1,4 @@
+// The cheapest paths from a stream's tail to other groups (Dijkstra), and the cycle of moves by such a path and back along the stream.
 ghost use Rattle.std.specs.Prelude.{◌≡◌, ◌<◌, ◌≤◌, ◌^◌, ℕ, length, slice_index, IfOk, IfSome, OnOk};
 ghost use Rattle.task_graph.specs.Arcs.{streams};
 ghost use Rattle.latency_balance.specs.Moves.{AreLatencies};

@@ -1,6 +1,7 @@
+// A flow of greater weight: the flow of each stream is sent round by the cheapest path from its tail to its head while that gains.
 ghost use Rattle.std.specs.Prelude.{◌≡◌, ◌<◌, ◌≤◌, length, IfOk, IfSome};
 ghost use Rattle.task_graph.specs.Arcs.{streams};
-ghost use Rattle.latency_balance.specs.Moves.{AreLatencies, IsCarried, IsCycle};
+ghost use Rattle.latency_balance.specs.Moves.{AreLatencies, IsFlow, IsCycle};
 ghost use Rattle.latency_balance.specs.Paths.{AreExits};
 
 use crate::cycle_test::is_cycle;
@@ -100,11 +101,11 @@ fn settle_stream(
     stream: usize,
 ) -> Result<Vec<u64>, AllocError>
     requires lats { AreLatencies graph.now lat.now }
-    requires carried { IsCarried graph.now flow.items }
+    requires carried { IsFlow graph.now flow.items }
     requires heights { length heights.old ≡ graph.now.groups }
     requires exits { AreExits graph.now exits.now }
     requires stream { stream < streams graph.now }
-    ensures { IfOk result (λ flow. IsCarried graph.now flow.items) }
+    ensures { IfOk result (λ flow. IsFlow graph.now flow.items) }
 {
     'cycles: loop {
         match cycle_against(alloc, graph, lat, &flow, heights, exits, stream)? {
@@ -126,9 +127,9 @@ fn settle_streams(
     heights: &mut [u64],
 ) -> Result<Vec<u64>, AllocError>
     requires lats { AreLatencies graph.now lat.now }
-    requires carried { IsCarried graph.now flow.items }
+    requires carried { IsFlow graph.now flow.items }
     requires heights { length heights.old ≡ graph.now.groups }
-    ensures { IfOk result (λ flow. IsCarried graph.now flow.items) }
+    ensures { IfOk result (λ flow. IsFlow graph.now flow.items) }
 {
     let exits = exits_of(alloc, graph)?;
     for stream in 0..graph.streams() {
@@ -145,8 +146,8 @@ pub fn settled(
     flow: Vec<u64>,
 ) -> Result<Vec<u64>, AllocError>
     requires lats { AreLatencies graph.now lat.now }
-    requires carried { IsCarried graph.now flow.items }
-    ensures { IfOk result (λ flow. IsCarried graph.now flow.items) }
+    requires carried { IsFlow graph.now flow.items }
+    ensures { IfOk result (λ flow. IsFlow graph.now flow.items) }
 {
     let mut heights = heights_along(alloc, graph, lat)?;
     settle_streams(alloc, graph, lat, flow, &mut heights)

@@ -151,7 +151,7 @@ fn two_workers_meet_in_a_round(rt: HostRuntime) -> Result<(), Fail> {
     Ok(())
 }
 
-// How a case ends that so many workers drive at a board, and whether one of them was short.
+// How a case ends that `seats` workers drive at a board, and whether one of them was short.
 fn at_a_board<R: Threads + Wait + Sync, G: Gate>(
     rt: &R,
     alloc: Global,
@@ -198,7 +198,7 @@ fn the_others_go_on_at_a_board(rt: HostRuntime) -> Result<(), Fail> {
     Ok(())
 }
 
-// How a new network ends that so many workers drive at a board, each of whom passes a gate that is not open.
+// How a new network ends that `workers` workers drive at a board, each of whom passes a gate that is not open.
 fn behind_a_gate<R: Threads + Wait + Sync>(
     rt: &R,
     alloc: Global,
@@ -274,7 +274,7 @@ fn ends(alloc: Global, source: &str, budget: u64) -> Result<(Outcome, Outcome), 
     Ok((whole, apart))
 }
 
-// A budget of as many ticks as there are is enough, and one of a tick less is not.
+// A budget of all ticks is enough, and one of a tick less is not.
 #[test]
 fn a_budget_of_all_ticks_is_enough(rt: HostRuntime) -> Result<(), Fail> {
     let enough = ends(rt.alloc(), SHIFTS, 20)?;

@@ -1,3 +1,4 @@
+// Tests of files on the system, read whole or refused past a limit, and of bytes written to standard output.
 use std::fs;
 use std::test::Fail;
 use tapa_files::{DirShelf, StdSink, TakeFault, put_all, take_file};

@@ -3,7 +3,7 @@ use net_case::Gate;
 use std::hint;
 use std::sync::atomic::{AtomicU64, Ordering};
 
-// So often a gate looks for another worker before it lets one through that none has come to meet.
+// How often a gate looks for another worker before it lets one through that none has come to meet.
 const LOOKS: u64 = 100_000_000;
 
 /// A program of two tasks of which each may begin at once. They make 20 ticks in all.
@@ -36,7 +36,7 @@ impl Gate for Closed {
 pub struct Meeting {
     first: AtomicU64,
     second: AtomicU64,
-    /// How many found the other one there.
+    /// How many met the other one there.
     pub met: AtomicU64,
 }
 

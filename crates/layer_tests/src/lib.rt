@@ -7,8 +7,10 @@ mod cases;
 #[cfg(test)]
 mod files;
 mod gates;
+mod programs;
 mod threads;
 #[cfg(test)]
 mod traces;
 
 pub use gates::{APART, Closed, Meeting, SHIFTS, Slow};
+pub use programs::{CROSSING_STOPS, PATH, short};

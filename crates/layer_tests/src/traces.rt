@@ -1,3 +1,4 @@
+// Tests of traces: the ticks that a leaf task makes on given tokens, and how its trace ends.
 use kahn_model::tick::{Action, Tick, TraceEnd};
 use kahn_reference::slow::{Fault, Variables, trace};
 use std::alloc::{AllocError, Global};
@@ -139,7 +140,7 @@ fn path(alloc: Global) -> Result<Program, AllocError> {
     Ok(program(alloc, bodies, instances, streams))
 }
 
-// The number of ticks of an instance of the path program on lists of so many tokens, and its end.
+// The number of ticks of an instance of the path program on lists of `tokens` tokens, and its end.
 fn ticks_of(alloc: Global, i: usize, n: u64, tokens: usize) -> Result<(usize, TraceEnd), Fault> {
     let path = path(alloc)?;
     let q = vec![in alloc; Token::Datum(5); tokens]?;

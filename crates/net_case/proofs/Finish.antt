@@ -25,7 +25,7 @@ use Rattle.net_case.specs.declared.batch.Process.{Process}
 use Rattle.net_case.specs.declared.case_state.CaseState.{CaseState}
 use Rattle.net_case.specs.declared.queue.Queue.{Queue}
 use Rattle.net_case.specs.Home.{IsQuiet, IsHeldBack, IsCaseAt, outs}
-use Rattle.net_case.specs.Over.{MayStep, IsOver, Answers}
+use Rattle.net_case.specs.Over.{MayStep, IsOver, ClaimAnswers}
 use Rattle.net_case.specs.State.{net_of, IsOut, IsAtHome, AreAllHome, IsValidCase}
 use Rattle.net_case.specs.Claims.{IsFinished, Rests, IsEnd, MustWait}
 use Rattle.net_case.proofs.Over.{over_means}
@@ -105,10 +105,10 @@ module _ {B : Type 0} (Stands : B → Job → List Tick → Type 0) (program : P
       by false d h = let u = h.joined d in let v = may.joined d in omega arith
 
   module _ (home : AreAllHome state) (finished : IsFinished state) where
-    pub goes_past : budget < joined → Answers N budget k Limit
+    pub goes_past : budget < joined → ClaimAnswers N budget k Limit
     goes_past l = let e = c.joined_is in inl (omega arith)
 
-    pub is_done : joined ≤ budget → HaveJoinedEnded N k → Answers N budget k (Done joined)
+    pub is_done : joined ≤ budget → HaveJoinedEnded N k → ClaimAnswers N budget k (Done joined)
     is_done l h = let e = c.joined_is in (omega arith, h, e)
 
     module _ (left : HasJoinedLeft N k) where
@@ -119,7 +119,7 @@ module _ {B : Type 0} (Stands : B → Job → List Tick → Type 0) (program : P
           (λ (h : HaveJoinedEnded N k). absurd (left.goes_on (h left.instance left.inside left.joined)))
           finished
 
-      pub some_fuel : IsSomeWithFuel pauses → Answers N budget k Limit
+      pub some_fuel : IsSomeWithFuel pauses → ClaimAnswers N budget k Limit
       some_fuel (j, at) =
           let w = slice_get_within pauses j (Some Fuel) at in
           let e = c.pauses_len in
@@ -138,7 +138,7 @@ module _ {B : Type 0} (Stands : B → Job → List Tick → Type 0) (program : P
             (λ (h : IsHeldBack N budget k j r.0). absurd (none j (r.1 ∙ ap (λ z. Some (Some z)) h.fuel)))
             r.2
 
-        pub is_stopped : joined ≤ budget → Answers N budget k (Stopped joined)
+        pub is_stopped : joined ≤ budget → ClaimAnswers N budget k (Stopped joined)
         is_stopped l =
             let e = c.joined_is in (
               omega arith,
@@ -160,7 +160,7 @@ module _ {B : Type 0} (Stands : B → Job → List Tick → Type 0) (program : P
         (λ (h : HaveJoinedEnded N k). inr h)
         finished
 
-    pub ends_so : (o : Outcome) → Answers N budget k o → EndsAs (net_of state) budget o
+    pub ends_so : (o : Outcome) → ClaimAnswers N budget k o → EndsAs (net_of state) budget o
     ends_so (Done t) h = over_means N c.network.is_network budget k c.reachable c.capped is_over (Done t) h
     ends_so (Stopped t) h = over_means N c.network.is_network budget k c.reachable c.capped is_over (Stopped t) h
     ends_so Limit h = over_means N c.network.is_network budget k c.reachable c.capped is_over Limit h
@@ -168,7 +168,7 @@ module _ {B : Type 0} (Stands : B → Job → List Tick → Type 0) (program : P
     abbrev pub ending : Bool → Bool → Bool → Outcome
     ending past done on = if past then Limit else (if done then Done joined else (if on then Limit else Stopped joined))
 
-    answer_by : (past done on : Bool) → (past ≡ true → budget < joined) → (past ≡ false → joined ≤ budget) → MatchBool done (HaveJoinedEnded N k) (HasJoinedLeft N k) → MatchBool on (IsSomeWithFuel pauses) (AreNoneWithFuel pauses) → Answers N budget k (ending past done on)
+    answer_by : (past done on : Bool) → (past ≡ true → budget < joined) → (past ≡ false → joined ≤ budget) → MatchBool done (HaveJoinedEnded N k) (HasJoinedLeft N k) → MatchBool on (IsSomeWithFuel pauses) (AreNoneWithFuel pauses) → ClaimAnswers N budget k (ending past done on)
     answer_by true done on more few d o = goes_past (more refl)
     answer_by false true on more few d o = is_done (few refl) d
     answer_by false false true more few d o = some_fuel d o
@@ -180,13 +180,13 @@ module _ {B : Type 0} (Stands : B → Job → List Tick → Type 0) (program : P
     settled_by false false true t d o = tt
     settled_by false false false t d o = all_told d o
 
-    pub answers : (done on : Bool) → MatchBool done (HaveJoinedEnded N k) (HasJoinedLeft N k) → MatchBool on (IsSomeWithFuel pauses) (AreNoneWithFuel pauses) → Answers N budget k (ending (nat_lt budget joined) done on)
+    pub answers : (done on : Bool) → MatchBool done (HaveJoinedEnded N k) (HasJoinedLeft N k) → MatchBool on (IsSomeWithFuel pauses) (AreNoneWithFuel pauses) → ClaimAnswers N budget k (ending (nat_lt budget joined) done on)
     answers done on d o = answer_by (nat_lt budget joined) done on (λ e. grind (arith, nat_tests)) (λ e. grind (arith, nat_tests)) d o
 
     pub settles : (done on : Bool) → (done ≡ true → AreJoinedTold (net_of state)) → MatchBool done (HaveJoinedEnded N k) (HasJoinedLeft N k) → MatchBool on (IsSomeWithFuel pauses) (AreNoneWithFuel pauses) → IsSettled (net_of state) (ending (nat_lt budget joined) done on)
     settles done on t d o = settled_by (nat_lt budget joined) done on t d o
 
-    pub is_end : (o : Outcome) → Answers N budget k o → IsSettled (net_of state) o → IsEnd state o state
+    pub is_end : (o : Outcome) → ClaimAnswers N budget k o → IsSettled (net_of state) o → IsEnd state o state
     is_end o a s = record { same = same_case state; home = home; over = is_over; answer = a; outcome = ends_so o a; settled = s }
 
   -- some instance is out

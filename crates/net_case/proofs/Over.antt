@@ -17,7 +17,7 @@ use Rattle.kahn_model.proofs.Joined.{joined_up, joined_more}
 use Rattle.kahn_model.proofs.Shown.{ends_alike}
 use Rattle.net_core.specs.declared.outcome.Outcome.{Outcome}
 use Rattle.net_core.specs.declared.outcome.Outcome.TheVariants.{Done, Stopped, Limit}
-use Rattle.net_case.specs.Over.{MayStep, IsOver, Answers, Means}
+use Rattle.net_case.specs.Over.{MayStep, IsOver, ClaimAnswers, MeansClaim}
 
 -- whether an instance is joined
 by_join : (b : Bool) → (b ≡ false) ⊎ (b ≡ true)
@@ -115,7 +115,7 @@ module _ (net : Network) (ok : IsNetwork net) (budget : ℕ) (k : ℕ → ℕ) (
       over)
       h
 
-  pub over_means : IsOver net budget k → (o : Outcome) → Answers net budget k o → Means net budget k o
+  pub over_means : IsOver net budget k → (o : Outcome) → ClaimAnswers net budget k o → MeansClaim net budget k o
   over_means over (Done t) h = (let g = greatest net ok budget in done_by g.0 g.1 h.0 h.1, h.1, h.2)
   over_means over (Stopped t) h = (
     record {

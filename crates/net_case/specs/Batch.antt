@@ -40,12 +40,13 @@ pub record KeepsTokens (before after : Ports) : Type 0 where
 abbrev pub AreRoomsWhole : List ℕ → ℕ → Ports → Type 0
 AreRoomsWhole limits m ports = (p : ℕ) → p < m → WritesAt ports p → room_at ports p ≡ slice_index limits p - length (carried ports p)
 
--- so many more ticks of instance i
+-- m more ticks of instance i
 abbrev pub with_ticks_of : ℕ → ℕ → (ℕ → ℕ) → ℕ → ℕ
 with_ticks_of i m k j = if j == i then k j + m else k j
 
--- a body that stood at the count k has made some more ticks of its job since, on the tokens that it had then
-pub record HasRun (Stands : List Tick → Type 0) (net : Network) (k : ℕ → ℕ) (i : ℕ) (job : ℕ → Behavior) (f : ℕ → ℕ) (R W : ℕ → Type 0) (limits : List ℕ) (made : ℕ) (ports : Ports) : Type 0 where
+-- a body that was at the count k has made some more ticks of its job since, on the tokens that it had then
+pub record HasRun (Stands : List Tick → Type 0) (net : Network) (k : ℕ → ℕ) (i : ℕ) (job : ℕ → Behavior) (f : ℕ → ℕ) (R W : ℕ → Type 0) (limits : List ℕ)
+    (made : ℕ) (ports : Ports) : Type 0 where
   pub before : List Tick
   pub count : length before ≡ k i
   pub new : List Tick
@@ -55,15 +56,15 @@ pub record HasRun (Stands : List Tick → Type 0) (net : Network) (k : ℕ → �
   pub runs : IsPrefixOf (before ++ new) (ticks (job tests) (λ p. written net k (f p)))
   -- what it took and what waits is what was written
   pub lists : (p : ℕ) → R p → lists_at (before ++ new) ports p ≡ written net k (f p)
-  -- what it put stands behind what was written
+  -- what it put follows what was written
   pub carries : (p : ℕ) → W p → carried ports p ≡ written net k (f p) ++ flat_map (put_on p) new
-  -- as many tokens may be written in all
+  -- the number of tokens that may be written in all
   pub limits_are : (p : ℕ) → W p → slice_index limits p ≡ length (taken net k (f p)) + net.depth (f p)
-  -- as many tokens were there to be taken
+  -- the number of tokens that were there to be taken
   pub given_are : (p : ℕ) → R p → slice_index limits p ≡ length (written net k (f p))
   pub puts : (p : ℕ) → W p → 0 < length (flat_map (put_on p) new) → length (carried ports p) ≤ slice_index limits p
 
--- on the tokens that were written at the count k the run of instance i ends after so many ticks more, with this mark
+-- on the tokens that were written at the count k the run of instance i ends after `made` ticks more, with this mark
 pub record EndsAfter (net : Network) (k : ℕ → ℕ) (i made : ℕ) (m : TraceEnd) : Type 0 where
   pub tests : ℕ
   pub all : length (ticks (net.job i tests) (written net k)) ≡ k i + made
@@ -85,7 +86,7 @@ StopsAfter net k i made f (BadToken p) = EndsAfter net k i made (Bad (f p))
 StopsAfter net k i made f (WantsWrite p) = FillsAfter net k i made (f p)
 StopsAfter net k i made f Fuel = Unit {0}
 
--- what an answer says of instance i after so many ticks more than in the count k: why it made no more, on the tokens and the
+-- what an answer says of instance i after `made` ticks more than in the count k: why it made no more, on the tokens and the
 -- room of that count; whether it has ended; and what holds of the new count: where it does not read what it writes itself the
 -- answer does, else an end, a bad token, that it may go on, and each answer to no tick
 pub record HasSaid (net : Network) (k : ℕ → ℕ) (i made : ℕ) (f : ℕ → ℕ) (fed_by_self : Type 0) (x : Pause) : Type 0 where
@@ -94,7 +95,8 @@ pub record HasSaid (net : Network) (k : ℕ → ℕ) (i made : ℕ) (f : ℕ →
   pub holds : (fed_by_self → ⊥) ⊎ ((made ≡ 0) ⊎ (IsLast x ⊎ (x ≡ Fuel))) → HoldsPause net (with_ticks_of i made k) i f x
 
 -- an instance is out with a batch since the count `at`, at which it could make a step
-pub record IsBatchAt {B : Type 0} (Stands : B → Job → List Tick → Type 0) (program : Program) (input : Input) (budget : ℕ) (at : List ℕ) (i from fuel made : ℕ) (pause : Option Pause) (ready : Bool) (body : B) (ports : Ports) (limits : List ℕ) : Type 0 where
+pub record IsBatchAt {B : Type 0} (Stands : B → Job → List Tick → Type 0) (program : Program) (input : Input) (budget : ℕ) (at : List ℕ) (i from fuel made : ℕ) (pause : Option Pause)
+    (ready : Bool) (body : B) (ports : Ports) (limits : List ℕ) : Type 0 where
   pub connected : IsConnected program
   pub network : IsNetworkOf program input
   pub well_formed : IsWellFormed program
@@ -108,12 +110,13 @@ pub record IsBatchAt {B : Type 0} (Stands : B → Job → List Tick → Type 0) 
   pub ends : ends_of ports ≡ ends_at program i
   pub limits_len : length limits ≡ arity program i
   pub spaces : (p : ℕ) → Reads program i p → 2 * depth_of program (stream_at program i p) ≤ space_at ports p
-  pub run : HasRun (Stands body (instance_job program input i)) (network_on program input) (count_of at) i (instance_job program input i).behavior (stream_at program i) (Reads program i) (Writes program i) limits made ports
+  pub run : HasRun (Stands body (instance_job program input i)) (network_on program input) (count_of at) i (instance_job program input i).behavior (stream_at program i) (Reads program i)
+      (Writes program i) limits made ports
   pub unrun : pause ≡ None → made ≡ 0
   pub says : (x : Pause) → pause ≡ Some x → HasSaid (network_on program input) (count_of at) i made (stream_at program i) (IsFedBySelf program i) x
   pub rooms : ready ≡ true → AreRoomsWhole limits (length limits) ports
 
--- the same instance is out with the same batch
+-- two states of one batch, which may differ in what it has made
 pub record IsSameLot (a b : Lot) : Type 0 where
   pub program : b.program ≡ a.program
   pub input : b.input ≡ a.input
@@ -146,4 +149,5 @@ pub record IsPrepared (a b : Lot) : Type 0 where
 -- and it stays within the budget
 abbrev pub CommitsAnywhere : Lot → Type 0
 CommitsAnywhere b =
-    (b.from + b.made ≤ b.budget) × ((m : ℕ → ℕ) → IsReachable (network_on b.program b.input) m → ((j : ℕ) → count_of b.at j ≤ m j) → m b.instance ≡ b.from → IsReachable (network_on b.program b.input) (with_ticks_of b.instance b.made m))
+    (b.from + b.made ≤ b.budget) × ((m : ℕ → ℕ) → IsReachable (network_on b.program b.input) m → ((j : ℕ) → count_of b.at j ≤ m j) → m b.instance ≡ b.from
+    → IsReachable (network_on b.program b.input) (with_ticks_of b.instance b.made m))

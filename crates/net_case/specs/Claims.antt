@@ -11,7 +11,7 @@ use Rattle.net_case.specs.declared.case_state.CaseState.{CaseState}
 use Rattle.net_case.specs.declared.claim.Claimed.{Claimed}
 use Rattle.net_case.specs.declared.claim.Claimed.TheVariants.{Work, Wait, Over}
 use Rattle.net_case.specs.Home.{IsAtRest}
-use Rattle.net_case.specs.Over.{MayStep, IsOver, Answers}
+use Rattle.net_case.specs.Over.{MayStep, IsOver, ClaimAnswers}
 use Rattle.net_case.specs.State.{network, count, net_of, IsOut, IsAtHome, AreAllHome}
 
 -- a case as it was, but for what its instances answered last
@@ -33,7 +33,7 @@ pub record StartsAt (c : CaseState) (b : Lot) : Type 0 where
   pub unrun : b.pause ≡ None
   pub unready : b.ready ≡ false
 
--- an instance that was at home and may step is out now, with some fuel and no more than what is left to it
+-- an instance that was at home and may step is out now, with some fuel and no more than the ticks that it may still make
 pub record HandsOut (c : CaseState) (b : Lot) (c' : CaseState) : Type 0 where
   pub inside : b.instance < length c.counts
   pub at_home : IsAtHome c b.instance
@@ -59,11 +59,11 @@ RestsIn c from to = (i : ℕ) → from ≤ i → i < to → IsAtHome c i → Res
 abbrev pub KeepsRest : CaseState → CaseState → Type 0
 KeepsRest c c' = (i : ℕ) → Rests c i → Rests c' i
 
--- no instance at home may step, or every joined one has ended
+-- no instance at home may step, or every one that is waited for has ended
 abbrev pub IsIdle : CaseState → Type 0
 IsIdle c = ((i : ℕ) → IsAtHome c i → MayStep (network c) c.budget (count c) i → ⊥) ⊎ HaveJoinedEnded (network c) (count c)
 
--- each instance at home is at rest, or every joined one has ended
+-- each instance at home is at rest, or every one that is waited for has ended
 abbrev pub IsFinished : CaseState → Type 0
 IsFinished c = ((i : ℕ) → IsAtHome c i → i < length c.counts → Rests c i) ⊎ HaveJoinedEnded (network c) (count c)
 
@@ -78,7 +78,7 @@ pub record IsEnd (c : CaseState) (o : Outcome) (c' : CaseState) : Type 0 where
   pub same : IsSameCase c c'
   pub home : AreAllHome c
   pub over : IsOver (network c) c.budget (count c)
-  pub answer : Answers (network c) c.budget (count c) o
+  pub answer : ClaimAnswers (network c) c.budget (count c) o
   pub outcome : EndsAs (net_of c') c.budget o
   pub settled : IsSettled (net_of c') o
 
@@ -107,7 +107,7 @@ pub record Commits (c : CaseState) (b : Lot) (c' : CaseState) : Type 0 where
   pub pauses : c'.pauses ≡ slice_set c.pauses b.instance (kept_of b.pause (slice_index_or c.pauses b.instance None))
 
 -- what a batch that is committed asks of the case: it is of the same run, and where the counts of its instance agree the
--- instance is out and each other one has made at least as many ticks as at the claim
+-- instance is out and each other one has made no fewer ticks than at the claim
 pub record MayCommit (c : CaseState) (b : Lot) : Type 0 where
   pub out : IsOut c b.instance
   pub later : (i : ℕ) → slice_index b.at i ≤ slice_index c.counts i

@@ -34,7 +34,8 @@ pub record AreInOrder (program : Program) (i : ℕ) (queues : List Queue) (taken
   pub ends : ends_of ports ≡ ends_at program i
   pub within : (s : ℕ) → s < length program.streams.items → slice_index taken_list s ≤ slice_index offered s
   pub given : (s : ℕ) → s < length program.streams.items → slice_index offered s ≤ slice_index taken_list s + length (queue_at queues s)
-  pub waits_are : (p : ℕ) → Reads program i p → waiting ports p ≡ take (slice_index offered (stream_at program i p) - slice_index taken_list (stream_at program i p)) (queue_at queues (stream_at program i p))
+  pub waits_are : (p : ℕ) → Reads program i p
+      → waiting ports p ≡ take (slice_index offered (stream_at program i p) - slice_index taken_list (stream_at program i p)) (queue_at queues (stream_at program i p))
   pub kinds : (s : ℕ) → s < length program.streams.items → AreTokensOf (stream_kind program s) (queue_at queues s)
   pub few : (s : ℕ) → s < length program.streams.items → length (queue_at queues s) ≤ depth_of program s
   pub small : (s : ℕ) → s < length program.streams.items → slice_index taken_list s + length (queue_at queues s) ≤ 1000000000000

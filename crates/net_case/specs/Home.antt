@@ -24,7 +24,7 @@ use Rattle.net_case.specs.Queue.{waits, space}
 abbrev pub outs : {B : Type 0} → List (Option (Process B)) → List Bool
 outs homes = map is_none homes
 
--- the queue of stream s holds what is written and not taken; so many tokens of it its reader was given
+-- the queue of stream s holds what is written and not taken; `took` tokens were taken, `gave` given to its reader
 pub record IsStreamAt (program : Program) (net : Network) (k : ℕ → ℕ) (s : ℕ) (q : Queue) (took gave : ℕ) : Type 0 where
   pub took_is : took ≡ length (taken net k s)
   pub rest : waits q ≡ drop took (written net k s)
@@ -32,14 +32,17 @@ pub record IsStreamAt (program : Program) (net : Network) (k : ℕ → ℕ) (s :
   pub given : gave ≤ length (written net k s)
   pub space_is : 2 * depth_of program s ≤ space q
 
--- an instance that is at home stands at the count
-pub record IsHome {B : Type 0} (Stands : B → Job → List Tick → Type 0) (program : Program) (input : Input) (counts taken_list offered : List ℕ) (i : ℕ) (body : B) (ports : Ports) (limits : List ℕ) : Type 0 where
+-- an instance that is at home is at the count
+pub record IsHome {B : Type 0} (Stands : B → Job → List Tick → Type 0) (program : Program) (input : Input) (counts taken_list offered : List ℕ) (i : ℕ) (body : B) (ports : Ports)
+    (limits : List ℕ) : Type 0 where
   pub standing : IsBodyAt (Stands body) program input counts i
   pub ends : ends_of ports ≡ ends_at program i
   pub limits_len : length limits ≡ arity program i
   pub carries : (p : ℕ) → Writes program i p → carried ports p ≡ written (network_on program input) (count_of counts) (stream_at program i p)
   pub waits_are :
-      (p : ℕ) → Reads program i p → waiting ports p ≡ drop (slice_index taken_list (stream_at program i p)) (take (slice_index offered (stream_at program i p)) (written (network_on program input) (count_of counts) (stream_at program i p)))
+      (p : ℕ) → Reads program i p
+      → waiting ports p ≡ drop (slice_index taken_list (stream_at program i p))
+      (take (slice_index offered (stream_at program i p)) (written (network_on program input) (count_of counts) (stream_at program i p)))
   pub spaces : (p : ℕ) → Reads program i p → 2 * depth_of program (stream_at program i p) ≤ space_at ports p
 
 -- its last answer still says why it makes no step
@@ -58,7 +61,8 @@ pub record IsHeldBack (net : Network) (budget : ℕ) (k : ℕ → ℕ) (i : ℕ)
 abbrev pub IsAtRest : Network → ℕ → (ℕ → ℕ) → ℕ → (ℕ → ℕ) → List (Option Pause) → Type 0
 IsAtRest net budget k i f pauses = (x : Pause) × (slice_get pauses i ≡ Some (Some x)) × (IsQuiet net k i f x ⊎ IsHeldBack net budget k i x)
 
-pub record IsCaseAt {B : Type 0} (Stands : B → Job → List Tick → Type 0) (program : Program) (input : Input) (budget : ℕ) (homes : List (Option (Process B))) (queues : List Queue) (taken_list offered counts : List ℕ) (pauses : List (Option Pause)) (listed : List Bool) (joined : ℕ) (writers : List ℕ) (fed_by_self : List Bool) : Type 0 where
+pub record IsCaseAt {B : Type 0} (Stands : B → Job → List Tick → Type 0) (program : Program) (input : Input) (budget : ℕ) (homes : List (Option (Process B))) (queues : List Queue)
+    (taken_list offered counts : List ℕ) (pauses : List (Option Pause)) (listed : List Bool) (joined : ℕ) (writers : List ℕ) (fed_by_self : List Bool) : Type 0 where
   pub connected : IsConnected program
   pub network : IsNetworkOf program input
   pub well_formed : IsWellFormed program
@@ -77,12 +81,13 @@ pub record IsCaseAt {B : Type 0} (Stands : B → Job → List Tick → Type 0) (
   pub fed_len : length fed_by_self ≡ length program.instances.items
   pub streams : (s : ℕ) (q : Queue) → slice_get queues s ≡ Some q → IsStreamAt program (network_on program input) (count_of counts) s q (slice_index taken_list s) (slice_index offered s)
   pub home : (i : ℕ) (x : Process B) → slice_get homes i ≡ Some (Some x) → IsHome Stands program input counts taken_list offered i x.body x.ports x.limits.items
-  -- what an instance answered last held once; no tick was made before the first answer; and who has ended has answered so
+  -- what an instance answered last was true once; no tick was made before the first answer; and who has ended has answered so
   pub paused : (i : ℕ) (x : Pause) → slice_get pauses i ≡ Some (Some x) → HasHeld (network_on program input) (count_of counts) i (stream_at program i) x
   pub unresumed : (i : ℕ) → slice_get pauses i ≡ Some None → count_of counts i ≡ 0
   pub unended : (i : ℕ) → i < length program.instances.items → (slice_get pauses i ≡ Some (Some Ended) → ⊥) → HasEnded (network_on program input) (count_of counts) i → ⊥
   -- who is at home and is not listed makes no step
-  pub rest : (i : ℕ) (x : Process B) → slice_get homes i ≡ Some (Some x) → slice_get listed i ≡ Some false → IsAtRest (network_on program input) budget (count_of counts) i (stream_at program i) pauses
+  pub rest : (i : ℕ) (x : Process B) → slice_get homes i ≡ Some (Some x) → slice_get listed i ≡ Some false
+      → IsAtRest (network_on program input) budget (count_of counts) i (stream_at program i) pauses
   pub joined_is : joined ≡ joined_ticks (network_on program input) (count_of counts)
   pub writer_is : (s : ℕ) → s < length program.streams.items → IsWriter program s (producer_of program s) (slice_index writers s)
   pub fed : (i : ℕ) (b : Bool) → slice_get fed_by_self i ≡ Some b → TellsFedBySelf program i b

@@ -1,4 +1,4 @@
--- What a look at an instance at home tells.
+-- What a look at an instance at home reports.
 use Rattle.std.specs.Prelude.{◌≡◌, ℕ, ◌<◌, ◌≤◌, Bool, List, length, Some, slice_get, slice_index, MatchBool}
 use Rattle.tapa_syntax.specs.declared.program.Program.{Program}
 use Rattle.tapa_syntax.specs.WellFormed.{IsWellFormed}
@@ -33,15 +33,19 @@ pub record AreStreamsAt (program : Program) (input : Input) (budget : ℕ) (queu
   pub streams : (s : ℕ) (q : Queue) → slice_get queues s ≡ Some q → IsStreamAt program (network_on program input) (count_of counts) s q (slice_index taken_list s) (slice_index offered s)
 
 -- instance i is at home there
-pub record CanLook {B : Type 0} (Stands : B → Job → List Tick → Type 0) (program : Program) (input : Input) (budget : ℕ) (queues : List Queue) (taken_list offered counts : List ℕ) (i : ℕ) (body : B) (ports : Ports) (limits : List ℕ) : Type 0 where
+pub record CanLook {B : Type 0} (Stands : B → Job → List Tick → Type 0) (program : Program) (input : Input) (budget : ℕ) (queues : List Queue) (taken_list offered counts : List ℕ) (i : ℕ)
+    (body : B) (ports : Ports) (limits : List ℕ) : Type 0 where
   pub at : AreStreamsAt program input budget queues taken_list offered counts
   pub inside : i < length program.instances.items
   pub home : IsHome Stands program input counts taken_list offered i body ports limits
 
--- it has all tokens that are there for it, made no tick, and told whether its next tick is allowed, or why not
-pub record HasLooked {B : Type 0} (Stands : B → Job → List Tick → Type 0) (program : Program) (input : Input) (budget : ℕ) (queues : List Queue) (taken_list offered offered' counts : List ℕ) (i : ℕ) (body : B) (ports : Ports) (limits : List ℕ) (may : Bool) (pause : Pause) : Type 0 where
+-- it has all tokens that are there for it, made no tick, and reported whether its next tick is allowed, or why not
+pub record HasLooked {B : Type 0} (Stands : B → Job → List Tick → Type 0) (program : Program) (input : Input) (budget : ℕ) (queues : List Queue) (taken_list offered offered' counts : List ℕ)
+    (i : ℕ) (body : B) (ports : Ports) (limits : List ℕ) (may : Bool) (pause : Pause) : Type 0 where
   pub at : AreStreamsAt program input budget queues taken_list offered' counts
   pub home : IsHome Stands program input counts taken_list offered' i body ports limits
-  pub run : HasRun (Stands body (instance_job program input i)) (network_on program input) (count_of counts) i (instance_job program input i).behavior (stream_at program i) (Reads program i) (Writes program i) limits 0 ports
+  pub run : HasRun (Stands body (instance_job program input i)) (network_on program input) (count_of counts) i (instance_job program input i).behavior (stream_at program i) (Reads program i)
+      (Writes program i) limits 0 ports
   pub others : (s : ℕ) → ((p : ℕ) → Reads program i p → stream_at program i p ≡ s → ⊥) → slice_index offered' s ≡ slice_index offered s
-  pub told : MatchBool may (IsAllowed (network_on program input) (count_of counts) i) ((pause ≡ Fuel → ⊥) × HoldsPause (network_on program input) (count_of counts) i (stream_at program i) pause)
+  pub told : MatchBool may (IsAllowed (network_on program input) (count_of counts) i)
+      ((pause ≡ Fuel → ⊥) × HoldsPause (network_on program input) (count_of counts) i (stream_at program i) pause)

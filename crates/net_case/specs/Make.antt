@@ -16,7 +16,7 @@ pub record AreEmptyQueues (program : Program) (n : ℕ) (queues : List Queue) : 
   pub empty : (s : ℕ) (q : Queue) → slice_get queues s ≡ Some q → waits q ≡ []
   pub spaces : (s : ℕ) (q : Queue) → slice_get queues s ≡ Some q → 2 * depth_of program s ≤ space q
 
--- what was written to each stream stands at its producer's port, and no more of it than the depth was not taken
+-- what was written to each stream is at its producer's port, and no more of it than the depth was not taken
 pub record CanFill (program : Program) (all : List Ports) (writers taken_list : List ℕ) : Type 0 where
   pub ports_len : length all ≡ length program.instances.items
   pub writers_len : length writers ≡ length program.streams.items

@@ -7,31 +7,32 @@ use Rattle.kahn_model.specs.Ending.{EndsWithin, GoesPast}
 use Rattle.net_core.specs.declared.outcome.Outcome.{Outcome}
 use Rattle.net_core.specs.declared.outcome.Outcome.TheVariants.{Done, Stopped, Limit}
 
--- instance i may step within a budget: the joined instances together may make so many ticks, each detached one so many of
+-- instance i may step within a budget: those that are waited for together may make `budget` ticks, each detached one `budget` of
 -- its own
 pub record MayStep (net : Network) (budget : ℕ) (k : ℕ → ℕ) (i : ℕ) : Type 0 where
   pub allowed : IsAllowed net k i
   pub joined : IsJoined net i → joined_ticks net k < budget
   pub detached : net.detached i ≡ true → k i < budget
 
--- nothing is left to do: no instance may step, or every joined instance has ended
+-- nothing is left to do: no instance may step, or every one that is waited for has ended
 abbrev pub IsOver : Network → ℕ → (ℕ → ℕ) → Type 0
 IsOver net budget k = ((i : ℕ) → MayStep net budget k i → ⊥) ⊎ HaveJoinedEnded net k
 
--- what is answered then: Limit where the joined instances have made more ticks than the budget; else Done where every
--- joined one has ended; else Limit where a step is allowed; else Stopped
-abbrev pub Answers : Network → ℕ → (ℕ → ℕ) → Outcome → Type 0
-Answers net budget k (Done t) = (joined_ticks net k ≤ budget) × HaveJoinedEnded net k × (t ≡ joined_ticks net k)
-Answers net budget k (Stopped t) = (joined_ticks net k ≤ budget) × HasJoinedLeft net k × ((i : ℕ) → IsAllowed net k i → ⊥) × (t ≡ joined_ticks net k)
-Answers net budget k Limit = (budget < joined_ticks net k) ⊎ GoesOn net k
+-- what is answered then: Limit where the instances that are waited for have made more ticks than the budget; else Done where every
+-- one of them has ended; else Limit where a step is allowed; else Stopped
+abbrev pub ClaimAnswers : Network → ℕ → (ℕ → ℕ) → Outcome → Type 0
+ClaimAnswers net budget k (Done t) = (joined_ticks net k ≤ budget) × HaveJoinedEnded net k × (t ≡ joined_ticks net k)
+ClaimAnswers net budget k (Stopped t) = (joined_ticks net k ≤ budget) × HasJoinedLeft net k × ((i : ℕ) → IsAllowed net k i → ⊥) × (t ≡ joined_ticks net k)
+ClaimAnswers net budget k Limit = (budget < joined_ticks net k) ⊎ GoesOn net k
 
 -- what it says of the network at its declared depths
-abbrev pub Means : Network → ℕ → (ℕ → ℕ) → Outcome → Type 0
-Means net budget k (Done t) = EndsWithin net budget × HaveJoinedEnded net k × (t ≡ joined_ticks net k)
-Means net budget k (Stopped t) = IsStopped net budget k × (t ≡ joined_ticks net k)
-Means net budget k Limit = GoesPast net budget
+abbrev pub MeansClaim : Network → ℕ → (ℕ → ℕ) → Outcome → Type 0
+MeansClaim net budget k (Done t) = EndsWithin net budget × HaveJoinedEnded net k × (t ≡ joined_ticks net k)
+MeansClaim net budget k (Stopped t) = IsStopped net budget k × (t ≡ joined_ticks net k)
+MeansClaim net budget k Limit = GoesPast net budget
 
 -- whatever is over at a reachable count within its budget ends as it is answered
 abbrev pub AnswersAreOutcomes : Type 0
 AnswersAreOutcomes =
-    (net : Network) → IsNetwork net → (budget : ℕ) (k : ℕ → ℕ) → IsReachable net k → IsCapped net budget k → IsOver net budget k → (o : Outcome) → Answers net budget k o → Means net budget k o
+    (net : Network) → IsNetwork net → (budget : ℕ) (k : ℕ → ℕ) → IsReachable net k → IsCapped net budget k → IsOver net budget k → (o : Outcome) → ClaimAnswers net budget k o
+    → MeansClaim net budget k o

@@ -11,11 +11,11 @@ pub struct Process<B: Body> {
     pub body: B,
     pub ports: Ports,
     pub limits: Vec<usize>,
-    /// How many ticks its last resume made; before the first one, as many as can be. No contract rests on it.
+    /// How many ticks its last resume made; before the first one, the greatest number. No contract depends on it.
     pub last: u64,
 }
 
-/// An instance that is out of its case: it may make so many ticks, whatever the others do meanwhile.
+/// An instance that is out of its case: it may make `fuel` ticks, whatever the others do meanwhile.
 #[derive(Drop)]
 pub struct Batch<B: Body> {
     pub program: Snapshot<Program>,
@@ -45,5 +45,6 @@ impl<B: Body> Model for Batch<B> {
 
     ghost view = { λ b. record { program = b.program.value; input = b.input.value; budget = b.budget; instance = b.instance; at = b.at.value.items; from = b.from; fuel = b.fuel; made = b.made; pause = b.pause; ready = b.ready } };
 
-    ghost invariant = { λ b. IsBatchAt B.stands b.program.value b.input.value b.budget b.at.value.items b.instance b.from b.fuel b.made b.pause b.ready b.process.body b.process.ports b.process.limits.items };
+    ghost invariant = { λ b. IsBatchAt B.stands b.program.value b.input.value b.budget b.at.value.items b.instance b.from b.fuel b.made b.pause b.ready
+        b.process.body b.process.ports b.process.limits.items };
 }

@@ -30,7 +30,7 @@ pub struct Case<B: Body> {
     /// Which instances may go on, as far as is known, and where the search for the next one begins.
     pub listed: Vec<bool>,
     pub cursor: usize,
-    /// The ticks of the joined instances.
+    /// The ticks of the instances that are waited for.
     pub joined: u64,
     /// By how large batches it goes on.
     pub pace: Pace,
@@ -56,11 +56,13 @@ impl<B: Body> Model for Case<B> {
 
     ghost view = { λ c. record { program = arc_value c.program; input = arc_value c.input; budget = c.budget; counts = c.counts.items; out = outs c.homes.items; pauses = c.pauses.items } };
 
-    ghost invariant = { λ c. IsCaseAt B.stands (arc_value c.program) (arc_value c.input) c.budget c.homes.items c.queues.items c.taken.items c.offered.items c.counts.items c.pauses.items c.listed.items c.joined c.writers.items c.fed_by_self.items × IsReadyFor (arc_value c.program) (length c.bodies.items) (length c.ports.items) (vec_capacity c.bodies) (vec_capacity c.ports) };
+    ghost invariant = { λ c. IsCaseAt B.stands (arc_value c.program) (arc_value c.input) c.budget c.homes.items c.queues.items c.taken.items c.offered.items
+        c.counts.items c.pauses.items c.listed.items c.joined c.writers.items c.fed_by_self.items
+        × IsReadyFor (arc_value c.program) (length c.bodies.items) (length c.ports.items) (vec_capacity c.bodies) (vec_capacity c.ports) };
 }
 
 impl<B: Body> Case<B> {
-    /// What holds of every case, for proofs: it stands at a reachable count of its program's network, at which no instance has
+    /// What is true of every case, for proofs: it is at a reachable count of its program's network, at which no instance has
     /// made more ticks than the budget. It does nothing.
     pub fn valid(&self)
         ensures { IsValidCase self.now }
@@ -75,14 +77,14 @@ impl<B: Body> Case<B> {
         self.counts.as_slice()
     }
 
-    /// Whether batches were small for some time and none is out, so that one thread does better. It tells no more than what to expect.
+    /// Whether batches were small for some time and none is out, so that one thread does better. It only says what to expect.
     pub fn is_slow(&mut self) -> bool
         ensures { self.new ≡ self.old }
     {
         self.pace.is_slow() && !some_out(&self.homes)
     }
 
-    /// How many ticks of the budget are left to the joined instances, where they have not made more.
+    /// How many ticks of the budget the instances that are waited for may still make, where they have not made more.
     pub fn left(&self) -> Option<u64>
         ensures { MatchOption result (self.now.budget < joined_ticks (network self.now) (count self.now)) (λ left. joined_ticks (network self.now) (count self.now) + left ≡ self.now.budget) }
     {

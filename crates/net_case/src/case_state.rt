@@ -6,7 +6,7 @@ use tapa_syntax::Program;
 pub struct CaseState {
     pub program: Program,
     pub input: Input,
-    /// How many ticks the joined instances may make together, and each detached one of its own.
+    /// How many ticks the instances that are waited for may make together, and each detached one of its own.
     pub budget: u64,
     /// The ticks that each instance has made, as far as they are committed.
     pub counts: [u64; 0],

@@ -4,7 +4,7 @@ ghost use Rattle.kahn_model.specs.Outcome.{HaveJoinedEnded, HasJoinedLeft};
 ghost use Rattle.net_core.specs.declared.outcome.Outcome.TheVariants.{Done, Stopped, Limit};
 ghost use Rattle.net_core.specs.Settle.{AreJoinedTold, IsSettled};
 ghost use Rattle.net_case.specs.Home.{outs};
-ghost use Rattle.net_case.specs.Over.{Answers};
+ghost use Rattle.net_case.specs.Over.{ClaimAnswers};
 ghost use Rattle.net_case.specs.State.{network, count, net_of, AreAllHome};
 ghost use Rattle.net_case.specs.Claims.{Claims, IsFinished};
 
@@ -32,7 +32,7 @@ pub fn some_out<B: Body>(homes: &Vec<Option<Process<B>>>) -> bool
     false
 }
 
-// The outcome, by what is known at the end: the ticks of the joined instances, and whether all of these have ended, and whether
+// The outcome, by what is known at the end: the ticks of the instances that are waited for, and whether all of these have ended, and whether
 // some instance may go on.
 fn ending(ticks: u64, budget: u64, done: bool, on: bool) -> Outcome
     ensures { result ≡ (if nat_lt budget ticks then Limit else (if done then Done ticks else (if on then Limit else Stopped ticks))) }
@@ -50,7 +50,7 @@ fn ending(ticks: u64, budget: u64, done: bool, on: bool) -> Outcome
 }
 
 impl<B: Body + Drop> Case<B> {
-    // Whether every joined instance has ended.
+    // Whether every instance that is waited for has ended.
     fn is_done(&self) -> bool
         ensures ended { MatchBool result (HaveJoinedEnded (network self.now) (count self.now)) (HasJoinedLeft (network self.now) (count self.now)) }
         ensures told { result ≡ true → AreJoinedTold (net_of self.now) }
@@ -62,7 +62,7 @@ impl<B: Body + Drop> Case<B> {
     fn outcome(&self) -> Outcome
         requires home { AreAllHome self.now }
         requires finished { IsFinished self.now }
-        ensures answer { Answers (network self.now) self.now.budget (count self.now) result }
+        ensures answer { ClaimAnswers (network self.now) self.now.budget (count self.now) result }
         ensures settled { IsSettled (net_of self.now) result }
     {
         let done = self.is_done();
@@ -83,9 +83,9 @@ impl<B: Body + Drop> Case<B> {
     }
 
     /// Hands out an instance that is at home and may step: its next tick is allowed, and something of the budget is left to it,
-    /// to the joined instances of all their ticks together, to a detached one of its own. `Wait` comes exactly where some
-    /// instance is out, and no instance at home may step or every joined one has ended. `Over` comes exactly where none is out,
-    /// and none may step or every joined one has ended; its outcome is that of the network within the budget, whatever was
+    /// to those that are waited for of all their ticks together, to a detached one of its own. `Wait` comes exactly where some
+    /// instance is out, and no instance at home may step or every one that is waited for has ended. `Over` comes exactly where none is out,
+    /// and none may step or every one that is waited for has ended; its outcome is that of the network within the budget, whatever was
     /// committed before and in whatever order. It takes no memory.
     pub fn claim(&mut self) -> Claimed<B>
         ensures { Claims self.old result self.new }

@@ -36,10 +36,13 @@ fn take_over_written(
     requires queues_len { length queues.old.items ≡ length program.now.streams.items }
     requires taken_len { length taken.now.items ≡ length program.now.streams.items }
     requires small { (p : ℕ) → Writes program.now i p → length (carried ports.now p) ≤ 1000000000000 }
-    requires there { (p : ℕ) → Writes program.now i p → slice_index taken.now.items (stream_at program.now i p) + length (queue_at queues.old.items (stream_at program.now i p)) ≤ length (carried ports.now p) }
-    requires space { (p : ℕ) → Writes program.now i p → 2 * (length (carried ports.now p) - slice_index taken.now.items (stream_at program.now i p)) ≤ queue_space queues.old.items (stream_at program.now i p) }
+    requires there { (p : ℕ) → Writes program.now i p → slice_index taken.now.items (stream_at program.now i p) + length (queue_at queues.old.items (stream_at program.now i p))
+        ≤ length (carried ports.now p) }
+    requires space { (p : ℕ) → Writes program.now i p → 2 * (length (carried ports.now p) - slice_index taken.now.items (stream_at program.now i p))
+        ≤ queue_space queues.old.items (stream_at program.now i p) }
     ensures len { length queues.new.items ≡ length queues.old.items }
-    ensures joined { (p : ℕ) → Writes program.now i p → queue_at queues.new.items (stream_at program.now i p) ≡ queue_at queues.old.items (stream_at program.now i p) ++ drop (slice_index taken.now.items (stream_at program.now i p) + length (queue_at queues.old.items (stream_at program.now i p))) (carried ports.now p) }
+    ensures joined { (p : ℕ) → Writes program.now i p → queue_at queues.new.items (stream_at program.now i p) ≡ queue_at queues.old.items (stream_at program.now i p)
+        ++ drop (slice_index taken.now.items (stream_at program.now i p) + length (queue_at queues.old.items (stream_at program.now i p))) (carried ports.now p) }
     ensures others { (s : ℕ) → ((p : ℕ) → Writes program.now i p → stream_at program.now i p ≡ s → ⊥) → queue_at queues.new.items s ≡ queue_at queues.old.items s }
     ensures spaces { (s : ℕ) → queue_space queues.old.items s ≤ queue_space queues.new.items s }
 {
@@ -70,13 +73,15 @@ fn take_over_taken(
     requires taken_len { length taken.old.items ≡ length program.now.streams.items }
     requires offered_len { length offered.old.items ≡ length program.now.streams.items }
     requires more { (p : ℕ) → Reads program.now i p → slice_index taken.old.items (stream_at program.now i p) + length (waiting ports.now p) ≤ slice_index limits.now.items p }
-    requires there { (p : ℕ) → Reads program.now i p → slice_index limits.now.items p ≤ slice_index taken.old.items (stream_at program.now i p) + length (queue_at queues.old.items (stream_at program.now i p)) + length (waiting ports.now p) }
+    requires there { (p : ℕ) → Reads program.now i p → slice_index limits.now.items p
+        ≤ slice_index taken.old.items (stream_at program.now i p) + length (queue_at queues.old.items (stream_at program.now i p)) + length (waiting ports.now p) }
     ensures queues_len { length queues.new.items ≡ length queues.old.items }
     ensures taken_len { length taken.new.items ≡ length taken.old.items }
     ensures offered_len { length offered.new.items ≡ length offered.old.items }
     ensures took { (p : ℕ) → Reads program.now i p → slice_index taken.new.items (stream_at program.now i p) + length (waiting ports.now p) ≡ slice_index limits.now.items p }
     ensures gave { (p : ℕ) → Reads program.now i p → slice_index offered.new.items (stream_at program.now i p) ≡ slice_index limits.now.items p }
-    ensures rest { (p : ℕ) → Reads program.now i p → queue_at queues.new.items (stream_at program.now i p) ≡ drop (slice_index taken.new.items (stream_at program.now i p) - slice_index taken.old.items (stream_at program.now i p)) (queue_at queues.old.items (stream_at program.now i p)) }
+    ensures rest { (p : ℕ) → Reads program.now i p → queue_at queues.new.items (stream_at program.now i p)
+        ≡ drop (slice_index taken.new.items (stream_at program.now i p) - slice_index taken.old.items (stream_at program.now i p)) (queue_at queues.old.items (stream_at program.now i p)) }
     ensures others_taken { (s : ℕ) → ((p : ℕ) → Reads program.now i p → stream_at program.now i p ≡ s → ⊥) → slice_index taken.new.items s ≡ slice_index taken.old.items s }
     ensures others_given { (s : ℕ) → ((p : ℕ) → Reads program.now i p → stream_at program.now i p ≡ s → ⊥) → slice_index offered.new.items s ≡ slice_index offered.old.items s }
     ensures others_wait { (s : ℕ) → ((p : ℕ) → Reads program.now i p → stream_at program.now i p ≡ s → ⊥) → queue_at queues.new.items s ≡ queue_at queues.old.items s }
@@ -121,7 +126,7 @@ fn kept(pause: Option<Pause>, before: Option<Pause>) -> Option<Pause>
     }
 }
 
-// The ticks of the joined instances, once an instance has made so many more.
+// The ticks of the instances that are waited for, once an instance has made `made` more.
 fn sum_after(program: &Program, i: usize, joined: u64, made: u64) -> u64
     requires instance { i < length program.now.instances.items }
     requires fits { joined + made < 2 ^ 64 }
@@ -182,7 +187,7 @@ impl<B: Body + Drop> Case<B> {
         self.homes[i] = Some(process);
     }
 
-    /// Takes a batch back: its instance stands at the count that the batch has reached and is at home again, with the tokens
+    /// Takes a batch back: its instance is at the count that the batch has reached and is at home again, with the tokens
     /// that it put and took, and all else stays. The batches that are out may come back in any order. It takes no memory.
     /// Where the instance's count is not the one with which the batch began, the answer is `Stale`, and the case is unchanged.
     pub fn commit(&mut self, batch: Batch<B>) -> Result<(), Stale<B>>

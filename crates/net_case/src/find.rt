@@ -15,7 +15,7 @@ use tapa_syntax::Program;
 // The most ticks of a batch: some two milliseconds.
 const SLICE: u64 = 262_144;
 
-// How many ticks of the budget are left to an instance: a joined one shares what is left to all joined ones.
+// How many ticks of the budget an instance may still make: one that is waited for shares those of all that are waited for.
 fn left_to(program: &Program, i: usize, budget: u64, made: u64, joined: u64) -> u64
     requires { i < length program.now.instances.items }
     ensures { result ≡ (if detached_at program.now i then budget - made else budget - joined) }

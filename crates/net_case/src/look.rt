@@ -14,7 +14,8 @@ use tapa_syntax::Program;
 // Whether an instance that answered so without room to write may go on.
 fn may_go_on(ports: &Ports, limits: &Vec<usize>, pause: Pause) -> bool
     requires { (p : ℕ) → pause ≡ WantsWrite p → (p < port_count ports.now) × (p < length limits.now.items) }
-    ensures { MatchBool result ((pause ≡ Fuel) ⊎ ((p : ℕ) × (pause ≡ WantsWrite p) × (length (carried ports.now p) < slice_index limits.now.items p))) ((pause ≡ Fuel → ⊥) × ((p : ℕ) → pause ≡ WantsWrite p → slice_index limits.now.items p ≤ length (carried ports.now p))) }
+    ensures { MatchBool result ((pause ≡ Fuel) ⊎ ((p : ℕ) × (pause ≡ WantsWrite p) × (length (carried ports.now p) < slice_index limits.now.items p)))
+        ((pause ≡ Fuel → ⊥) × ((p : ℕ) → pause ≡ WantsWrite p → slice_index limits.now.items p ≤ length (carried ports.now p))) }
 {
     match pause {
         Pause::Fuel => true,
@@ -32,8 +33,12 @@ pub fn look<B: Body>(
     process: &mut Process<B>,
     i: usize,
 ) -> (bool, Pause)
-    requires { (input : Input) × (budget : ℕ) × (counts : List ℕ) × CanLook B.stands program.now input budget queues.now.items taken.now.items offered.old.items counts i process.old.body process.old.ports process.old.limits.items }
-    ensures { (input : Input) (budget : ℕ) (counts : List ℕ) → CanLook B.stands program.now input budget queues.now.items taken.now.items offered.old.items counts i process.old.body process.old.ports process.old.limits.items → HasLooked B.stands program.now input budget queues.now.items taken.now.items offered.old.items offered.new.items counts i process.new.body process.new.ports process.new.limits.items result.0 result.1 }
+    requires { (input : Input) × (budget : ℕ) × (counts : List ℕ)
+        × CanLook B.stands program.now input budget queues.now.items taken.now.items offered.old.items counts i process.old.body process.old.ports process.old.limits.items }
+    ensures { (input : Input) (budget : ℕ) (counts : List ℕ)
+        → CanLook B.stands program.now input budget queues.now.items taken.now.items offered.old.items counts i process.old.body process.old.ports process.old.limits.items
+        → HasLooked B.stands program.now input budget queues.now.items taken.now.items offered.old.items offered.new.items counts i
+        process.new.body process.new.ports process.new.limits.items result.0 result.1 }
 {
     deliver(
         program,

@@ -96,7 +96,7 @@ fn reserve_all(program: &Program, all: &mut Vec<Ports>) -> Result<(), OutOfMemor
     Ok(())
 }
 
-// As many empty homes.
+// A list of n empty homes.
 fn empty_homes<B: Body + Drop>(
     alloc: Global,
     n: usize,
@@ -110,7 +110,7 @@ fn empty_homes<B: Body + Drop>(
     Ok(homes)
 }
 
-// So many instances are listed.
+// Marks for n instances, each of which is listed.
 fn all_listed(alloc: Global, n: usize) -> Result<Vec<bool>, OutOfMemory>
     ensures { IfOk result (λ v. v.items ≡ replicate n true) }
 {
@@ -210,7 +210,7 @@ fn fill(
 }
 
 impl<B: Body + Drop> Case<B> {
-    // A case of a net which is new, or in which each instance was asked how it stands; its joined instances have made so many ticks.
+    // A case of a net which is new, or in which each instance was asked whether it may go on; those that are waited for have made `joined` ticks.
     fn of(alloc: Global, net: Net<B>, budget: u64, joined: u64) -> Result<Case<B>, CaseFault<B>>
         requires budget { budget ≤ 1000000000000 }
         requires capped { IsCapped (network net) budget (count net) }
@@ -279,8 +279,8 @@ impl<B: Body + Drop> Case<B> {
         Case::of(alloc, net, budget, 0)
     }
 
-    /// A case of a net that was driven for some time, in which each instance was asked how it stands, and to whose joined instances so many
-    /// ticks of the budget are left. It is as one of a new net.
+    /// A case of a net that was driven for some time, in which each instance was asked whether it may go on, and those that are waited for may
+    /// make `left` more ticks of the budget. It is as one of a new net.
     pub fn again(
         alloc: Global,
         net: Net<B>,

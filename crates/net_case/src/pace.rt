@@ -1,12 +1,12 @@
 // By how large batches a case goes on.
 
-// So many batches are looked at together.
+// The number of batches that are looked at together.
 const MANY: u64 = 4_096;
 
-// So many ticks a batch are few.
+// The ticks a batch below which they are few.
 const SMALL: u64 = 256;
 
-/// How many batches came back since they were last looked at, and how many ticks they had made. No contract rests on it.
+/// How many batches came back since they were last looked at, and how many ticks they had made. No contract depends on it.
 #[derive(Drop)]
 pub struct Pace {
     batches: u64,
@@ -22,7 +22,7 @@ impl Pace {
         }
     }
 
-    /// One came back with so many ticks.
+    /// One came back with `made` ticks.
     pub fn count(&mut self, made: u64) {
         self.batches = self.batches.saturating_add(1);
         self.ticks = self.ticks.saturating_add(made);

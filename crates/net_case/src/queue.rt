@@ -3,7 +3,7 @@ ghost use Rattle.std.specs.Prelude.{◌≤◌, length};
 
 use tapa_base::Token;
 
-/// The tokens of a stream that were written and not taken, from a place of a list on.
+/// The tokens of a stream that were written and not taken, from an index of a list on.
 #[derive(Drop)]
 pub struct Queue {
     pub tokens: Vec<Token>,

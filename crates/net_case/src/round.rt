@@ -18,7 +18,7 @@ fn run_one<B: Body, G: Gate>(gate: &G, batch: &mut Batch<B>)
     let _answer = batch.resume();
 }
 
-/// Resumes each batch of a list once, in at most so many threads. Each has the memory for what it may write.
+/// Resumes each batch of a list once, in at most `workers` threads. Each has the memory for what it may write.
 pub fn run_all<R: Threads + Sync, B: Body + Send, G: Gate>(
     rt: &R,
     batches: &mut [Batch<B>],

@@ -7,7 +7,7 @@ use crate::batch::Batch;
 use net_core::{Body, Pause, Ports, resume_body};
 use tapa_base::OutOfMemory;
 
-// Makes room at each port that writes for as many tokens as its stream may get.
+// Makes room at each port that writes for all tokens that its stream may get.
 fn make_rooms(ports: &mut Ports, limits: &Vec<usize>) -> Result<(), OutOfMemory>
     requires { length limits.now.items ≡ port_count ports.old }
     ensures kept { KeepsTokens ports.old ports.new }
@@ -38,8 +38,8 @@ impl<B: Body> Batch<B> {
         self.made
     }
 
-    /// How many ticks its instance made when it was last resumed, here or in an earlier batch; before the first time, as many as
-    /// can be. It tells no more than what to expect of the next time.
+    /// How many ticks its instance made when it was last resumed, here or in an earlier batch; before the first time, the greatest
+    /// number. It only says what to expect of the next time.
     pub fn last(&self) -> u64 {
         self.process.last
     }

@@ -7,7 +7,7 @@ use std::alloc::Global;
 use tapa_base::{OutOfMemory, Token};
 
 impl Queue {
-    /// A queue of no tokens, in which so many may wait.
+    /// A queue of no tokens, in which `depth` may wait.
     pub fn new(alloc: Global, depth: usize) -> Result<Queue, OutOfMemory>
         ensures empty { IfOk result (λ q. waits q ≡ []) }
         ensures space { IfOk result (λ q. 2 * depth ≤ space q) }
@@ -57,7 +57,7 @@ impl Queue {
         self.tokens.truncate(left);
     }
 
-    /// Lets more tokens wait behind the others. It takes no memory.
+    /// Lets more tokens wait after the others. It takes no memory.
     pub fn join(&mut self, more: &[Token])
         requires { 2 * (length (waits self.old) + length more.now) ≤ space self.old }
         ensures waits { waits self.new ≡ waits self.old ++ more.now }

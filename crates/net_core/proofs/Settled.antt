@@ -18,7 +18,7 @@ use Rattle.net_core.specs.declared.net_state.NetState.{NetState}
 use Rattle.net_core.specs.Bindings.{stream_at}
 use Rattle.net_core.specs.Waits.{IsToldBy}
 use Rattle.net_core.specs.State.{network, count, joined_total, IsValid, IsWithin}
-use Rattle.net_core.specs.Settle.{IsQuiet, IsSpent, IsAtRest, IsLimited, EndsAs, IsTold, AreTold, AreJoinedTold, AreJoinedEnded, IsSomeJoinedLeft, IsSomeWithFuel, AreNoneWithFuel}
+use Rattle.net_core.specs.Settle.{IsQuiet, IsSpent, IsAtRest, IsLimited, EndsAs, HasOutcome, AreTold, AreJoinedTold, AreJoinedEnded, IsSomeJoinedLeft, IsSomeWithFuel, AreNoneWithFuel}
 use Rattle.net_core.proofs.Ends.{stopped, told, not_ended}
 use Rattle.net_core.proofs.Shown.{detached_is}
 
@@ -101,7 +101,7 @@ module _ (net : NetState) (v : IsValid net) (budget left : ℕ) (within : IsWith
     greatest_here : IsGreatest N budget (count net)
     greatest_here = greatest_by N v.is_network budget (count net) v.reachable within.capped none_below
 
-    told_quiet : (j : ℕ) → j < length net.program.instances.items → IsQuiet net j → IsTold net j
+    told_quiet : (j : ℕ) → j < length net.program.instances.items → IsQuiet net j → HasOutcome net j
     told_quiet j l q = (q.pause, q.last, told N v.is_network (count net) founded j (outside j l) (stream_at net.program j) q.pause q.stopped q.holds)
 
     quiet_joined : (j : ℕ) → j < length net.program.instances.items → IsJoined N j → IsQuiet net j

@@ -62,7 +62,7 @@ consumer_of program s = end_of (λ (r : Stream). r.consumer) (slice_get program.
 unfoldable pub depth_of : Program → ℕ → ℕ
 depth_of program s = end_of (λ (r : Stream). r.depth) (slice_get program.streams.items s)
 
--- an instance has a leaf with as many streams, which are there
+-- an instance has a leaf with its number of streams, which are there
 pub record IsBuilt (program : Program) (i : ℕ) (x : Instance) : Type 0 where
   pub body : x.body < length program.bodies.items
   pub ends : (leaf : Leaf) → slice_get program.bodies.items x.body ≡ Some leaf → leaf.streams.items ≡ ends_at program i

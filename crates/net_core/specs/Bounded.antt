@@ -1,4 +1,4 @@
--- The bounded network of a program on an input, and what it means that a net stands at a count of it.
+-- The bounded network of a program on an input, and what it means that a net is at a count of it.
 use Rattle.std.specs.Prelude.{◌≡◌, ℕ, ◌<◌, List, length, map, Bool, Option, Some, None, Vec, slice_get, slice_index}
 use Rattle.std.specs.declared.alloc.Global.{Global}
 use Rattle.kahn_model.specs.declared.tick.Tick.{Tick}
@@ -61,18 +61,19 @@ pub record IsNetworkOf (program : Program) (input : Input) : Type 0 where
   pub consumer : (s : ℕ) → (network_on program input).consumer s ≡ consumer_of program s
   pub depth : (s : ℕ) → (network_on program input).depth s ≡ depth_of program s
   pub ends : (i : ℕ) → (instance_job program input i).ends ≡ ends_at program i
-  pub placed : (i : ℕ) → i < length program.instances.items → IsPlaced (network_on program input) i (instance_job program input i).behavior (stream_at program i) (Reads program i) (Writes program i)
+  pub placed : (i : ℕ) → i < length program.instances.items
+      → IsPlaced (network_on program input) i (instance_job program input i).behavior (stream_at program i) (Reads program i) (Writes program i)
 
 -- the ticks of each instance, by a list of them
 abbrev pub count_of : List ℕ → ℕ → ℕ
 count_of counts i = slice_index counts i
 
--- a body stands where the count says
+-- a body is where the count says
 abbrev pub IsBodyAt : (Job → List Tick → Type 0) → Program → Input → List ℕ → ℕ → Type 0
 IsBodyAt Stands program input counts i =
     IsStanding (Stands (instance_job program input i)) (network_on program input) (count_of counts) i (instance_job program input i).behavior (stream_at program i)
 
--- a net stands at its count
+-- a net is at its count
 pub record IsNetAt {B : Type 0} (Stands : B → Job → List Tick → Type 0) (program : Program) (input : Input) (bodies : List B) (ports : List Ports)
     (writers offered taken_list : List ℕ) (fed_by_self : List Bool) (counts : List ℕ) (pauses : List (Option Pause)) : Type 0 where
   pub connected : IsConnected program
@@ -90,7 +91,7 @@ pub record IsNetAt {B : Type 0} (Stands : B → Job → List Tick → Type 0) (p
   pub queued : AreQueued program ports (written (network_on program input) (count_of counts)) offered taken_list
   pub fed_len : length fed_by_self ≡ length program.instances.items
   pub fed : (i : ℕ) (b : Bool) → slice_get fed_by_self i ≡ Some b → TellsFedBySelf program i b
-  -- what an instance answered last held once
+  -- what an instance answered last was true once
   pub paused : (i : ℕ) (x : Pause) → slice_get pauses i ≡ Some (Some x) → HasHeld (network_on program input) (count_of counts) i (stream_at program i) x
   -- no tick was made before the first resume
   pub unresumed : (i : ℕ) → slice_get pauses i ≡ Some None → count_of counts i ≡ 0

@@ -1,4 +1,4 @@
--- What is left of a job after ticks: how an implementation of a body says what it stands for.
+-- The rest of a job after ticks: how an implementation of a body says what it denotes.
 use Rattle.std.specs.Prelude.{◌≡◌, ℕ, List, [], ◌++◌, length, drop, flat_map, Some, slice_get}
 use Rattle.tapa_base.specs.declared.token.Token.{Token}
 use Rattle.kahn_model.specs.declared.tick.Tick.{Tick}
@@ -36,7 +36,8 @@ left ts ins p = drop (length (flat_map (take_from p) ts)) (ins p)
 -- wherever the job makes these ticks, the rest is what it makes then
 abbrev pub Follows : (ℕ → Behavior) → List Tick → (ℕ → Rest) → Type 0
 Follows job ts rest =
-    (n : ℕ) (ins : ℕ → List Token) → IsPrefixOf ts (ticks (job n) ins) → (ticks (job n) ins ≡ ts ++ ticks_left (rest n) (left ts ins)) × (trace_end (job n) ins ≡ trace_end_left (rest n) (left ts ins))
+    (n : ℕ) (ins : ℕ → List Token) → IsPrefixOf ts (ticks (job n) ins)
+    → (ticks (job n) ins ≡ ts ++ ticks_left (rest n) (left ts ins)) × (trace_end (job n) ins ≡ trace_end_left (rest n) (left ts ins))
 
 -- a call that has made these ticks so far
 pub record Going (job : ℕ → Behavior) (ts : List Tick) (before : Ports) (made : List Tick) (after : Ports) (rest : ℕ → Rest) : Type 0 where
@@ -45,7 +46,7 @@ pub record Going (job : ℕ → Behavior) (ts : List Tick) (before : Ports) (mad
   pub tests : ℕ
   pub runs : IsPrefixOf (ts ++ made) (ticks (job tests) (lists_at ts before))
 
--- how the rest stands at these ports
+-- how the rest goes on at these ports
 abbrev pub IsReady : Rest → Ports → Type 0
 IsReady Over ports = ⊥
 IsReady (Still Finished) ports = Unit {0}

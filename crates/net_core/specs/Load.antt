@@ -48,7 +48,7 @@ pub record AreKept (before : List Ports) (offered : List ℕ) (after : List Port
   pub carries : (j q : ℕ) → carried_of after j q ≡ carried_of before j q
   pub offered_len : length offered' ≡ length offered
 
--- what a port of instance i holds then is what its stream offers, and is told as offered
+-- what a port of instance i holds then is what its stream offers, and is recorded as offered
 pub record IsOffered (program : Program) (i p : ℕ) (before : List Ports) (writers taken_list offered : List ℕ) (after : List Ports) (offered' : List ℕ) : Type 0 where
   pub waits : waiting_of after i p ≡ drop (slice_index taken_list (stream_at program i p))
       (take (slice_index offered' (stream_at program i p)) (list_at program before writers (stream_at program i p)))
@@ -66,7 +66,8 @@ pub record IsLoaded (program : Program) (i p : ℕ) (before : List Ports) (write
 pub record AreLoaded (program : Program) (m i : ℕ) (before : List Ports) (writers taken_list : List ℕ) (after : List Ports) (offered : List ℕ) : Type 0 where
   pub waits : (p : ℕ) → p < m → Reads program i p → waiting_of after i p ≡ queue_at program before writers taken_list (stream_at program i p)
   pub offers : (p : ℕ) → p < m → Reads program i p → slice_index offered (stream_at program i p) ≡ length (list_at program before writers (stream_at program i p))
-  pub rooms : (p : ℕ) → p < m → Writes program i p → room_of after i p ≡ depth_of program (stream_at program i p) - (length (carried_of before i p) - slice_index taken_list (stream_at program i p))
+  pub rooms : (p : ℕ) → p < m → Writes program i p
+      → room_of after i p ≡ depth_of program (stream_at program i p) - (length (carried_of before i p) - slice_index taken_list (stream_at program i p))
 
 -- the other end of a port's stream is on the list
 pub record AreWoken (program : Program) (i p : ℕ) (later : List ℕ) : Type 0 where

@@ -66,7 +66,7 @@ pub record IsPlaced (net : Network) (i : ℕ) (job : ℕ → Behavior) (f : ℕ 
   pub reader : (p : ℕ) → R p → net.consumer (f p) ≡ i
   pub writer : (p : ℕ) → W p → net.producer (f p) ≡ i
 
--- a body stands for the job of instance i after its ticks, on the tokens of its streams
+-- a body denotes the job of instance i after its ticks, on the tokens of its streams
 pub record IsStanding (Stands : List Tick → Type 0) (net : Network) (k : ℕ → ℕ) (i : ℕ) (job : ℕ → Behavior) (f : ℕ → ℕ) : Type 0 where
   pub ticks : List Tick
   pub stands : Stands ticks

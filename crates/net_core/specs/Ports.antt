@@ -37,7 +37,7 @@ abbrev pub held_in : Option Port → ℕ
 held_in None = 0
 held_in (Some p) = length p.tokens.items
 
--- how many tokens the queue of a port holds, with those that were taken and not let go yet
+-- how many tokens the queue of a port holds, with those that were taken and not dropped yet
 abbrev pub held_at : Ports → ℕ → ℕ
 held_at ports p = held_in (slice_get ports.ports.items p)
 

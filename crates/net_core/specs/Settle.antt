@@ -15,22 +15,22 @@ use Rattle.net_core.specs.Load.{IsIn, AreBelow}
 use Rattle.net_core.specs.State.{network, count, total_ticks, joined_total, given, IsWithin}
 
 -- the outcome within a budget of ticks: exactly one holds (Kahn's network at its declared depths, see kahn_model's
--- specs/Outcome). Where the network is done, each joined instance has ended at the net's count, and t is their ticks in it; a
+-- specs/Outcome). Where the network is done, each instance that is waited for has ended at the net's count, and t is their ticks in it; a
 -- detached one may go on from there
 abbrev pub EndsAs : NetState → ℕ → Outcome → Type 0
 EndsAs net budget (Done t) = EndsWithin (network net) budget × HaveJoinedEnded (network net) (count net) × (t ≡ joined_total net)
 EndsAs net budget (Stopped t) = IsStopped (network net) budget (count net) × (t ≡ joined_total net)
 EndsAs net budget Limit = GoesPast (network net) budget
 
--- the last pause of instance j tells what it waits for
-abbrev pub IsTold : NetState → ℕ → Type 0
-IsTold net j = (x : Pause) × (slice_get net.pauses j ≡ Some (Some x)) × IsToldBy (network net) (count net) j (stream_at net.program j) x
+-- the last pause of instance j says what it waits for
+abbrev pub HasOutcome : NetState → ℕ → Type 0
+HasOutcome net j = (x : Pause) × (slice_get net.pauses j ≡ Some (Some x)) × IsToldBy (network net) (count net) j (stream_at net.program j) x
 
 abbrev pub AreTold : NetState → Type 0
-AreTold net = (j : ℕ) → j < length net.program.instances.items → IsTold net j
+AreTold net = (j : ℕ) → j < length net.program.instances.items → HasOutcome net j
 
 abbrev pub AreJoinedTold : NetState → Type 0
-AreJoinedTold net = (j : ℕ) → j < length net.program.instances.items → IsJoined (network net) j → IsTold net j
+AreJoinedTold net = (j : ℕ) → j < length net.program.instances.items → IsJoined (network net) j → HasOutcome net j
 
 abbrev pub IsSettled : NetState → Outcome → Type 0
 IsSettled net Limit = Unit {0}
@@ -44,7 +44,7 @@ pub record IsQuiet (net : NetState) (j : ℕ) : Type 0 where
   pub stopped : pause ≡ Fuel → ⊥
   pub holds : HoldsPause (network net) (count net) j (stream_at net.program j) pause
 
--- detached instance j has made as many ticks as the budget, and may go on
+-- detached instance j has made all ticks of the budget, and may go on
 pub record IsSpent (net : NetState) (budget j : ℕ) : Type 0 where
   pub detached : (network net).detached j ≡ true
   pub last : slice_get net.pauses j ≡ Some (Some Fuel)
@@ -55,7 +55,7 @@ pub record IsSpent (net : NetState) (budget j : ℕ) : Type 0 where
 abbrev pub IsAtRest : NetState → ℕ → ℕ → Type 0
 IsAtRest net budget j = IsQuiet net j ⊎ IsSpent net budget j
 
--- nothing is left to the joined instances, and one of them may go on
+-- no tick is left to the instances that are waited for, and one of them may go on
 pub record IsLimited (net : NetState) (left : ℕ) : Type 0 where
   pub none : left ≡ 0
   pub instance : ℕ
@@ -82,7 +82,7 @@ pub record Passed (old new : NetState) (budget : ℕ) (now later : List ℕ) : T
   pub less : ticks_ahead new budget ≤ ticks_ahead old budget
   pub progress : 0 < length later → ticks_ahead new budget < ticks_ahead old budget
 
--- each joined instance answered last that it has ended
+-- each instance that is waited for answered last that it has ended
 abbrev pub AreJoinedEnded : Program → List (Option Pause) → Type 0
 AreJoinedEnded program pauses = (j : ℕ) → j < length pauses → detached_at program j ≡ false → slice_get pauses j ≡ Some (Some Ended)
 

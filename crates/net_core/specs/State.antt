@@ -26,7 +26,7 @@ count net = count_of net.counts
 abbrev pub total_ticks : NetState → ℕ
 total_ticks net = total (network net).size (count net)
 
--- the ticks of the joined ones
+-- the ticks of those that are waited for
 abbrev pub joined_total : NetState → ℕ
 joined_total net = joined_ticks (network net) (count net)
 
@@ -52,7 +52,7 @@ pub record IsNew (net : NetState) : Type 0 where
   pub none_made : (i : ℕ) → count net i ≡ 0
   pub none_resumed : (i : ℕ) → i < length net.program.instances.items → slice_get net.pauses i ≡ Some None
 
--- what is kept of the answer of a call that made so many ticks: the answer, or that it may go on, where its ticks may
+-- what is kept of the answer of a call that made `made` ticks: the answer, or that it may go on, where its ticks may
 -- have changed what it waits for
 pub record IsToldFor (program : Program) (i made : ℕ) (pause told : Pause) : Type 0 where
   pub cases : (told ≡ pause) ⊎ (IsFedBySelf program i × (0 < made) × (told ≡ Fuel))
@@ -80,13 +80,13 @@ pub record HasResumed (old new : NetState) (i fuel : ℕ) (pause : Pause) (made 
       → ((s : ℕ) → producer_of old.program s ≡ j → taken (network old) (count new) s ≡ taken (network old) (count old) s) → (x ≡ Fuel → ⊥)
       → HoldsPause (network old) (count old) j (stream_at old.program j) x → HoldsPause (network old) (count new) j (stream_at old.program j) x
 
--- no instance has made more ticks than the budget, nor have the joined ones together, to which so many are left
+-- no instance has made more ticks than the budget, nor have those that are waited for together, which may make `left` more
 pub record IsWithin (net : NetState) (budget left : ℕ) : Type 0 where
   pub capped : IsCapped (network net) budget (count net)
   pub joined : joined_total net + left ≡ budget
 
--- an instance was resumed with something of what is left to it, where anything is: to a joined one what is left to all joined ones, to a
--- detached one what is left to itself
+-- an instance was resumed with some of the ticks that it may still make, where there are any: one that is waited for may make those of
+-- all that are waited for, a detached one its own
 pub record HasResumedWithin (old new : NetState) (i budget left left' : ℕ) (pause : Pause) (made : ℕ) : Type 0 where
   pub fuel : ℕ
   pub resumed : HasResumed old new i fuel pause made

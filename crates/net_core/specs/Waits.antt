@@ -41,7 +41,7 @@ IsLast (BadToken p) = Unit {0}
 IsLast (WantsWrite p) = ⊥
 IsLast Fuel = ⊥
 
--- a pause of instance i held at some reachable count that is at most k; an end and a bad token hold for good
+-- a pause of instance i was true at some reachable count that is at most k; an end and a bad token stay true
 pub record HasHeld (net : Network) (k : ℕ → ℕ) (i : ℕ) (f : ℕ → ℕ) (x : Pause) : Type 0 where
   pub count : ℕ → ℕ
   pub reachable : IsReachable net count
@@ -49,7 +49,7 @@ pub record HasHeld (net : Network) (k : ℕ → ℕ) (i : ℕ) (f : ℕ → ℕ)
   pub held : HoldsPause net count i f x
   pub for_good : IsLast x → HoldsPause net k i f x
 
--- a pause tells what its instance waits for
+-- a pause says what its instance waits for
 abbrev pub IsToldBy : Network → (ℕ → ℕ) → ℕ → (ℕ → ℕ) → Pause → Type 0
 IsToldBy net k i f HasEnded = Ends net k i
 IsToldBy net k i f (WantsRead p) = WaitsToRead net k i (f p)

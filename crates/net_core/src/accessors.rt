@@ -1,3 +1,4 @@
+// What a net shows: the tokens that each stream has carried, those that were taken, and the last pause and the body of each instance.
 ghost use Rattle.std.specs.Prelude.{◌≡◌, ◌<◌, length, slice_get, Some, MatchOption};
 ghost use Rattle.kahn_model.specs.Counts.{written, taken};
 ghost use Rattle.kahn_model.specs.Outcome.{shown};
@@ -20,7 +21,7 @@ impl<B: Body> Net<B> {
         is_detached(&self.program, i)
     }
 
-    /// What holds of every net, for proofs: it stands at a reachable count of its program's network. It does nothing.
+    /// What is true of every net, for proofs: it is at a reachable count of its program's network. It does nothing.
     pub fn valid(&self)
         ensures { IsValid self.now }
     {
@@ -44,8 +45,8 @@ impl<B: Body> Net<B> {
         self.taken[stream as usize] as u64
     }
 
-    /// What a run shows of a stream where every joined instance has ended: the tokens that were written where its producer
-    /// is joined, else those that were taken where its consumer is, else none.
+    /// What a run shows of a stream where every instance that is waited for has ended: the tokens that were written where its producer
+    /// is one of these, else those that were taken where its consumer is, else none.
     pub fn shown(&self, stream: u32) -> &[Token]
         requires { stream < length self.now.program.streams.items }
         ensures { result.now ≡ shown (network self.now) (count self.now) stream }
@@ -60,9 +61,9 @@ impl<B: Body> Net<B> {
         &self.carried(stream)[..self.taken[s]]
     }
 
-    /// What the last resume of an instance answered, and `None` before its first: an answer that held at some count on the
-    /// way here, and that holds now where it is an end or a bad token. An instance that reads what it writes, and made ticks
-    /// in that resume, is told as one that may go on.
+    /// What the last resume of an instance answered, and `None` before its first: an answer that was true at some count on the
+    /// way here, and that is true now where it is an end or a bad token. An instance that reads what it writes, and made ticks
+    /// in that resume, is reported as one that may go on.
     pub fn pause(&self, instance: u32) -> Option<Pause>
         requires { instance < length self.now.program.instances.items }
         ensures last { slice_get self.now.pauses instance ≡ Some result }

@@ -1,4 +1,4 @@
-// How all instances of a net stand.
+// The last answers of all instances of a net.
 ghost use Rattle.std.specs.Prelude.{ℕ, ◌≡◌, ◌<◌, ◌^◌, length, IfOk};
 ghost use Rattle.net_core.specs.State.{given, count, IsWithin, AreAnswered};
 ghost use Rattle.net_core.specs.Ties.{AreAllTies};
@@ -10,7 +10,7 @@ use crate::ties::Ties;
 use std::alloc::Global;
 use tapa_base::OutOfMemory;
 
-/// Asks each instance how it stands, by a resume that makes no tick: then the last answer of each holds.
+/// Asks each instance whether it may go on, by a resume that makes no tick: then the last answer of each is true.
 pub fn answer_all<B: Body>(
     alloc: Global,
     net: &mut Net<B>,

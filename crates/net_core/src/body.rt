@@ -1,3 +1,4 @@
+// The trait of what makes the ticks of an instance on its ports, and the reasons why it pauses.
 ghost use Rattle.std.specs.Prelude.{◌≡◌, List, length};
 ghost use Rattle.kahn_model.specs.declared.tick.Tick.{Tick};
 ghost use Rattle.net_core.specs.Job.{Job};
@@ -18,10 +19,10 @@ pub enum Pause {
 
 /// What makes the ticks of a job, a few at a time.
 pub trait Body {
-    /// The value stands for a job that has made these ticks.
+    /// The value denotes a job that has made these ticks.
     ghost stands: { Self → Job → List Tick → Type 0 };
 
-    /// Makes the job's next ticks, as many as its ports allow and at most `fuel`. A tick that is not made changes nothing.
+    /// Makes the job's next ticks while its ports allow them, at most `fuel`. A tick that is not made changes nothing.
     fn resume(&mut self, ports: &mut Ports, fuel: u64) -> Pause
         requires { CanResume (stands self.old) ports.old fuel }
         ensures { (job : Job) (ts : List Tick) → stands self.old job ts → ends_of ports.old ≡ job.ends → Agrees job.behavior ts ports.old

@@ -131,7 +131,7 @@ fn fed_by_self(alloc: Global, program: &Program) -> Result<Vec<bool>, OutOfMemor
 }
 
 impl<B: Body + Drop> Net<B> {
-    /// A net in which no instance has made a tick. Body i is to stand for the job of instance i before its first tick.
+    /// A net in which no instance has made a tick. Body i is to denote the job of instance i before its first tick.
     pub fn new(
         alloc: Global,
         program: Arc<Program>,

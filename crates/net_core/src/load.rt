@@ -14,7 +14,7 @@ use std::alloc::Global;
 use tapa_base::{OutOfMemory, Token};
 use tapa_syntax::Program;
 
-// The tokens of a list from an index on join another list.
+// Appends the tokens of a list from an index on to another list.
 fn extended(tokens: &mut Vec<Token>, list: &[Token], from: usize) -> Result<(), OutOfMemory>
     requires { from ≤ length list.now }
     ensures items { tokens.new.items ≡ (if is_ok result then tokens.old.items ++ drop from list.now else tokens.old.items) }
@@ -210,7 +210,8 @@ fn count_taken_at(
     requires taken_len { length taken.old.items ≡ length program.now.streams.items }
     requires enough { Reads program.now i p → length (waiting_of all.now.items i p) ≤ slice_index offered.now.items (stream_at program.now i p) }
     ensures len { length taken.new.items ≡ length taken.old.items }
-    ensures took { Reads program.now i p → slice_index taken.new.items (stream_at program.now i p) ≡ slice_index offered.now.items (stream_at program.now i p) - length (waiting_of all.now.items i p) }
+    ensures took { Reads program.now i p → slice_index taken.new.items (stream_at program.now i p)
+        ≡ slice_index offered.now.items (stream_at program.now i p) - length (waiting_of all.now.items i p) }
     ensures others { (s : ℕ) → (Reads program.now i p → s ≡ stream_at program.now i p → ⊥) → slice_index taken.new.items s ≡ slice_index taken.old.items s }
 {
     if is_writing(program, tie, i, p) {

@@ -1,3 +1,4 @@
+// The state of a network: its program and input, the body, ports and count of ticks of each instance, and the tokens taken of each stream.
 use crate::body::{Body, Pause};
 use crate::input::Input;
 use crate::ports::Ports;

@@ -1,3 +1,4 @@
+// The model of a network in contracts: its program and input, and the ticks and the last pause of each instance.
 use crate::body::Pause;
 use crate::input::Input;
 use tapa_syntax::Program;

@@ -1,9 +1,9 @@
 // By how large batches a net is driven.
 
-// So many ticks a visit are a large batch.
+// The ticks a visit from which on batches are large.
 const LARGE: u64 = 1_024;
 
-/// The ticks of all instances when they were last summed, and the visits since then. No contract rests on it.
+/// The ticks of all instances when they were last summed, and the visits since then. No contract depends on it.
 #[derive(Drop)]
 pub struct Pace {
     visits: u64,
@@ -28,8 +28,8 @@ impl Pace {
         }
     }
 
-    /// Whether the visits so far made large batches on the average. It looks once there were as many visits as there are instances, and
-    /// begins anew; then come so many more.
+    /// Whether the visits so far made large batches on the average. It looks once the number of visits is that of the instances, and
+    /// begins anew; then come `more` visits.
     pub fn has_grown(&mut self, more: usize, counts: &Vec<u64>) -> bool {
         let visits = self.visits;
         self.visits = visits.saturating_add(more as u64);

@@ -1,3 +1,4 @@
+// A port, which is an instance's end of a stream: its tokens, the index of the next one, and the room for more.
 ghost use Rattle.std.specs.Prelude.{◌+◌, ◌≤◌, length, vec_capacity};
 ghost use Rattle.net_core.specs.Kinds.{AreTokensOf};
 

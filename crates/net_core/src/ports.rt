@@ -1,3 +1,4 @@
+// The ports of an instance: the queue of tokens and the room at each, and how tokens are taken, put, offered and dropped.
 ghost use Rattle.std.specs.Prelude.{ℕ, ◌≡◌, ◌+◌, ◌*◌, ◌<◌, ◌≤◌, ◌↔◌, [], ◌∷◌, length, drop, slice_get, MatchOption, Some, IsTrue, IsOk, IfOk, MatchBool, ◌++◌, is_ok, if◌then◌else◌};
 ghost use Rattle.kahn_model.specs.declared.tick.Tick.TheVariants.{Did, Take};
 ghost use Rattle.kahn_model.specs.declared.tick.Action.TheVariants.{Put};
@@ -27,7 +28,7 @@ fn without_front(tokens: Vec<Token>, count: usize) -> Vec<Token>
     rest
 }
 
-// The tokens of a list from a place on.
+// The tokens of a list from an index on.
 fn from_place(tokens: &Vec<Token>, place: usize) -> &[Token]
     requires { place ≤ length tokens.now.items }
     ensures { result.now ≡ drop place tokens.now.items }
@@ -41,7 +42,7 @@ pub struct Ports {
     pub ports: Vec<Port>,
 }
 
-// The room that a list of so many tokens gets where it needs so much. A list that has grown past its first tokens gets a large
+// The room that a list of `len` tokens gets where it needs `room`. A list that has grown past its first tokens gets a large
 // room at once, of which the memory gives what is used: it is not moved as it grows.
 fn with_more(len: usize, room: usize) -> usize
     ensures { room ≤ result }
@@ -143,8 +144,8 @@ impl Ports {
         self.ports[s].carried.as_slice()
     }
 
-    /// Moves the list of a port's tokens out, with the place of the next of them, and leaves an empty list there. A front
-    /// part that was taken is let go once it is half of the list or more.
+    /// Moves the list of a port's tokens out, with the index of the next of them, and leaves an empty list there. The tokens
+    /// that were taken are dropped once they are half of the list or more.
     pub fn lift(&mut self, s: usize, empty: Vec<Token>) -> (Vec<Token>, usize)
         requires port { s < port_count self.old }
         requires empty { empty.items ≡ [] }
@@ -165,7 +166,7 @@ impl Ports {
         }
     }
 
-    /// Lets these tokens wait at a port, from a place of the list on.
+    /// Lets these tokens wait at a port, from an index of the list on.
     pub fn offer(&mut self, s: usize, tokens: Vec<Token>, head: usize)
         requires port { s < port_count self.old }
         requires within { head ≤ length tokens.items }
@@ -179,7 +180,7 @@ impl Ports {
         port.head = head;
     }
 
-    // Lets a front part of a port's tokens go that was taken, once it is half of the list or more.
+    // Drops the taken tokens of a port's list, once they are half of the list or more.
     fn trim(&mut self, s: usize)
         requires { s < port_count self.old }
         ensures adjusted { Adjusted self.old s self.new }
@@ -198,7 +199,7 @@ impl Ports {
         port.tokens.truncate(left);
     }
 
-    /// Lets more tokens wait at a port. It takes no memory where the port's queue has space for twice as many as wait then.
+    /// Lets more tokens wait at a port. It takes no memory where the port's queue has space for twice the tokens that wait then.
     #[inline(always)]
     pub fn offer_more(&mut self, s: usize, more: &[Token]) -> Result<(), OutOfMemory>
         requires port { s < port_count self.old }
@@ -214,7 +215,7 @@ impl Ports {
         Ok(())
     }
 
-    /// Lets the first of the tokens go that wait at a port.
+    /// Drops the first of the tokens that wait at a port.
     pub fn skip(&mut self, s: usize, count: usize)
         requires port { s < port_count self.old }
         requires enough { count ≤ length (waiting self.old s) }
@@ -226,7 +227,7 @@ impl Ports {
         port.head += count;
     }
 
-    /// Gives a port's queue space for so many tokens.
+    /// Gives a port's queue space for `space` tokens.
     pub fn reserve_queue(&mut self, s: usize, space: usize) -> Result<(), OutOfMemory>
         requires { s < port_count self.old }
         ensures adjusted { Adjusted self.old s self.new }

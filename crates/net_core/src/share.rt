@@ -16,7 +16,7 @@ use tapa_base::OutOfMemory;
 // The most ticks of one visit, some fifty microseconds: so an instance that never ends holds up no other one, and an end is seen soon.
 const SLICE: u64 = 16_384;
 
-// How many ticks are left to an instance: to a joined one what is left to all joined ones, to a detached one what is left to itself.
+// How many ticks an instance may still make: one that is waited for those of all that are waited for, a detached one its own.
 fn left_to<B: Body>(net: &Net<B>, i: usize, budget: u64, left: u64) -> u64
     requires instance { i < length net.now.program.instances.items }
     requires within { count net.now i ≤ budget }
@@ -30,7 +30,7 @@ fn left_to<B: Body>(net: &Net<B>, i: usize, budget: u64, left: u64) -> u64
     }
 }
 
-/// Resumes an instance with what is left to it, or with as much of it as one visit makes.
+/// Resumes an instance with the ticks that it may still make, but at most those of one visit.
 pub fn resume_within<B: Body>(
     alloc: Global,
     net: &mut Net<B>,
@@ -56,7 +56,7 @@ pub fn resume_within<B: Body>(
     Ok((pause, made))
 }
 
-/// Whether an instance that answered so is a joined one that may go on, while nothing is left to the joined ones.
+/// Whether an instance that answered so is waited for and may go on, while no tick is left to those that are waited for.
 pub fn goes_past<B: Body>(net: &Net<B>, i: usize, pause: Pause, left: u64) -> bool
     requires { i < length net.now.program.instances.items }
     ensures { MatchBool result ((pause ≡ Fuel) × IsJoined (network net.now) i × (left ≡ 0)) (pause ≡ Fuel → IsJoined (network net.now) i → 0 < left) }

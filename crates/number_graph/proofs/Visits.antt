@@ -5,7 +5,7 @@ use Rattle.std.proofs.lemmas.Bool.{cases_eq, cases_lt}
 use Rattle.std.proofs.lemmas.List.{get_or-set_same, get_or-set_other, length-set, get_or_append_left, get_or_push, get_or_past, get_or-take, length_push, length-take-le, take-append-le, take_at}
 use Rattle.tapa_base.specs.Lists.{Has, Chain, one, more}
 use Rattle.number_graph.specs.Graphs.{Adjacency, Steps, ArePartsFirst, IsOrder}
-use Rattle.number_graph.specs.Visits.{IsOpen, IsDone, IsBehind, IsVisit, steps_left, IsFurther}
+use Rattle.number_graph.specs.Visits.{IsOpen, IsClosedNode, IsBehind, IsVisit, steps_left, IsFurther}
 use Rattle.tapa_base.proofs.Lists.{has_left, has_right, has_split}
 use Rattle.number_graph.proofs.Numbers.{has_at}
 use Rattle.number_graph.proofs.Reached.{snoc}
@@ -58,10 +58,10 @@ module _ (g : Adjacency) (p path order : List ℕ) (v : IsVisit g p path order) 
   open_on : (k : ℕ) → IsOpen g p k → IsOpen g q k
   open_on k o = let e : get_or q k 0 ≡ get_or p k 0 = begun_other k o.0 in (omega arith, omega arith)
 
-  done_on : (k : ℕ) → IsDone g p k → IsDone g q k
+  done_on : (k : ℕ) → IsClosedNode g p k → IsClosedNode g q k
   done_on k d = let pos : 0 < get_or p k 0 = omega arith in let e : get_or q k 0 ≡ get_or p k 0 = begun_other k pos in omega arith
 
-  done_back : (k : ℕ) → IsDone g q k → IsDone g p k
+  done_back : (k : ℕ) → IsClosedNode g q k → IsClosedNode g p k
   done_back k d = elim (cases_eq k t) [
     | inl e ↦ (let one_is : get_or q k 0 ≡ 1 = ap (λ n. get_or q n 0) e ∙ begun_here in absurd (omega arith))
     | inr ne ↦ (let same : get_or q k 0 ≡ get_or p k 0 = begun_not k ne in omega arith)
@@ -145,12 +145,12 @@ module _ (g : Adjacency) (p path order : List ℕ) (v : IsVisit g p path order) 
   passed_not : (k : ℕ) → k ≢ j → get_or r k 0 ≡ get_or p k 0
   passed_not k ne = get_or-set_other p j k y 0 ne
 
-  done_up : (k : ℕ) → IsDone g p k → IsDone g r k
+  done_up : (k : ℕ) → IsClosedNode g p k → IsClosedNode g r k
   done_up k d = let f : get_or p k 0 ≤ get_or r k 0 = further_set p j y (omega (arith, y_is)) k in omega arith
 
-  done_down : (k : ℕ) → IsDone g r k → IsDone g p k
+  done_down : (k : ℕ) → IsClosedNode g r k → IsClosedNode g p k
   done_down k d = elim (cases_eq k j) [
-    | inl e ↦ (let d2 : IsDone g r j = subst (λ n. IsDone g r n) e d in let h : get_or r j 0 ≡ get_or p j 0 + 1 = passed_here in absurd (omega arith))
+    | inl e ↦ (let d2 : IsClosedNode g r j = subst (λ n. IsClosedNode g r n) e d in let h : get_or r j 0 ≡ get_or p j 0 + 1 = passed_here in absurd (omega arith))
     | inr ne ↦ (let same : get_or r k 0 ≡ get_or p k 0 = passed_not k ne in omega arith)
   ]
 
@@ -233,10 +233,10 @@ module _ (g : Adjacency) (p rest order : List ℕ) (j : ℕ) (v : IsVisit g p (r
   ended_not : (k : ℕ) → k ≢ j → get_or z k 0 ≡ get_or p k 0
   ended_not k ne = get_or-set_other p j k y 0 ne
 
-  ended_done : IsDone g z j
+  ended_done : IsClosedNode g z j
   ended_done = let h : get_or z j 0 ≡ get_or p j 0 + 1 = ended_here in omega (arith, full)
 
-  done_more : (k : ℕ) → IsDone g p k → IsDone g z k
+  done_more : (k : ℕ) → IsClosedNode g p k → IsClosedNode g z k
   done_more k d = let f : get_or p k 0 ≤ get_or z k 0 = further_set p j y (omega (arith, y_is)) k in omega arith
 
   -- a node of the path that stays is another
@@ -249,7 +249,7 @@ module _ (g : Adjacency) (p rest order : List ℕ) (j : ℕ) (v : IsVisit g p (r
   opened_before : (i : ℕ) → i < length rest → IsOpen g p (get_or rest i 0)
   opened_before i h = subst (λ n. IsOpen g p n) (before_push rest j i h) (v.opened i (up_low i h))
 
-  target_done : (k : ℕ) → Steps g j k → IsDone g p k
+  target_done : (k : ℕ) → Steps g j k → IsClosedNode g p k
   target_done k s =
       let a = has_at (get_or g j []) k s in
       let lt : a.0 < length (get_or g j []) = a.1 in
@@ -263,7 +263,7 @@ module _ (g : Adjacency) (p rest order : List ℕ) (j : ℕ) (v : IsVisit g p (r
       ]
 
   not_yet : Has order j → ⊥
-  not_yet h = let d : IsDone g p j = v.done j h in absurd (omega (arith, full))
+  not_yet h = let d : IsClosedNode g p j = v.done j h in absurd (omega (arith, full))
 
   abbrev more_order : List ℕ
   more_order = order ++ j ∷ []
@@ -295,7 +295,7 @@ module _ (g : Adjacency) (p rest order : List ℕ) (j : ℕ) (v : IsVisit g p (r
   there_in k ne w (inr b) = absurd (ne (sym w.2 ∙ b.1))
 
   there_still : (k : ℕ) → IsOpen g z k → (k ≡ j) ⊎ (k ≢ j) → (i : ℕ) × (i < length rest) × (get_or rest i 0 ≡ k)
-  there_still k o (inl e) = let o2 : IsOpen g z j = subst (λ n. IsOpen g z n) e o in let d : IsDone g z j = ended_done in let b : get_or z j 0 ≤ length (get_or g j []) + 1 = o2.1 in absurd (omega arith)
+  there_still k o (inl e) = let o2 : IsOpen g z j = subst (λ n. IsOpen g z n) e o in let d : IsClosedNode g z j = ended_done in let b : get_or z j 0 ≤ length (get_or g j []) + 1 = o2.1 in absurd (omega arith)
   there_still k o (inr ne) =
       let same : get_or z k 0 ≡ get_or p k 0 = ended_not k ne in
       let a : 0 < get_or z k 0 = o.0 in
@@ -306,19 +306,19 @@ module _ (g : Adjacency) (p rest order : List ℕ) (j : ℕ) (v : IsVisit g p (r
   behind_in : (i k : ℕ) → (w : (i' : ℕ) × (i < i') × (i' < length path_was) × (get_or path_was i' 0 ≡ k))
       → ((w.0 < length rest) × (get_or path_was w.0 0 ≡ get_or rest w.0 0)) ⊎ ((w.0 ≡ length rest) × (get_or path_was w.0 0 ≡ j)) → IsBehind g z rest i k
   behind_in i k w (inl a) = inr (w.0, w.1, a.0, sym a.1 ∙ w.3)
-  behind_in i k w (inr b) = inl (subst (λ n. IsDone g z n) (sym b.1 ∙ w.3) ended_done)
+  behind_in i k w (inr b) = inl (subst (λ n. IsClosedNode g z n) (sym b.1 ∙ w.3) ended_done)
 
   behind_still : (i k : ℕ) → IsBehind g p path_was i k → IsBehind g z rest i k
   behind_still i k (inl d) = inl (done_more k d)
   behind_still i k (inr w) = behind_in i k w (at_push rest j w.0 w.2)
 
-  placed_of : (k : ℕ) → IsDone g z k → (k ≡ j) ⊎ (k ≢ j) → Has more_order k
+  placed_of : (k : ℕ) → IsClosedNode g z k → (k ≡ j) ⊎ (k ≢ j) → Has more_order k
   placed_of k d (inl e) = has_right order (j ∷ []) k (inl (sym e))
   placed_of k d (inr ne) = let same : get_or z k 0 ≡ get_or p k 0 = ended_not k ne in has_left order (j ∷ []) k (v.placed k (omega arith))
 
-  done_of : (k : ℕ) → Has order k ⊎ Has (j ∷ []) k → IsDone g z k
+  done_of : (k : ℕ) → Has order k ⊎ Has (j ∷ []) k → IsClosedNode g z k
   done_of k (inl h) = done_more k (v.done k h)
-  done_of k (inr (inl e)) = subst (λ n. IsDone g z n) e ended_done
+  done_of k (inr (inl e)) = subst (λ n. IsClosedNode g z n) e ended_done
   done_of k (inr (inr h)) = absurd h
 
   seen_still : (i s : ℕ) → i < length rest → s + 1 < get_or z (get_or rest i 0) 0 → IsBehind g z rest i (get_or (get_or g (get_or rest i 0) []) s 0)

@@ -3,7 +3,7 @@ use Rattle.std.specs.Prelude.{ℕ, ◌<◌, ◌≤◌, List, [], ◌∷◌, leng
 use Rattle.std.specs.Option.{option_map_or}
 use Rattle.tapa_base.specs.Lists.{Has, Chain}
 
--- of each node its targets, the nodes that it rests on; the nodes are the numbers below the length
+-- of each node its targets, the nodes that it depends on; the nodes are the numbers below the length
 abbrev pub Adjacency : Type 0
 Adjacency = List (List ℕ)
 

@@ -24,12 +24,12 @@ pub record GoesOn (g : Adjacency) (old new : Visit) : Type 0 where
   pub further : IsFurther old.progress.items new.progress.items
   pub less : left_of g new < left_of g old
 
--- a node on a cycle was found, or the visit goes on
+-- a node on a cycle is the answer, or the visit goes on
 abbrev pub IsTurn : Adjacency → Visit → Visit → Option ℕ → Type 0
 IsTurn g old new None = GoesOn g old new
 IsTurn g old new (Some k) = (k < length g) × Chain (Steps g) k k
 
--- a node on a cycle was found, or all that a root reaches is done
+-- a node on a cycle is the answer, or all that a root reaches is done
 pub record IsVisited (g : Adjacency) (root : ℕ) (old new : Visit) : Type 0 where
   pub visit : IsVisitOf g new
   pub further : IsFurther old.progress.items new.progress.items

@@ -8,12 +8,12 @@ use Rattle.number_graph.specs.Graphs.{Adjacency, Steps, ArePartsFirst}
 abbrev pub IsOpen : Adjacency → List ℕ → ℕ → Type 0
 IsOpen g progress j = (0 < get_or progress j 0) × (get_or progress j 0 ≤ length (get_or g j []) + 1)
 
-abbrev pub IsDone : Adjacency → List ℕ → ℕ → Type 0
-IsDone g progress j = length (get_or g j []) + 1 < get_or progress j 0
+abbrev pub IsClosedNode : Adjacency → List ℕ → ℕ → Type 0
+IsClosedNode g progress j = length (get_or g j []) + 1 < get_or progress j 0
 
--- a node is done, or stands behind a place of the path
+-- a node is done, or is on the path after index i
 abbrev pub IsBehind : Adjacency → List ℕ → List ℕ → ℕ → ℕ → Type 0
-IsBehind g progress path i k = IsDone g progress k ⊎ ((j : ℕ) × (i < j) × (j < length path) × (get_or path j 0 ≡ k))
+IsBehind g progress path i k = IsClosedNode g progress k ⊎ ((j : ℕ) × (i < j) × (j < length path) × (get_or path j 0 ≡ k))
 
 -- The path has the open nodes, each a target of the one before; the order has those that are done.
 pub record IsVisit (g : Adjacency) (progress path order : List ℕ) : Type 0 where
@@ -24,8 +24,8 @@ pub record IsVisit (g : Adjacency) (progress path order : List ℕ) : Type 0 whe
   pub there : (j : ℕ) → IsOpen g progress j → (i : ℕ) × (i < length path) × (get_or path i 0 ≡ j)
   pub follows : (i : ℕ) → i + 1 < length path → Steps g (get_or path i 0) (get_or path (i + 1) 0)
   pub seen : (i t : ℕ) → i < length path → t + 1 < get_or progress (get_or path i 0) 0 → IsBehind g progress path i (get_or (get_or g (get_or path i 0) []) t 0)
-  pub placed : (j : ℕ) → IsDone g progress j → Has order j
-  pub done : (j : ℕ) → Has order j → IsDone g progress j
+  pub placed : (j : ℕ) → IsClosedNode g progress j → Has order j
+  pub done : (j : ℕ) → Has order j → IsClosedNode g progress j
   pub parts : ArePartsFirst g order
 
 -- no node has come less far

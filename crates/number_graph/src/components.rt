@@ -4,7 +4,7 @@
 use crate::graph::Graph;
 use std::alloc::{AllocError, Global};
 
-// The path-based search for components: a walk over all nodes, each after those that it rests on.
+// The path-based search for components: a walk over all nodes, each after those that it depends on.
 #[derive(Drop)]
 struct Walk {
     // When each node was entered, and the level of its component: 0 as long as it has none.
@@ -59,7 +59,7 @@ impl Walk {
         Ok(())
     }
 
-    // Gives all that wait a level, down to the first of their group.
+    // Gives a new level to the nodes of the stack from the last one down to the first of their group.
     fn close_group(&mut self, first: usize) {
         self.grouped = self.grouped.saturating_add(1);
         while let Some(node) = self.waiting.pop() {
@@ -94,7 +94,7 @@ impl Walk {
         }
     }
 
-    // Visits what a root reaches, by at most so many steps.
+    // Visits all that a root reaches, in at most `steps` steps.
     fn visit(&mut self, graph: &Graph, root: usize, steps: usize) -> Result<(), AllocError> {
         self.follow(root)?;
         for _ in 0..steps {

@@ -7,7 +7,7 @@ ghost use Rattle.number_graph.specs.Graphs.{Steps, AreNodes, targets_of};
 use std::alloc::{AllocError, Global};
 use std::marker::Model;
 
-/// A graph of the numbers below a count. Each node has its targets, the nodes that it rests on.
+/// A graph of the numbers below a count. Each node has its targets, the nodes that it depends on.
 #[derive(Drop)]
 pub struct Graph {
     rows: Vec<Vec<usize>>,
@@ -70,7 +70,7 @@ fn row_at(rows: &[Vec<usize>], node: usize) -> &[usize]
 }
 
 impl Graph {
-    /// The graph of so many nodes with these edges, each from a node to a node that it rests on.
+    /// The graph of `count` nodes with these edges, each from a node to a node that it depends on.
     pub fn of(alloc: Global, count: usize, edges: &[(usize, usize)]) -> Result<Graph, AllocError>
         requires { (j k : ℕ) → Has edges.now (j, k) → (j < count) × (k < count) }
         ensures len { IfOk result (λ g. length g ≡ count) }

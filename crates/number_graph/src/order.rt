@@ -3,7 +3,7 @@
 ghost use Rattle.std.specs.Prelude.{◌≡◌, ◌<◌, ◌≤◌, ◌+◌, ◌-◌, ◌++◌, ◌∷◌, [], ℕ, List, Some, None, length, get_or, IfOk, OnOk};
 ghost use Rattle.number_graph.specs.Graphs.{Adjacency, Steps, IsOrder};
 ghost use Rattle.tapa_base.specs.Lists.{Chain};
-ghost use Rattle.number_graph.specs.Visits.{IsBehind, IsDone, IsOpen, IsFurther};
+ghost use Rattle.number_graph.specs.Visits.{IsBehind, IsClosedNode, IsOpen, IsFurther};
 ghost use Rattle.number_graph.specs.Orders.{IsAnswer, IsVisitOf, left_of, GoesOn, IsTurn, IsRootTurn};
 
 use crate::graph::Graph;
@@ -41,7 +41,7 @@ fn begin(graph: &Graph, visit: &mut Visit, node: usize) -> Result<(), AllocError
     Ok(())
 }
 
-// Passes a target of an open node that is done or stands behind it on the path.
+// Passes a target of an open node that is done or is after it on the path.
 fn pass(graph: &Graph, visit: &mut Visit, place: usize, node: usize)
     requires visit { IsVisitOf graph.now visit.old }
     requires at { place < length visit.old.path.items }
@@ -55,7 +55,7 @@ fn pass(graph: &Graph, visit: &mut Visit, place: usize, node: usize)
     visit.progress[node] = progress + 1;
 }
 
-// Puts the last node of the path behind the order, once all its targets were passed.
+// Appends the last node of the path to the order, once all its targets were passed.
 fn finish(graph: &Graph, visit: &mut Visit, node: usize) -> Result<(), AllocError>
     requires visit { IsVisitOf graph.now visit.old }
     requires last { (rest : List ℕ) × (visit.old.path.items ≡ rest ++ node ∷ []) }
@@ -90,8 +90,8 @@ fn descend(
     Ok(())
 }
 
-// Looks at a target of the last node of the path: begins it where it is new, passes it where it is done, and tells it where
-// it is open, since then it reaches itself.
+// Looks at a target of the last node of the path: begins it where it is new, passes it where it is done, and returns it
+// where it is open, since then it reaches itself.
 fn follow(
     graph: &Graph,
     visit: &mut Visit,
@@ -119,7 +119,7 @@ fn follow(
     Ok(None)
 }
 
-// Looks at the next target of the last node of the path, or ends the node.
+// Looks at the next target of the last node of the path, or finishes the node where it has no more.
 fn go_on(graph: &Graph, visit: &mut Visit, node: usize) -> Result<Option<usize>, AllocError>
     requires visit { IsVisitOf graph.now visit.old }
     requires last { (rest : List ℕ) × (visit.old.path.items ≡ rest ++ node ∷ []) }

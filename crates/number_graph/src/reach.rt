@@ -9,7 +9,7 @@ use crate::graph::Graph;
 use std::alloc::{AllocError, Global};
 use std::marker::Model;
 
-// Marks a number and notes it, where it is not marked.
+// Marks a number and appends it to the list of marked ones, where it is not marked.
 fn mark(marks: &mut Vec<bool>, found: &mut Vec<usize>, number: usize) -> Result<(), AllocError>
     requires low { number < length marks.old.items }
     requires marked { IsMarked marks.old.items found.old.items }
@@ -23,7 +23,7 @@ fn mark(marks: &mut Vec<bool>, found: &mut Vec<usize>, number: usize) -> Result<
     Ok(())
 }
 
-// Marks all numbers of a list, and notes those that were not marked.
+// Marks all numbers of a list, and appends those that were not marked to the list of marked ones.
 fn mark_all(
     marks: &mut Vec<bool>,
     found: &mut Vec<usize>,
@@ -115,7 +115,7 @@ pub fn reach_from(alloc: Global, graph: &Graph, sources: &[usize]) -> Result<Vec
     Ok(marks)
 }
 
-// Takes the marks away that are noted.
+// Clears the marks of the listed numbers.
 fn clear(marks: &mut Vec<bool>, found: &[usize])
     requires { IsMarked marks.old.items found.now }
     ensures len { length marks.new.items ≡ length marks.old.items }
@@ -128,7 +128,7 @@ fn clear(marks: &mut Vec<bool>, found: &[usize])
     }
 }
 
-/// Room for searches in graphs of at most so many nodes, which is used again: a search costs what it finds.
+/// Room for searches in graphs of at most a fixed number of nodes, reused by each: a search costs the number of nodes it reaches.
 #[derive(Drop)]
 pub struct Searches {
     marks: Vec<bool>,
@@ -146,7 +146,7 @@ impl Model for Searches {
 }
 
 impl Searches {
-    /// Searches in a graph of so many nodes, of which none is marked. Want of memory is the only error.
+    /// Searches in a graph of `count` nodes, of which none is marked. Want of memory is the only error.
     pub fn new(alloc: Global, count: usize) -> Result<Searches, AllocError>
         ensures { IfOk result (λ s. s ≡ count) }
     {

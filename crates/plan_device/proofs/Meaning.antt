@@ -11,7 +11,7 @@ use Rattle.task_graph.specs.declared.Use.{Use}
 use Rattle.task_graph.specs.Programs.{IsGraphOf}
 use Rattle.task_graph.specs.Streams.{amount_at}
 use Rattle.run_data.specs.Data.{IsJson}
-use Rattle.plan_device.specs.Answer.{IsMeaning, IsFirstOf, IsCause}
+use Rattle.plan_device.specs.Answer.{IsMeaning, IsFirstOf, IsDeviceCause}
 use Rattle.plan_device.specs.Checked.{AreKeysRight, IsPlaced}
 use Rattle.plan_device.specs.Contents.{borders, percent_of, slots_of, uses_of}
 use Rattle.plan_device.specs.Devices.{IsDevice}
@@ -77,7 +77,7 @@ module _ (program : Program) (graph : Graph) (file : Json) (device : Device) (of
   }
 
 -- a first fault is a cause
-pub cause_of : (text : List ℕ) (program : Program) (graph : Graph) (file : Json) (fault : DeviceFault) → IsJson text file → IsFirstOf program graph file fault → IsCause text program graph fault
+pub cause_of : (text : List ℕ) (program : Program) (graph : Graph) (file : Json) (fault : DeviceFault) → IsJson text file → IsFirstOf program graph file fault → IsDeviceCause text program graph fault
 cause_of text program graph file J1 is_json never = absurd never
 cause_of text program graph file (J2 key) is_json is = record { file = file; is_json = is_json; first = is }
 cause_of text program graph file (J3 key) is_json is = record { file = file; is_json = is_json; first = is }

@@ -42,7 +42,7 @@ pub record IsFirstFault (text : List ℕ) (program : Program) (graph : Graph) (f
   pub is_json : IsJson text file
   pub first : first (faults program graph file) ≡ Some fault
 
--- the first fault of a file is the one that is told; want of memory says nothing
+-- the first fault of a file is the one that is reported; want of memory says nothing
 abbrev pub IsFirstOf : Program → Graph → Json → DeviceFault → Type 0
 IsFirstOf program graph file J1 = ⊥
 IsFirstOf program graph file (J2 key) = first (faults program graph file) ≡ Some (Misshapen key.items)
@@ -54,12 +54,12 @@ IsFirstOf program graph file (K4 label) = first (faults program graph file) ≡ 
 IsFirstOf program graph file OutOfMemory = ⊤
 
 -- what a refusal says; want of memory says nothing
-abbrev pub IsCause : List ℕ → Program → Graph → DeviceFault → Type 0
-IsCause text program graph J1 = (file : Json) → IsJson text file → ⊥
-IsCause text program graph (J2 key) = IsFirstFault text program graph (Misshapen key.items)
-IsCause text program graph (J3 key) = IsFirstFault text program graph (Misfit key.items)
-IsCause text program graph (K1 key) = IsFirstFault text program graph (OutOfRange key.items)
-IsCause text program graph (K2 name) = IsFirstFault text program graph (Unknown name.items)
-IsCause text program graph (K3 label) = IsFirstFault text program graph (Elsewhere label.items)
-IsCause text program graph (K4 label) = IsFirstFault text program graph (OnForbidden label.items)
-IsCause text program graph OutOfMemory = ⊤
+abbrev pub IsDeviceCause : List ℕ → Program → Graph → DeviceFault → Type 0
+IsDeviceCause text program graph J1 = (file : Json) → IsJson text file → ⊥
+IsDeviceCause text program graph (J2 key) = IsFirstFault text program graph (Misshapen key.items)
+IsDeviceCause text program graph (J3 key) = IsFirstFault text program graph (Misfit key.items)
+IsDeviceCause text program graph (K1 key) = IsFirstFault text program graph (OutOfRange key.items)
+IsDeviceCause text program graph (K2 name) = IsFirstFault text program graph (Unknown name.items)
+IsDeviceCause text program graph (K3 label) = IsFirstFault text program graph (Elsewhere label.items)
+IsDeviceCause text program graph (K4 label) = IsFirstFault text program graph (OnForbidden label.items)
+IsDeviceCause text program graph OutOfMemory = ⊤

@@ -1,4 +1,4 @@
--- What the code has found out of a file.
+-- What the code has computed from a file.
 use Rattle.std.specs.Prelude.{◌≡◌, ℕ, ◌<◌, ◌*◌, ◌↔◌, length, false, Some, None, get_or}
 use Rattle.serde_json.specs.Data.{Data as Json}
 use Rattle.tapa_syntax.specs.declared.program.Program.{Program}

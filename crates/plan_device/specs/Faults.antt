@@ -1,4 +1,4 @@
--- The faults of a device file, in the order in which they are told.
+-- The faults of a device file, in the order in which they are reported.
 use Rattle.std.specs.Prelude.{ℕ, List, [], ◌∷◌, ◌++◌, map, filter, codes, Bool, true, false, not, ◌&&◌, if◌then◌else◌, Option, Some, None, bytes_eq}
 use Rattle.std.specs.List.{list_any, flat_map}
 use Rattle.serde_json.specs.Data.{Data as Json}
@@ -16,7 +16,7 @@ use Rattle.plan_device.specs.Keys.{Names, names_of, names_in, group_name, group_
 use Rattle.plan_device.specs.Pins.{elsewhere, on_forbidden}
 use Rattle.plan_device.specs.Tests.{passes, member_passes, grid_of}
 
--- how a member is told: of shapes and numbers as `group.name`, else by its name alone
+-- how a member is reported: of shapes and numbers as `group.name`, else by its name alone
 abbrev pub told_in : Check → Group → List ℕ → List ℕ
 told_in Shape group name = group_name group ++ (codes "." ++ name)
 told_in Number group name = group_name group ++ (codes "." ++ name)
@@ -35,7 +35,7 @@ abbrev pub faulty_members : Check → Option Group → Names → Json → List (
 faulty_members check None names file = []
 faulty_members check (Some group) names file = map (told_in check group) (faulty_in check group names file)
 
--- the key, or what is told of its members
+-- the key, or its faulty members as they are reported
 unfoldable pub faulty_at : Check → Names → Json → Key → List (List ℕ)
 faulty_at check names file key =
     if passes check key (get (key_name key) file) then faulty_members check (group_of key) names file else key_name key ∷ []

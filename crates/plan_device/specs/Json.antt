@@ -26,7 +26,7 @@ number_in low past json = option_and_then (natural_in low past) (natural_of json
 abbrev pub is_in : ℕ → ℕ → Json → Bool
 is_in low past json = is_some (number_in low past json)
 
--- the same, and another number where it is absent or is none
+-- a whole number from `low` on and below `past`, and `other` where there is none
 abbrev pub number_or : ℕ → ℕ → ℕ → Option Json → ℕ
 number_or other low past found = unwrap_or (option_and_then (number_in low past) found) other
 

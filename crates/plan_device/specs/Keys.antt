@@ -48,7 +48,8 @@ group_of key.Forbidden = None
 abbrev pub keys_in : Format → List Key
 keys_in One = key.Version ∷ key.Rows ∷ key.Cols ∷ key.Slots ∷ key.Levels ∷ key.Percent ∷ key.Members Tasks ∷ key.Members Pins ∷ []
 keys_in Two = key.Version ∷ key.Rows ∷ key.Cols ∷ key.Slots ∷ key.LevelsRows ∷ key.LevelsCols ∷ key.Percent ∷ key.Members Tasks ∷ key.Members Pins ∷ key.Forbidden ∷ []
-keys_in Neither = key.Version ∷ key.Rows ∷ key.Cols ∷ key.Slots ∷ key.Levels ∷ key.LevelsRows ∷ key.LevelsCols ∷ key.Percent ∷ key.Members Tasks ∷ key.Members Pins ∷ key.Forbidden ∷ []
+keys_in Neither =
+    key.Version ∷ key.Rows ∷ key.Cols ∷ key.Slots ∷ key.Levels ∷ key.LevelsRows ∷ key.LevelsCols ∷ key.Percent ∷ key.Members Tasks ∷ key.Members Pins ∷ key.Forbidden ∷ []
 
 abbrev pub format_by : Option ℕ → Format
 format_by None = Neither

@@ -1,3 +1,4 @@
+// Amounts of resources in a device file: whether a value has their shape and numbers, and the amounts that it gives.
 ghost use Rattle.std.specs.Prelude.{◌≡◌, ◌<◌, ◌^◌, ℕ, List, All, Some, string_cmp};
 ghost use Rattle.std.specs.List.{list_all};
 ghost use Rattle.std.specs.BTreeMap.{get};

@@ -1,3 +1,4 @@
+// The checks that a device file goes through in order: of shapes, numbers, ranges and names.
 use crate::grid::Grid;
 
 /// What a file is looked through for, one after the other: values of another shape, numbers that are not right, numbers

@@ -1,3 +1,4 @@
+// What a device file gives: the registers at each border of slots, the capacities of the slots, and what each instance uses.
 ghost use Rattle.std.specs.Prelude.{◌≡◌, ◌<◌, ◌≤◌, ◌-◌, ◌^◌, ℕ, Some, All, map, length, replicate, option_and_then, slice_get, slice_index, IfOk};
 ghost use Rattle.std.specs.Option.{option_map_or};
 ghost use Rattle.serde_json.specs.Find.{get_member};

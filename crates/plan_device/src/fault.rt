@@ -1,6 +1,7 @@
+// The faults of a device file, each with the key, name or label that it is reported by, and want of memory.
 use std::alloc::AllocError;
 
-/// Why a device file is refused, with the bytes of a key, a name or a label. A shape or a number is told by its key, and in
+/// Why a device file is refused, with the bytes of a key, a name or a label. A shape or a number is reported by its key, and in
 /// `tasks` and `pins` as `tasks.NAME` and `pins.LABEL`; a file that is no object as `.`.
 #[derive(Drop)]
 pub enum DeviceFault {

@@ -1,3 +1,4 @@
+// The search of a device file for the first fault under one check, at a key or at a member of a group, and how it is reported.
 ghost use Rattle.std.specs.Prelude.{◌≡◌, ◌&&◌, ℕ, List, true, false, filter, map, not, option_map, IfOk};
 ghost use Rattle.serde_json.specs.Data.{Data as Json};
 ghost use Rattle.serde_json.specs.Find.{get_member};
@@ -93,7 +94,7 @@ fn find_unknown<'v>(
     }
 }
 
-// How a member is told.
+// How a member is reported.
 fn told_in(check: Check, alloc: Global, group: Group, name: &[u8]) -> Result<Vec<u8>, AllocError>
     ensures { IfOk result (λ key. key.items ≡ told_in check group name.now) }
 {
@@ -121,7 +122,7 @@ fn find_in<'v>(check: Check, group: Group, known: &'v Known, file: &'v Value) ->
     find_unknown(check, group, &names.table, found)
 }
 
-// What is told of the first member of a group that does not pass.
+// What is reported of the first member of a group that does not pass.
 fn find_member(
     alloc: Global,
     check: Check,
@@ -138,7 +139,7 @@ fn find_member(
     }
 }
 
-// What is told of the first fault at a key.
+// What is reported of the first fault at a key.
 fn find_at(
     alloc: Global,
     check: Check,
@@ -159,7 +160,7 @@ fn find_at(
     }
 }
 
-/// What is told of the first fault over the whole file.
+/// What is reported of the first fault over the whole file.
 pub(crate) fn find(
     alloc: Global,
     check: Check,

@@ -1,3 +1,4 @@
+// What JSON values of a device file denote: whole numbers in a range, the rows and columns of the floorplan, and slots.
 ghost use Rattle.std.specs.Prelude.{◌≡◌, ◌<◌, ◌≤◌, ◌*◌, map, option_and_then, IsAscii, IfSome};
 ghost use Rattle.std.specs.List.{list_all};
 ghost use Rattle.serde_json.specs.Find.{get_member};

@@ -1,3 +1,4 @@
+// The formats of a device file, the keys that each format has, and the groups: keys whose values have a member for each name.
 ghost use Rattle.std.specs.Prelude.{◌≡◌, bytes_eq};
 ghost use Rattle.std.specs.List.{list_any};
 ghost use Rattle.serde_json.specs.View.{view};

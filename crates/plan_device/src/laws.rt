@@ -3,7 +3,7 @@
 ghost use Rattle.plan_device.specs.One.{FilesGiveOneDevice};
 
 /// The devices that a file gives for a program and its graph are one as plain data: where their lists lie in memory is no
-/// matter. So they have as many forbidden slots and as many pinned groups.
+/// matter. So their numbers of forbidden slots and of pinned groups are equal.
 pub fn law_one_device()
     ensures { FilesGiveOneDevice }
 {}

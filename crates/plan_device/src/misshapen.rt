@@ -1,3 +1,4 @@
+// The first fault of shape in a device file: no object, a missing key, a value of another shape, or an unknown key.
 ghost use Rattle.std.specs.Prelude.{◌≡◌, filter, not, option_map, IfOk};
 ghost use Rattle.serde_json.specs.View.{view, members_view};
 ghost use Rattle.run_data.specs.Data.{keys_of};
@@ -25,7 +26,7 @@ fn find_unknown_key(format: Format, members: &Map<String, Value>) -> Option<&[u8
     None
 }
 
-/// What is told of the first fault of shape.
+/// What is reported of the first fault of shape.
 pub(crate) fn find_misshapen(
     alloc: Global,
     known: &Known,

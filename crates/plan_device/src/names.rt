@@ -1,3 +1,4 @@
+// The names that a device file may use for a program, in order and with a table: its leaf tasks and the labels of its instances.
 ghost use Rattle.std.specs.Prelude.{◌≡◌, ℕ, List, map, IfOk};
 ghost use Rattle.tapa_syntax.specs.declared.program.Instance.{Instance};
 ghost use Rattle.tapa_syntax.specs.declared.program.Leaf.{Leaf};
@@ -11,7 +12,7 @@ use std::collections::HashMap;
 use tapa_base::Text;
 use tapa_syntax::{Instance, Leaf, Program};
 
-/// Names in order, and a table of them, in which a key is found without a walk over all.
+/// Names in order, and a table in which a key is looked up without a walk over all.
 #[derive(Drop)]
 pub struct NameList {
     pub list: Vec<Text>,

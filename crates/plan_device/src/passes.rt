@@ -1,3 +1,4 @@
+// The checks of single values in a device file: whether the value at a key, or of a member of a group, has its shape, numbers and range.
 ghost use Rattle.std.specs.Prelude.{◌≡◌, ◌≤◌, map, Some};
 ghost use Rattle.std.specs.List.{list_all};
 ghost use Rattle.serde_json.specs.View.{view};

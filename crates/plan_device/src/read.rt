@@ -1,3 +1,4 @@
+// Reads a device file for a program and its task graph: gives the device with the constraints on its floorplan, or the first fault.
 ghost use Rattle.std.specs.Prelude.{◌≡◌, ◌<◌, ◌*◌, ℕ, All, None, false, IfSome, IfOk, IfErr, OnOk, length, get_or};
 ghost use Rattle.serde_json.specs.View.{view};
 ghost use Rattle.tapa_syntax.specs.declared.program.Program.{Program};
@@ -5,7 +6,7 @@ ghost use Rattle.task_graph.specs.declared.Graph.{Graph};
 ghost use Rattle.task_graph.specs.Programs.{IsGraphOf};
 ghost use Rattle.run_data.specs.Data.{IsJson};
 ghost use Rattle.run_data.specs.Seen.{first};
-ghost use Rattle.plan_device.specs.Answer.{IsDeviceOf, IsCause, IsFirstOf};
+ghost use Rattle.plan_device.specs.Answer.{IsDeviceOf, IsDeviceCause, IsFirstOf};
 ghost use Rattle.plan_device.specs.Checked.{AreKeysRight, IsPlaced};
 ghost use Rattle.plan_device.specs.Devices.{IsDevice};
 ghost use Rattle.plan_device.specs.Pins.{label_at, pins_of, elsewhere, is_forbidden, on_forbidden};
@@ -29,7 +30,7 @@ use task_graph::Graph;
 // The value of a text.
 fn read_json(alloc: Global, text: &[u8]) -> Result<Value, DeviceFault>
     ensures value { IfOk result (λ file. IsJson text.now (view file)) }
-    ensures cause { IfErr result (λ fault. (program : Program) (graph : Graph) → IsCause text.now program graph fault) }
+    ensures cause { IfErr result (λ fault. (program : Program) (graph : Graph) → IsDeviceCause text.now program graph fault) }
 {
     match Value::from_slice(alloc, text) {
         Ok(file) => Ok(file),
@@ -97,7 +98,8 @@ fn check_forbidden(
     ensures free { OnOk result (None ≡ first (on_forbidden (grid_of (view file.now)) program.now (view file.now))) }
     ensures groups { IfOk result (λ placed. placed.groups.items ≡ groups.items) }
     ensures slots { IfOk result (λ placed. length placed.forbidden.items ≡ (grid_of (view file.now)).rows * (grid_of (view file.now)).cols) }
-    ensures forbidden { IfOk result (λ placed. (s : ℕ) → s < length placed.forbidden.items → get_or placed.forbidden.items s false ≡ is_forbidden (grid_of (view file.now)) (view file.now) s) }
+    ensures forbidden { IfOk result (λ placed. (s : ℕ) → s < length placed.forbidden.items
+        → get_or placed.forbidden.items s false ≡ is_forbidden (grid_of (view file.now)) (view file.now) s) }
     ensures cause { IfErr result (λ fault. (graph : Graph) → AreKeysRight program.now (view file.now)
         → None ≡ first (elsewhere (grid_of (view file.now)) program.now graph (view file.now)) → IsFirstOf program.now graph (view file.now) fault) }
 {
@@ -129,7 +131,7 @@ fn check_pins(
 }
 
 /// Reads a device file, of version 1 or 2, for a program and its graph. A file without a fault gives the device; else the
-/// first of its faults is told: all of J2 over the whole file before all of J3, and then those of K1 to K4 in this order.
+/// first of its faults is reported: all of J2 over the whole file before all of J3, and then those of K1 to K4 in this order.
 pub fn read_device(
     alloc: Global,
     text: &[u8],
@@ -139,7 +141,7 @@ pub fn read_device(
     requires graph { IsGraphOf program.now graph.now }
     ensures value { IfOk result (λ device. IsDeviceOf text.now program.now graph.now device) }
     ensures device { IfOk result (λ device. IsDevice graph.now device) }
-    ensures cause { IfErr result (λ fault. IsCause text.now program.now graph.now fault) }
+    ensures cause { IfErr result (λ fault. IsDeviceCause text.now program.now graph.now fault) }
 {
     let file = read_json(alloc, text)?;
     check_keys(alloc, program, &file)?;

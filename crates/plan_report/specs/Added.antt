@@ -1,4 +1,4 @@
--- The latency that is added to the streams of a plan: each register is a cycle on a stream's way, and a FIFO with places for it.
+-- The latency that is added to the streams of a plan: each register is a cycle on a stream's path, and a FIFO with entries for it.
 use Rattle.std.specs.Prelude.{◌≡◌, ℕ, ◌+◌, ◌<◌, Bool, true, false, List, length, slice_index}
 use Rattle.task_graph.specs.declared.Graph.{Graph}
 use Rattle.task_graph.specs.Arcs.{streams}
@@ -19,7 +19,7 @@ abbrev pub AddsTo : Graph → List ℕ → Bool → List ℕ → Type 0
 AddsTo g lat false added = added ≡ lat
 AddsTo g lat true added = AreBalanced g lat added
 
--- the added latencies of a graph's streams, where the groups stand in these slots
+-- the added latencies of a graph's streams, where the groups are in these slots
 pub record AreAdded (g : Graph) (d : Device) (slots : List ℕ) (balanced : Bool) (added : List ℕ) : Type 0 where
   pub lat : List ℕ
   pub borders : AreBorderLatencies g d slots lat

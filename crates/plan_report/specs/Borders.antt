@@ -12,7 +12,7 @@ crossed levels a b = total (length levels) (λ border. if nat_le (min a b) borde
 abbrev pub border_latency : Device → ℕ → ℕ → ℕ
 border_latency d s t = crossed d.levels_rows.items (s / d.cols) (t / d.cols) + crossed d.levels_cols.items (s % d.cols) (t % d.cols)
 
--- the latencies of a graph's streams, where the groups stand in these slots
+-- the latencies of a graph's streams, where the groups are in these slots
 pub record AreBorderLatencies (g : Graph) (d : Device) (slots lat : List ℕ) : Type 0 where
   pub long : length lat ≡ streams g
   pub value : (e : ℕ) → e < streams g → slice_index lat e ≡ border_latency d (slice_index slots (tail g e)) (slice_index slots (head g e))

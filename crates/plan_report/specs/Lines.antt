@@ -1,4 +1,4 @@
--- The lines of a plan: each slot with what stands in it, each task with its slot, each stream with its registers, and the sums.
+-- The lines of a plan: each slot with what is in it, each task with its slot, each stream with its registers, and the sums.
 use Rattle.std.specs.Prelude.{ℕ, zero, suc, ◌+◌, ◌-◌, ◌/◌, ◌%◌, List, [], ◌∷◌, ◌++◌, codes, decimal, length, map, slice_index, slice_index_or, slice_get, unwrap_or, option_map, Vec}
 use Rattle.std.specs.declared.alloc.Global.{Global}
 use Rattle.task_graph.specs.declared.Edge.{Edge}
@@ -53,7 +53,8 @@ task_line g cols slots i =
 -- its part of the flow that shows the balance to be best
 abbrev pub stream_line : Graph → List ℕ → Balance → ℕ → List ℕ
 stream_line g lat b e =
-    codes "stream " ++ (unwrap_or (option_map (λ (x : Edge). x.label) (slice_get g.edges.items e)) [] ++ (codes ": width " ++ (decimal (width g e) ++ (codes " latency " ++ (decimal (slice_index lat e)
+    codes "stream " ++ (unwrap_or (option_map (λ (x : Edge). x.label) (slice_get g.edges.items e)) [] ++ (codes ": width " ++ (decimal (width g e)
+    ++ (codes " latency " ++ (decimal (slice_index lat e)
     ++ (codes " balance " ++ (decimal (balance_of g lat b.s.items e) ++ (codes " flow " ++ (decimal (slice_index b.flow.items e) ++ codes "\n")))))))))
 
 -- a word and a number

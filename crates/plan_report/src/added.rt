@@ -28,7 +28,7 @@ fn sums_of(alloc: Global, border: &[u32], balance: &[u32]) -> Result<Vec<u32>, A
 }
 
 /// The latency that is added to each stream in cycles: that of its borders and, where the streams are balanced, that of a
-/// balance which makes all ways between two tasks equally late and takes the fewest registers of all that do so.
+/// balance which gives all paths between two tasks one latency and takes the fewest registers of all that do so.
 pub fn added_latencies(
     alloc: Global,
     graph: &Graph,

@@ -1,4 +1,4 @@
-// The registers that a stream's wires take on their way over the borders of a device's slots.
+// The registers on a stream's wires over the borders of a device's slots.
 
 ghost use Rattle.std.specs.Prelude.{◌≡◌, ◌<◌, ◌≤◌, ◌*◌, ℕ, length, slice_index, IfOk};
 ghost use Rattle.task_graph.specs.Arcs.{streams};
@@ -52,7 +52,7 @@ fn slot_of(plan: &Plan, group: usize) -> u32
 }
 
 /// The latency of each stream in cycles: the levels of the row borders and of the column borders between the slots of its
-/// two ends. It is 0 where both ends stand in one slot.
+/// two ends. It is 0 where both ends are in one slot.
 pub fn latencies(
     alloc: Global,
     graph: &Graph,

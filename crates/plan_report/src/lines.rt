@@ -8,7 +8,7 @@ use latency_balance::Balance;
 use std::alloc::{AllocError, Global};
 use task_graph::{Graph, Use};
 
-// What the groups of a slot use, and its place.
+// What the groups of a slot use, and its row and column.
 fn use_text(alloc: Global, row: usize, col: usize, amounts: Use) -> Result<Vec<u8>, AllocError>
     ensures { IfOk result (λ line. line.items ≡ use_line row col amounts) }
 {

@@ -25,12 +25,12 @@ pub record IsFirstFault (text : List ℕ) (shape : Shape) (fault : Fault) : Type
   pub first : first (faults shape file) ≡ Some fault
 
 -- what a refusal says; want of memory says nothing
-abbrev pub IsCause : List ℕ → Shape → DataFault → Type 0
-IsCause text shape J1 = (file : Json) → IsJson text file → ⊥
-IsCause text shape (J2 key) = IsFirstFault text shape (Misshapen key.items)
-IsCause text shape (J3 key) = IsFirstFault text shape (Misfit key.items)
-IsCause text shape (J4 key) = IsFirstFault text shape (Oversized key.items)
-IsCause text shape OutOfMemory = ⊤
+abbrev pub IsDataCause : List ℕ → Shape → DataFault → Type 0
+IsDataCause text shape J1 = (file : Json) → IsJson text file → ⊥
+IsDataCause text shape (J2 key) = IsFirstFault text shape (Misshapen key.items)
+IsDataCause text shape (J3 key) = IsFirstFault text shape (Misfit key.items)
+IsDataCause text shape (J4 key) = IsFirstFault text shape (Oversized key.items)
+IsDataCause text shape OutOfMemory = ⊤
 
 -- how many bits each input has
 abbrev pub bits_of_ports : List Port → List ℕ

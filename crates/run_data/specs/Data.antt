@@ -1,5 +1,5 @@
 -- A data file: a JSON object (RFC 8259) whose groups `scalars`, `memories` and `waits` give the inputs that a design asks
--- for. Here are its faults, in the order in which they are told, and what a file without faults gives. A text's JSON
+-- for. Here are its faults, in the order in which they are reported, and what a file without faults gives. A text's JSON
 -- value, its numbers and an object's members, each key once and in the order of its bytes, are those of `serde_json`.
 use Rattle.std.specs.Prelude.{◌≡◌, ℕ, ◌+◌, ◌-◌, ◌^◌, ◌==◌, ℤ, pos, negsuc, List, [], ◌∷◌, ◌++◌, map, filter, length, codes, Bool, true, false, not, ◌&&◌, nat_lt}
 use Rattle.std.specs.Prelude.{if◌then◌else◌, Option, Some, None, is_some, option_map, option_and_then, unwrap_or, bytes_eq, IsUtf8}
@@ -28,7 +28,7 @@ is_within bits (negsuc n) = nat_lt 1 bits && nat_lt n (2 ^ (bits - 1))
 abbrev pub bits_of_whole : ℕ → ℤ → Option ℕ
 bits_of_whole bits z = if is_within bits z then Some (residue (2 ^ bits) z) else None
 
--- the bits of a number, if it is whole and one of so many bits
+-- the bits of a number, if it is whole and fits this number of bits
 abbrev pub bits_of : ℕ → Json → Option ℕ
 bits_of bits json = option_and_then (bits_of_whole bits) (option_and_then as_integer (as_number json))
 
@@ -84,7 +84,7 @@ ports_of Scalars shape = shape.scalars.items
 ports_of Memories shape = shape.memories.items
 ports_of Waits shape = shape.memories.items
 
--- a scalar is a number, a memory a list of numbers, and the waits of a memory a list of numbers that may be absent
+-- a scalar is a number, a memory a list of numbers, and the waits of a memory an optional list of numbers
 abbrev pub is_shaped : Group → Option Json → Bool
 is_shaped Scalars found = is_there_and is_number found
 is_shaped Memories found = is_there_and is_list_of_numbers found
@@ -177,7 +177,7 @@ pub data Fault : Type 0 where
   Misfit : List ℕ → Fault
   Oversized : List ℕ → Fault
 
--- all faults of a file, in the order in which they are told
+-- all faults of a file, in the order in which they are reported
 unfoldable pub faults : Shape → Json → List Fault
 faults shape file = map Misshapen (misshapen shape file) ++ (map Misfit (misfits shape file) ++ map Oversized (oversized shape file))
 

@@ -35,7 +35,7 @@ last_line (Done n) = codes "done " ++ (decimal n ++ 10 ∷ [])
 last_line (Stopped n) = codes "stopped " ++ (decimal n ++ 10 ∷ [])
 last_line (Running n) = codes "running " ++ (decimal n ++ 10 ∷ [])
 
--- no end of line (LF) stands in a text
+-- a text has no end of line (LF)
 abbrev pub HasNoLf : List ℕ → Type 0
 HasNoLf text = All (λ b. b ≢ 10) text
 

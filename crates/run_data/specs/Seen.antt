@@ -1,4 +1,4 @@
--- What the code's references to JSON values stand for, the first of a list, and the names in a table.
+-- What the code's references to JSON values denote, the first of a list, and the names in a table.
 use Rattle.std.specs.Prelude.{ℕ, List, [], ◌∷◌, Bool, Option, Some, None, is_some, option_map, String}
 use Rattle.std.specs.HashMap.{HashMap, get_by_text}
 use Rattle.std.specs.Borrow.{Bor}

@@ -1,9 +1,10 @@
+// Reads a data file: gives the scalars, the first cells of memories and the cycles in which they are ready, or the first fault.
 ghost use Rattle.std.specs.Prelude.{◌≡◌, ◌≤◌, All, map, length, IfOk, IfErr};
 ghost use Rattle.serde_json.specs.View.{view};
 ghost use Rattle.tapa_base.specs.declared.shape.Shape.{Shape};
 ghost use Rattle.tapa_base.specs.Fits.{Fits};
 ghost use Rattle.run_data.specs.Data.{IsJson};
-ghost use Rattle.run_data.specs.Answer.{IsDataOf, IsCause, bits_of_ports};
+ghost use Rattle.run_data.specs.Answer.{IsDataOf, IsDataCause, bits_of_ports};
 
 use crate::misfit::find_misfit;
 use crate::misshapen::find_misshapen;
@@ -49,14 +50,15 @@ impl From<AllocError> for DataFault {
 }
 
 /// Reads a data file for the inputs of a shape, whose widths are at most 64 bits. A file without a fault gives the data;
-/// else the first of its faults is told, all of J2 before all of J3, and those before all of J4.
+/// else the first of its faults is reported, all of J2 before all of J3, and those before all of J4.
 pub fn read_data(alloc: Global, text: &[u8], shape: &Shape) -> Result<Data, DataFault>
     requires scalars { All (λ port. port.bits ≤ 64) shape.now.scalars.items }
     requires memories { All (λ port. port.bits ≤ 64) shape.now.memories.items }
     ensures value { IfOk result (λ given. IsDataOf text.now shape.now given) }
-    ensures fits { IfOk result (λ given. Fits (bits_of_ports shape.now.scalars.items) (bits_of_ports shape.now.memories.items) given.scalars.items (map (λ cells. cells.items) given.memories.items)) }
+    ensures fits { IfOk result (λ given. Fits (bits_of_ports shape.now.scalars.items) (bits_of_ports shape.now.memories.items) given.scalars.items
+        (map (λ cells. cells.items) given.memories.items)) }
     ensures waits { IfOk result (λ given. length given.waits.items ≡ length shape.now.memories.items) }
-    ensures cause { IfErr result (λ fault. IsCause text.now shape.now fault) }
+    ensures cause { IfErr result (λ fault. IsDataCause text.now shape.now fault) }
 {
     let file = read_json(alloc, text)?;
     if let Some(key) = find_misshapen(alloc, &file, shape)? {
@@ -75,7 +77,7 @@ pub fn read_data(alloc: Global, text: &[u8], shape: &Shape) -> Result<Data, Data
 // The value of a text.
 fn read_json(alloc: Global, text: &[u8]) -> Result<Value, DataFault>
     ensures value { IfOk result (λ file. IsJson text.now (view file)) }
-    ensures cause { IfErr result (λ fault. (shape : Shape) → IsCause text.now shape fault) }
+    ensures cause { IfErr result (λ fault. (shape : Shape) → IsDataCause text.now shape fault) }
 {
     match Value::from_slice(alloc, text) {
         Ok(file) => Ok(file),

@@ -1,3 +1,4 @@
+// What a data file has at a group, and the bits of a whole number in two's complement.
 ghost use Rattle.std.specs.Prelude.{◌≡◌, ◌≤◌, ◌^◌, map, IsAscii};
 ghost use Rattle.serde_json.specs.Find.{get_member};
 ghost use Rattle.serde_json.specs.View.{view};
@@ -15,7 +16,7 @@ pub(crate) fn group_in<'v>(group: Group, file: &'v Value) -> Option<&'v Value>
     file.get(group.key())
 }
 
-// The bits of a number, if it is whole and one of so many bits.
+// The bits of a number, if it is whole and fits this number of bits.
 pub(crate) fn bits_of(bits: u32, value: &Value) -> Option<u64>
     requires { bits ≤ 64 }
     ensures { result ≡ bits_of bits (view value.now) }
@@ -25,7 +26,7 @@ pub(crate) fn bits_of(bits: u32, value: &Value) -> Option<u64>
     bits_of_whole(bits, whole)
 }
 
-// How many numbers have so many bits.
+// The number of values of this number of bits.
 fn numbers_of(bits: u32) -> u128
     requires { bits ≤ 64 }
     ensures value { result ≡ 2 ^ bits }
@@ -34,7 +35,7 @@ fn numbers_of(bits: u32) -> u128
     1 << bits
 }
 
-// The bits of a whole number, modulo 2 to their count, if it is one of so many bits.
+// The bits of a whole number in two's complement, if it fits this number of bits.
 fn bits_of_whole(bits: u32, whole: i128) -> Option<u64>
     requires { bits ≤ 64 }
     ensures { result ≡ bits_of_whole bits whole }

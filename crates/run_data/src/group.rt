@@ -1,3 +1,4 @@
+// The groups of a data file (scalars, memories, waits): their keys, and the inputs that each has members for.
 ghost use Rattle.std.specs.Prelude.{◌≡◌, IfOk};
 ghost use Rattle.run_data.specs.Data.{group_key, ports_of, key_in};
 

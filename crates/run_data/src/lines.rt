@@ -1,3 +1,4 @@
+// The lines of a report: the tokens of a stream, the cells of a memory, and how the run or simulation ended.
 ghost use Rattle.std.specs.Prelude.{◌≡◌, ◌+◌, ◌<◌, ◌≤◌, ◌∷◌, ◌++◌, length, drop, codes, IfOk, OnOk, OnErr, IsErrOf};
 ghost use Rattle.std.specs.Io.KnownBytes.{Appends};
 ghost use Rattle.tapa_files.specs.Outside.{AppendsPart, Rose};
@@ -38,7 +39,7 @@ const TOGETHER: usize = 64;
 
 const ROOM: usize = 1344;
 
-// A byte before others in a buffer, and where it stands.
+// Writes a byte before index `end` of a buffer, and returns its index.
 #[inline(always)]
 fn write_byte(buffer: &mut [u8; ROOM], byte: u8, end: usize) -> usize
     requires some { 0 < end }
@@ -51,7 +52,7 @@ fn write_byte(buffer: &mut [u8; ROOM], byte: u8, end: usize) -> usize
     start
 }
 
-// A space and a number before what stands in a buffer, and where they start.
+// Writes a space and a number before index `end` of a buffer, and returns the index of the space.
 #[inline(always)]
 fn write_number(buffer: &mut [u8; ROOM], number: u64, end: usize) -> usize
     requires some { 21 ≤ end }
@@ -64,7 +65,7 @@ fn write_number(buffer: &mut [u8; ROOM], number: u64, end: usize) -> usize
     write_byte(buffer, b' ', digits)
 }
 
-// A space and the word for an end of transaction before what stands in a buffer, and where they start.
+// Writes a space and the word for an end of transaction before index `end` of a buffer, and returns the index of the space.
 #[inline(always)]
 fn write_eot(buffer: &mut [u8; ROOM], end: usize) -> usize
     requires some { 4 ≤ end }
@@ -78,7 +79,7 @@ fn write_eot(buffer: &mut [u8; ROOM], end: usize) -> usize
     write_byte(buffer, b' ', first)
 }
 
-// A space and a token before what stands in a buffer, and where they start.
+// Writes a space and a token before index `end` of a buffer, and returns the index of the space.
 #[inline(always)]
 fn write_token(buffer: &mut [u8; ROOM], token: Token, end: usize) -> usize
     requires some { 21 ≤ end }
@@ -132,7 +133,7 @@ fn push_numbers(line: &mut Vec<u8>, numbers: &[u64]) -> Result<(), AllocError>
     Ok(())
 }
 
-// The front of a line: a word, a name and a colon.
+// The prefix of a line: a word, a name and a colon.
 fn line_front(alloc: Global, word: &[u8], name: &[u8]) -> Result<Vec<u8>, AllocError>
     ensures { IfOk result (λ line. line.items ≡ word.now ++ (name.now ++ codes ":")) }
 {
@@ -188,8 +189,8 @@ fn last_text(alloc: Global, last: Last) -> Result<Vec<u8>, AllocError>
     last_bytes(alloc, last)
 }
 
-/// Writes the line of a stream: its label and the tokens that it carried. After an error the sink holds what it held and
-/// a front part of the line.
+/// Writes the line of a stream: its label and the tokens that it carried. After an error the sink has the bytes that it had
+/// before and a prefix of the line.
 pub fn report_stream<O: Sink>(
     alloc: Global,
     label: &[u8],
@@ -206,8 +207,8 @@ pub fn report_stream<O: Sink>(
     Ok(())
 }
 
-/// Writes the line of a memory: its name and its cells. After an error the sink holds what it held and a front part of
-/// the line.
+/// Writes the line of a memory: its name and its cells. After an error the sink has the bytes that it had before and a
+/// prefix of the line.
 pub fn report_memory<O: Sink>(
     alloc: Global,
     name: &[u8],
@@ -224,7 +225,7 @@ pub fn report_memory<O: Sink>(
     Ok(())
 }
 
-/// Writes the last line of a report. After an error the sink holds what it held and a front part of the line.
+/// Writes the last line of a report. After an error the sink has the bytes that it had before and a prefix of the line.
 pub fn report_last<O: Sink>(alloc: Global, last: Last, out: &mut O) -> Result<(), PrintFault>
     ensures whole { OnOk result (Appends (O.contents out.old) (O.contents out.new) (last_line last)) }
     ensures part { OnErr result (AppendsPart (O.contents out.old) (O.contents out.new) (last_line last)) }

@@ -1,3 +1,4 @@
+// The first number in a data file that is not whole or does not fit the bits of its input.
 ghost use Rattle.std.specs.Prelude.{◌≡◌, ◌≤◌, map, option_map, IfOk, All};
 ghost use Rattle.std.specs.List.{list_all};
 ghost use Rattle.serde_json.specs.View.{view};
@@ -11,7 +12,7 @@ use serde_json::Value;
 use std::alloc::{AllocError, Global};
 use tapa_base::{Port, Shape};
 
-// Whether each is a whole number of so many bits.
+// Whether each is a whole number that fits this number of bits.
 fn have_bits(bits: u32, values: &[Value]) -> bool
     requires { bits ≤ 64 }
     ensures { result ≡ list_all (has_bits bits) (map view values.now) }

@@ -1,3 +1,4 @@
+// The first fault of shape in a data file: no object, an input that is missing or has another shape, or an unknown key.
 ghost use Rattle.std.specs.Prelude.{◌≡◌, ℕ, List, filter, not, option_map, IfOk};
 ghost use Rattle.std.specs.List.{list_all, list_any};
 ghost use Rattle.std.specs.Option.{option_copied};
@@ -52,7 +53,7 @@ fn find_misshapen_port<'s>(
     None
 }
 
-// The names of inputs, among which a key is found without a walk over all of them.
+// The names of inputs, as a table in which a key is looked up without a walk over all of them.
 fn names_of(alloc: Global, ports: &[Port]) -> Result<HashMap<String, ()>, AllocError>
     ensures { IfOk result (λ names. (name : List ℕ) → has_name names name ≡ list_any (is_name_of name) ports.now) }
 {

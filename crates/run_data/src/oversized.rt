@@ -1,3 +1,4 @@
+// The first memory in a data file that has more cells than the limits allow, of its own or with those before it.
 ghost use Rattle.std.specs.Prelude.{◌≡◌, filter, option_map, nat_lt, IfOk};
 ghost use Rattle.std.specs.Option.{option_copied};
 ghost use Rattle.serde_json.specs.View.{view};

@@ -1,3 +1,4 @@
+// The data that a data file gives the inputs of a shape: scalars, first cells of memories, and the cycles in which they are ready.
 ghost use Rattle.std.specs.Prelude.{◌≡◌, ◌≤◌, map, IfOk, All};
 ghost use Rattle.serde_json.specs.View.{view};
 ghost use Rattle.run_data.specs.Data.{bits_or_zero, is_ready, scalars_of, memories_of, waits_of};

@@ -19,10 +19,10 @@ EndsSo program values limit old new Limit = LimitRun program values limit × (ne
 abbrev pub IsReportOf : Program → Values → ℕ → List ℕ → Type 0
 IsReportOf program values limit report = DoneRun program values limit report ⊎ ((lines : List (List ℕ)) × StoppedRun program values limit report lines)
 
--- a front part of a report was written, or of one nothing yet
+-- a prefix of a report was written, which may be empty
 abbrev pub HasFront : Program → Values → ℕ → Option (List ℕ) → Option (List ℕ) → Type 0
 HasFront program values limit old new = (report : List ℕ) × IsReportOf program values limit report × AppendsPart old new report
 
--- nothing was written, or a front part of a report
+-- nothing was written, or a prefix of a report
 abbrev pub HasPart : Program → Values → ℕ → Option (List ℕ) → Option (List ℕ) → Type 0
 HasPart program values limit old new = (new ≡ old) ⊎ HasFront program values limit old new

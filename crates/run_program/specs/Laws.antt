@@ -1,4 +1,4 @@
--- Programs run in one way, wherever they lie in memory.
+-- Programs run in one way, wherever they are in memory.
 use Rattle.std.specs.Prelude.{◌≡◌, ℕ, List}
 use Rattle.tapa_syntax.specs.declared.program.Program.{Program}
 use Rattle.tapa_syntax.specs.Flat.{flat_program}
@@ -6,8 +6,8 @@ use Rattle.tapa_syntax.specs.WellFormed.{IsWellFormed}
 use Rattle.run_program.specs.Run.{DoneRun, StoppedRun, LimitRun}
 use Rattle.net_core.specs.Bounded.{Values}
 
--- how a run goes: its joined instances end, with this report; it stops with this report, where each line tells what an
--- instance waits for; or they make more ticks than they may, or never end
+-- how a run goes: its instances that are waited for end, with this report; it stops with this report and a line for each instance
+-- that has not ended, which says what it waits for; or they make more ticks than they may, or never end
 pub data RunMeaning : Type 0 where
   Done : (report : List ℕ) → RunMeaning
   Stopped : (report : List ℕ) (lines : List (List ℕ)) → RunMeaning

@@ -24,7 +24,7 @@ use Rattle.run_data.specs.declared.lines.Last.TheVariants.{Done, Stopped, Runnin
 abbrev pub network : Program → Values → Network
 network program values = network_of program values.scalars values.memories
 
--- the ticks of the joined instances
+-- the ticks of the instances that are waited for
 abbrev pub ticks_of : Program → Values → (ℕ → ℕ) → ℕ
 ticks_of program values k = joined_ticks (network program values) k
 
@@ -35,7 +35,7 @@ IsNotBound bound m = (p : ℕ) → slice_get bound p ≡ Some m → ⊥
 -- ---- the report
 
 -- what a report with this last line shows of stream s: what was written where the run stopped; where it is done, what was
--- written by a producer that is joined, else what was taken by a consumer that is, else nothing
+-- written by a producer that is waited for, else what was taken by a consumer that is, else nothing
 abbrev pub tokens_at : Network → (ℕ → ℕ) → Last → ℕ → List Token
 tokens_at net k (Done t) s = outcome.shown net k s
 tokens_at net k (Stopped t) s = written net k s
@@ -102,23 +102,25 @@ AreWaitLines net k streams i (x ∷ rest) lines =
 
 -- ---- how a run ends
 
--- every joined instance ends, after at most so many ticks of them all; the report shows of each stream a front of its Kahn
--- stream, all of it where its producer is joined, and the last cells of each memory
+-- every instance that is waited for ends, after at most `limit` ticks of them all; the report shows of each stream a prefix of its
+-- Kahn stream, all of it where its producer is waited for, and the last cells of each memory
 pub record DoneRun (program : Program) (values : Values) (limit : ℕ) (report : List ℕ) : Type 0 where
   pub count : ℕ → ℕ
   pub done : IsDone (network program values) limit count
   pub front : (s : ℕ) → s < length program.streams.items → IsKahnPrefix (network program values) s (outcome.shown (network program values) count s)
-  pub whole : (s : ℕ) → s < length program.streams.items → IsJoined (network program values) ((network program values).producer s) → IsKahnStream (network program values) s (outcome.shown (network program values) count s)
+  pub whole :
+      (s : ℕ) → s < length program.streams.items → IsJoined (network program values) ((network program values).producer s)
+      → IsKahnStream (network program values) s (outcome.shown (network program values) count s)
   pub shown : report ≡ report_of program values count (Done (ticks_of program values count))
 
--- no step is allowed and some joined instance has not ended, after at most so many ticks of them all; the report shows what
--- was written, and the lines tell what each instance that has not ended waits for
+-- no step is allowed and some instance that is waited for has not ended, after at most `limit` ticks of them all; the report shows
+-- what was written, and the lines say what each instance that has not ended waits for
 pub record StoppedRun (program : Program) (values : Values) (limit : ℕ) (report : List ℕ) (lines : List (List ℕ)) : Type 0 where
   pub count : ℕ → ℕ
   pub stopped : IsStopped (network program values) limit count
   pub shown : report ≡ report_of program values count (Stopped (ticks_of program values count))
   pub waits : AreWaitLines (network program values) count program.streams.items 0 program.instances.items lines
 
--- the run does neither where no instance makes more than so many ticks: the joined instances make more in all, or never end
+-- neither done nor stopped where no instance makes more than `limit` ticks: those waited for make more in all, or never end
 abbrev pub LimitRun : Program → Values → ℕ → Type 0
 LimitRun program values limit = GoesPast (network program values) limit

@@ -15,8 +15,9 @@ use Rattle.coro_machine.specs.Coro.{IsMachineOf, IsCoroOf}
 -- each of the first m is the machine of its leaf
 abbrev pub AreLowered : Program → ℕ → List (Arc Machine Global) → Type 0
 AreLowered program m machines =
-    (b : ℕ) (leaf : Leaf) (machine : Arc Machine Global) → b < m → slice_get program.bodies.items b ≡ Some leaf → slice_get machines b ≡ Some machine → IsLeaf leaf → IsMachineOf leaf (arc_value machine)
+    (b : ℕ) (leaf : Leaf) (machine : Arc Machine Global) → b < m → slice_get program.bodies.items b ≡ Some leaf → slice_get machines b ≡ Some machine
+    → IsLeaf leaf → IsMachineOf leaf (arc_value machine)
 
--- each of the first m stands for the job of its instance, before its first tick
+-- each of the first m coroutines denotes the job of its instance, before its first tick
 abbrev pub AreStarted : Program → Input → ℕ → List Coro → Type 0
 AreStarted program input m all = (i : ℕ) (c : Coro) → i < m → slice_get all i ≡ Some c → IsCoroOf c (instance_job program input i) []

@@ -26,21 +26,23 @@ abbrev pub sum_below : ℕ → (ℕ → List Token) → ℕ
 sum_below zero tokens = 0
 sum_below (suc n) tokens = sum_below n tokens + sum_by datum_of (tokens n)
 
--- the totals of n streams that have these tokens, and of so many ticks
+-- the totals of n streams that have these tokens, and of this number of ticks
 pub record AreCarried (tokens : ℕ → List Token) (n ticks : ℕ) (t : Totals) : Type 0 where
   pub ticks_are : t.ticks ≡ ticks
   pub tokens_are : t.tokens ≡ tokens_below n tokens
   pub sum_is : t.sum ≡ sum_below n tokens % 2 ^ 64
 
--- every joined instance ends, after at most so many ticks of them all. The totals are of those ticks, and of what is shown of each stream:
--- its whole Kahn stream where its producer is joined
+-- every instance that is waited for ends, after at most `limit` ticks of them all. The totals are of those ticks, and of what is shown
+-- of each stream: its whole Kahn stream where its producer is waited for
 pub record IsTotalled (program : Program) (values : Values) (limit : ℕ) (t : Totals) : Type 0 where
   pub count : ℕ → ℕ
   pub done : IsDone (network program values) limit count
-  pub whole : (s : ℕ) → s < length program.streams.items → IsJoined (network program values) ((network program values).producer s) → IsKahnStream (network program values) s (shown (network program values) count s)
+  pub whole :
+      (s : ℕ) → s < length program.streams.items → IsJoined (network program values) ((network program values).producer s)
+      → IsKahnStream (network program values) s (shown (network program values) count s)
   pub carried : AreCarried (shown (network program values) count) (length program.streams.items) (ticks_of program values count) t
 
--- how the run ended: with these totals, with lines that tell what an instance waits for, or past its limit
+-- how the run ended: with these totals, with lines that say what an instance waits for, or past its limit
 abbrev pub TotalsEndSo : Program → Values → ℕ → TotalsEnd → Type 0
 TotalsEndSo program values limit (Done totals) = IsTotalled program values limit totals
 TotalsEndSo program values limit (Stopped lines) = (report : List ℕ) × StoppedRun program values limit report (lines_in lines.items)

@@ -25,11 +25,11 @@ use tapa_syntax::Program;
 /// How a run ended.
 #[derive(Drop)]
 pub enum RunEnd {
-    /// Every joined instance has ended, and the report is written.
+    /// Every instance that is waited for has ended, and the report is written.
     Done,
-    /// Nothing may step; the report is written, and each line tells what an instance waits for.
+    /// Nothing may step; the report is written, and each line says what an instance waits for.
     Stopped { lines: Vec<Vec<u8>> },
-    /// The joined instances make more ticks than the limit, or never end; nothing is written.
+    /// The instances that are waited for make more ticks than the limit, or never end; nothing is written.
     Limit,
 }
 
@@ -81,9 +81,9 @@ fn drive<R: Threads + Wait + Sync, G: Gate, O: Sink>(
     }
 }
 
-/// Runs a program on an input at its declared depths, by the workers of a crew, and writes the report: what each stream carried, the last
-/// cells of each memory, and the ticks of the joined instances. All joined instances together make at most `limit` ticks, and
-/// each detached one as many of its own. After an error the output holds what it held and a front part of the report; a
+/// Runs a program on an input at its declared depths, by the workers of a crew, and writes the report: what each stream carried, the
+/// last cells of each memory, and the ticks of the instances that are waited for. These together make at most `limit` ticks, and each
+/// detached one at most `limit` of its own. After an error the output has the bytes that it had before and a prefix of the report; a
 /// write fails only where there is a report.
 pub fn run_program<R: Threads + Wait + Sync, G: Gate, O: Sink>(
     crew: &Crew<'_, R, G>,

@@ -63,7 +63,8 @@ fn show_memories<O: Sink>(
     requires input { input.now ≡ net.now.input }
     requires few { length program.now.instances.items ≤ 512 }
     ensures whole { OnOk result (Appends (O.contents out.old) (O.contents out.new) (memory_lines (cells_shown program.now (values_of input.now) (count net.now) last) 0 program.now.memories.items)) }
-    ensures part { OnErr result (AppendsPart (O.contents out.old) (O.contents out.new) (memory_lines (cells_shown program.now (values_of input.now) (count net.now) last) 0 program.now.memories.items)) }
+    ensures part { OnErr result (AppendsPart (O.contents out.old) (O.contents out.new)
+        (memory_lines (cells_shown program.now (values_of input.now) (count net.now) last) 0 program.now.memories.items)) }
     ensures later { O.faults out.old ≤ O.faults out.new }
     ensures fault { IsErrOf result PrintFault.WriteFault → Rose (O.faults out.old) (O.faults out.new) }
 {

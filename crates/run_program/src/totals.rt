@@ -20,8 +20,8 @@ use std::thread::Threads;
 use tapa_base::{OutOfMemory, Token};
 use tapa_syntax::Program;
 
-/// The ticks of a run's joined instances, and how many tokens its streams carried, with their sum modulo 2^64. The end of a
-/// transaction adds nothing to the sum.
+/// The ticks of a run's instances that are waited for, and how many tokens its streams carried, with their sum modulo 2^64. The end of
+/// a transaction adds nothing to the sum.
 #[derive(Clone, Copy, Debug, PartialEq, Eq)]
 pub struct Totals {
     pub ticks: u64,
@@ -32,11 +32,11 @@ pub struct Totals {
 /// How a run ended.
 #[derive(Drop)]
 pub enum TotalsEnd {
-    /// Every joined instance has ended.
+    /// Every instance that is waited for has ended.
     Done { totals: Totals },
-    /// Nothing may step; each line tells what an instance waits for.
+    /// Nothing may step; each line says what an instance waits for.
     Stopped { lines: Vec<Vec<u8>> },
-    /// The joined instances make more ticks than the limit, or never end.
+    /// The instances that are waited for make more ticks than the limit, or never end.
     Limit,
 }
 
@@ -107,8 +107,8 @@ fn drive<R: Threads + Wait + Sync, G: Gate>(
     }
 }
 
-/// Runs a program on an input at its declared depths, by the workers of a crew, and tells what it made and carried in all. All
-/// joined instances together make at most `limit` ticks, and each detached one as many of its own.
+/// Runs a program on an input at its declared depths, by the workers of a crew, and returns its totals. The instances that are waited
+/// for together make at most `limit` ticks, and each detached one at most `limit` of its own.
 pub fn run_totals<R: Threads + Wait + Sync, G: Gate>(
     crew: &Crew<'_, R, G>,
     alloc: Global,

@@ -36,7 +36,7 @@ use Rattle.sim_flat.specs.declared.flat.Flat.{Flat}
 use Rattle.sim_flat.specs.Flat.{IsFlat, HasNumber}
 use Rattle.sim_flat.proofs.Standing.{top_low, top_is}
 use Rattle.sim_flat.proofs.Linked.{input_port_is}
-use Rattle.sim_design.specs.States.{IsTold, PartsPlaced}
+use Rattle.sim_design.specs.States.{HasNumbersOf, PartsPlaced}
 use Rattle.sim_design.specs.Lines.{IsLabelAt}
 use Rattle.sim_design.proofs.Parts.{numbered, declared_here}
 
@@ -82,7 +82,7 @@ module _ (ms : List ModuleTree) (top : ModuleTree) (f : Flat) (flat : IsFlat ms 
       → (asked : Pair) → get_or pairs q.0 None ≡ Some asked → (t : TapeTree) → IsTape t → (cell memory : ℕ)
       → ((cells : Cells) (ns : List ℕ) → IsSolved t cells ns → number_at ns cell ≡ cell_in cells (number_at ns memory) (number_at ns asked.low))
       → ((cells : Cells) (ns : List ℕ) → IsSolved t cells ns → number_at ns memory ≡ i)
-      → IsTold ms top f memories pairs t ([], m_rdata l) (record { low = cell; high = 0 })
+      → HasNumbersOf ms top f memories pairs t ([], m_rdata l) (record { low = cell; high = 0 })
   answer_told pairs memories labels i are at q place asked got t tape cell memory says is cells ns c solved v shows_cells shows =
       let low = top_low ms top f flat in
       let here = top_is ms top f flat in

@@ -13,7 +13,7 @@ use Rattle.sim_flat.specs.declared.flat.Flat.{Flat}
 use Rattle.sim_flat.specs.Flat.{IsFlat}
 use Rattle.sim_design.specs.declared.plan.Plan.{Plan}
 use Rattle.sim_design.specs.Plans.{IsPlan}
-use Rattle.sim_design.specs.States.{AreMemories as OnlyMemories, MemoriesPlaced, Tells}
+use Rattle.sim_design.specs.States.{AreMemories as OnlyMemories, MemoriesPlaced, TellsNumbers}
 use Rattle.sim_design.specs.Given.{IsGivenPair, ArePlaced, AreGiven}
 use Rattle.sim_design.proofs.Giving.{slot_given_on}
 use Rattle.sim_design.specs.declared.drafts.Width.{Width}
@@ -32,7 +32,7 @@ given_on ms top f pairs s t g h = record {
 }
 
 -- what a tape tells is told by all that it grows to
-pub tells_on : (ms : List ModuleTree) (top : ModuleTree) (f : Flat) (pairs memories : List (Option Pair)) (s t : TapeTree) → Extends s t → Tells ms top f pairs memories s → Tells ms top f pairs memories t
+pub tells_on : (ms : List ModuleTree) (top : ModuleTree) (f : Flat) (pairs memories : List (Option Pair)) (s t : TapeTree) → Extends s t → TellsNumbers ms top f pairs memories s → TellsNumbers ms top f pairs memories t
 tells_on ms top f pairs memories s t g h cells ns c solved v shows free = h cells ns c (solved_on s t g cells ns solved) v shows free
 
 -- all memories have numbers
@@ -54,7 +54,7 @@ is_plan ms top p numbers widths flat modules outside same own = record {
 }
 
 -- a draft over the places that its nets have had before
-pub draft_from : (ms : List ModuleTree) (top : ModuleTree) (f : Flat) (old new : TapeDraft) → HasPlaces ms top f old.pairs.items old.memories.items old.cells.items (tree_of old.tape) → Tells ms top f old.pairs.items old.memories.items (tree_of old.tape)
+pub draft_from : (ms : List ModuleTree) (top : ModuleTree) (f : Flat) (old new : TapeDraft) → HasPlaces ms top f old.pairs.items old.memories.items old.cells.items (tree_of old.tape) → TellsNumbers ms top f old.pairs.items old.memories.items (tree_of old.tape)
     → Extends (tree_of old.tape) (tree_of new.tape) → new.pairs.items ≡ old.pairs.items → new.memories.items ≡ old.memories.items → new.cells.items ≡ old.cells.items
     → AreNext ms top f old.pairs.items old.memories.items (tree_of new.tape) new.commits.items new.stores.items → IsDraft ms top f new
 draft_from ms top f old new places tells g i j k next =
@@ -65,6 +65,6 @@ draft_from ms top f old new places tells g i j k next =
       placed = subst (λ l. ArePlaced ms top f l) (sym i) places.placed;
       given = subst (λ l. AreGiven ms top f l t) (sym i) (given_on ms top f old.pairs.items (tree_of old.tape) t g places.given);
       numbered = subst (λ l. AreMemories ms top f l new.cells.items) (sym j) (subst (λ l. AreMemories ms top f old.memories.items l) (sym k) places.numbered);
-      tells = subst (λ l. Tells ms top f l new.memories.items t) (sym i) (subst (λ l. Tells ms top f old.pairs.items l t) (sym j) (tells_on ms top f old.pairs.items old.memories.items (tree_of old.tape) t g tells));
+      tells = subst (λ l. TellsNumbers ms top f l new.memories.items t) (sym i) (subst (λ l. TellsNumbers ms top f old.pairs.items l t) (sym j) (tells_on ms top f old.pairs.items old.memories.items (tree_of old.tape) t g tells));
       next = subst (λ l. AreNext ms top f l new.memories.items t new.commits.items new.stores.items) (sym i) (subst (λ l. AreNext ms top f old.pairs.items l t new.commits.items new.stores.items) (sym j) next);
     }

@@ -29,7 +29,7 @@ use Rattle.sim_flat.specs.declared.flat.Flat.{Flat}
 use Rattle.sim_flat.specs.Flat.{IsFlat}
 use Rattle.sim_flat.proofs.Standing.{module_of}
 use Rattle.sim_design.specs.Valuations.{IsLawful}
-use Rattle.sim_design.specs.States.{AreRead, AreMemories, MemoriesPlaced, PartsPlaced, IsTold}
+use Rattle.sim_design.specs.States.{AreRead, AreMemories, MemoriesPlaced, PartsPlaced, HasNumbersOf}
 use Rattle.sim_design.proofs.Parts.{base, part, there, shows_nets, shows_memories}
 
 driven_read : (s : NetKind) → net_kind_is_driven s ≡ true → net_kind_is_read s ≡ true
@@ -63,7 +63,7 @@ module _ (ms : List ModuleTree) (top : ModuleTree) (f : Flat) (flat : IsFlat ms 
       ∙ ap (λ w. driven s w (c path) e) (width_held m s (c path) lawful.ports lawful.lines x net_kind_is_driven refl refl (assign_driven ms flat.design.sound.names m in_ms x e has))
 
   pub line_told : (pairs memories : List (Option Pair)) (t : TapeTree) (p : Pair) → AreRead ms top f pairs → AreMemories ms top f memories
-      → IsDriven (declared m) (part ms f k low path stands m is pairs) (part ms f k low path stands m is memories) (bits_of (declared m) x) e t p → IsTold ms top f memories pairs t (path, x) p
+      → IsDriven (declared m) (part ms f k low path stands m is pairs) (part ms f k low path stands m is memories) (bits_of (declared m) x) e t p → HasNumbersOf ms top f memories pairs t (path, x) p
   line_told pairs memories t p read only driven cells ns c solved v shows_cells shows =
       let l = v.lines path m at in
       line_value c l.0 l.1

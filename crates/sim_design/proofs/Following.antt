@@ -30,7 +30,7 @@ use Rattle.sim_design.proofs.Parts.{is_at, shows_nets}
 use Rattle.sim_design.specs.declared.drafts.Commit.{Commit}
 use Rattle.sim_design.specs.declared.drafts.Width.{Width}
 use Rattle.sim_design.specs.Commits.{commits_of, commits_below}
-use Rattle.sim_design.specs.Left.{own_pairs, AreAdded}
+use Rattle.sim_design.specs.Left.{own_pairs, AreLinesAdded}
 use Rattle.sim_design.specs.Drafts.{IsCommitted, AreNext}
 use Rattle.sim_design.specs.Below.{HasPlaces, IsNextOf, AreCellsOf, IsRegisterSlot, IsStoreBelow, AreOnce, AreNextBelow}
 use Rattle.sim_design.proofs.Numbering.{tree_is}
@@ -92,7 +92,7 @@ module _ (ms : List ModuleTree) (top : ModuleTree) (f : Flat) (pairs memories : 
         (sym (declared_net_kind m ms places.flat.design.sound.names (in_ms ms top f pairs memories widths t0 places n.0 m at) d (has_got (declared m) h.place d declared_here.1))
         ∙ ap (λ x. net_kind_of (declared m) x) declared_here.2 ∙ register_kind ms top f pairs memories widths t0 places n.0 m at w n.1 has)
 
-    module _ (t : TapeTree) (commits more : List Commit) (stores more_stores : List Store) (added : AreAdded (declared m) base m.items pairs memories t commits more stores more_stores) where
+    module _ (t : TapeTree) (commits more : List Commit) (stores more_stores : List Store) (added : AreLinesAdded (declared m) base m.items pairs memories t commits more stores more_stores) where
       shown : (cells : Cells) (ns : List ℕ) (c : Path → Cycle) (s : Sizes) → IsSolved t cells ns → IsValuation ms top c → ShowsPlaced ms f pairs c ns → IsLawful m s (c n.0)
           → ShowsNext (declared m) (own_pairs base (declared m) memories) added.next added.new_stores s (c n.0) (run_items s (c n.0) m.items (c n.0)) ns
       shown cells ns c s solved v shows lawful =
@@ -130,7 +130,7 @@ module _ (ms : List ModuleTree) (top : ModuleTree) (f : Flat) (pairs memories : 
   -- one more instance
   module _ (k : ℕ) (low : k < length f.instances.items) (path : Path) (stands : StandsAt ms f.instances.items k path) (m : ModuleTree) (is : IsModuleOf ms f.instances.items k m)
       (s t : TapeTree) (grown : Extends s t) (commits more : List Commit) (stores more_stores : List Store)
-      (added : AreAdded (declared m) (get_or f.first_net.items k 0) m.items pairs memories t commits more stores more_stores) (old : AreNextBelow ms top f pairs memories s commits stores k) where
+      (added : AreLinesAdded (declared m) (get_or f.first_net.items k 0) m.items pairs memories t commits more stores more_stores) (old : AreNextBelow ms top f pairs memories s commits stores k) where
     abbrev start : ℕ
     start = get_or f.first_net.items k 0
 
@@ -140,12 +140,12 @@ module _ (ms : List ModuleTree) (top : ModuleTree) (f : Flat) (pairs memories : 
     abbrev new : List Commit
     new = commits_below (declared m) own added.next (length (declared m))
 
-    added_at : (number : ℕ) (n : FlatNet) (h : HasNumber ms f number n) (l : ModuleTree) → module_at ms top n.0 ≡ Some l → h.instance ≡ k → AreAdded (declared l) (get_or f.first_net.items h.instance 0) l.items pairs memories t commits more stores more_stores
+    added_at : (number : ℕ) (n : FlatNet) (h : HasNumber ms f number n) (l : ModuleTree) → module_at ms top n.0 ≡ Some l → h.instance ≡ k → AreLinesAdded (declared l) (get_or f.first_net.items h.instance 0) l.items pairs memories t commits more stores more_stores
     added_at number n h l there e =
         let here : IsModuleOf ms f.instances.items k l = subst (λ i. IsModuleOf ms f.instances.items i l) e (module_here number n h l there) in
         let same : l ≡ m = same_Some l m (sym here ∙ is) in
-        subst (λ i. AreAdded (declared l) (get_or f.first_net.items i 0) l.items pairs memories t commits more stores more_stores) (sym e)
-        (subst (λ (q : ModuleTree). AreAdded (declared q) (get_or f.first_net.items k 0) q.items pairs memories t commits more stores more_stores) (sym same) added)
+        subst (λ i. AreLinesAdded (declared l) (get_or f.first_net.items i 0) l.items pairs memories t commits more stores more_stores) (sym e)
+        (subst (λ (q : ModuleTree). AreLinesAdded (declared q) (get_or f.first_net.items k 0) q.items pairs memories t commits more stores more_stores) (sym same) added)
 
     kept : (a : Commit) → Has commits a → Has more a
     kept a has = subst (λ l. Has l a) (sym added.commits_are) (has_left commits new a has)

@@ -27,7 +27,7 @@ use Rattle.sim_flat.specs.declared.flat.Flat.{Flat}
 use Rattle.sim_flat.specs.Places.{DeclaredAt}
 use Rattle.sim_flat.specs.Flat.{HasNumber}
 use Rattle.sim_design.specs.Valuations.{IsLawful, IsValuation}
-use Rattle.sim_design.specs.States.{ShowsPlaced, ShowsCells, AreRead, AreMemories}
+use Rattle.sim_design.specs.States.{ShowsPlaced, HasCellsOf, AreRead, AreMemories}
 
 none_past : (pairs : List (Option Pair)) (base count j : ℕ) → count ≤ j → get_or (take count (drop base pairs)) j None ≡ None
 none_past pairs base count j h =
@@ -125,7 +125,7 @@ module _ (ms : List ModuleTree) (f : Flat) (k : ℕ) (low : k < length f.instanc
 
       -- the memories of an instance show its cells in a cycle
       pub shows_memories : (memories : List (Option Pair)) (cells : Cells)
-          → AreMemories ms top f memories → ShowsCells ms top f memories c cells
+          → AreMemories ms top f memories → HasCellsOf ms top f memories c cells
           → ShowsMemories (declared m) (part memories) s (c path) cells
       shows_memories memories cells only shows = record {
         value = λ x q e a.

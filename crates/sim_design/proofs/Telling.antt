@@ -15,7 +15,7 @@ use Rattle.sim_gates.specs.Nets.{SlotsBefore}
 use Rattle.sim_gates.proofs.AtomSlots.{some_is}
 use Rattle.sim_flat.specs.declared.flat.Flat.{Flat}
 use Rattle.sim_flat.specs.Flat.{HasNumber}
-use Rattle.sim_design.specs.States.{IsTold, AreRead, Tells}
+use Rattle.sim_design.specs.States.{HasNumbersOf, AreRead, TellsNumbers}
 use Rattle.sim_design.specs.Placed.{AreFree, AllFree, AreKept, ArePlacedMore}
 use Rattle.vlog_run_laws.proofs.runs.Sound.{true_not_false}
 use Rattle.tapa_base.proofs.Lists.{some_of}
@@ -67,7 +67,7 @@ module _ (old : List (Option Pair)) (f : ℕ) (pair : Option Pair) (low : f < le
 
   module _ (ms : List ModuleTree) (top : ModuleTree) (flat : Flat) (memories : List (Option Pair)) (s t : TapeTree) (g : Extends s t) where
     abbrev Told : Type 0
-    Told = (n : FlatNet) → HasNumber ms flat f n → length old ≡ length flat.owners.items → AreRead ms top flat old → IfSome pair (λ p. IsTold ms top flat memories old t n p)
+    Told = (n : FlatNet) → HasNumber ms flat f n → length old ≡ length flat.owners.items → AreRead ms top flat old → IfSome pair (λ p. HasNumbersOf ms top flat memories old t n p)
 
     abbrev Read : Type 0
     Read = (n : FlatNet) (m : ModuleTree) → HasNumber ms flat f n → module_at ms top n.0 ≡ Some m → IfSome pair (λ p. IsTrue (net_kind_is_read (net_kind_of (declared m) n.1)) × (is_clk n.1 ≡ false))
@@ -78,11 +78,11 @@ module _ (old : List (Option Pair)) (f : ℕ) (pair : Option Pair) (low : f < le
       | inr ne ↦ was i n m p h at (sym (away i ne) ∙ got)
     ]
 
-    tells_put : Told → length old ≡ length flat.owners.items → AreRead ms top flat old → Tells ms top flat old memories s → Tells ms top flat new memories t
+    tells_put : Told → length old ≡ length flat.owners.items → AreRead ms top flat old → TellsNumbers ms top flat old memories s → TellsNumbers ms top flat new memories t
     tells_put told count was tells cells ns c solved v shows_cells free i n p h got =
         let shows = tells cells ns c (solved_on s t g cells ns solved) v shows_cells (λ j b q k fr e. free j b q k fr (kept j q e)) in
         elim (cases_eq i f) [
-          | inl e ↦ some_is (λ p. IsTold ms top flat memories old t n p) pair p (sym (at_it i e) ∙ got) (told n (subst (λ k. HasNumber ms flat k n) e h) count was) cells ns c solved v shows_cells shows
+          | inl e ↦ some_is (λ p. HasNumbersOf ms top flat memories old t n p) pair p (sym (at_it i e) ∙ got) (told n (subst (λ k. HasNumber ms flat k n) e h) count was) cells ns c solved v shows_cells shows
           | inr ne ↦ shows i n p h (sym (away i ne) ∙ got)
         ]
 
@@ -101,5 +101,5 @@ placed_twice ms top flat memories a b c s t u h k = record {
 }
 
 -- pairs of free nets alone are told by any tape
-pub free_told : (ms : List ModuleTree) (top : ModuleTree) (flat : Flat) (memories pairs : List (Option Pair)) (s : TapeTree) → AreFree ms top flat pairs → Tells ms top flat pairs memories s
+pub free_told : (ms : List ModuleTree) (top : ModuleTree) (flat : Flat) (memories pairs : List (Option Pair)) (s : TapeTree) → AreFree ms top flat pairs → TellsNumbers ms top flat pairs memories s
 free_told ms top flat memories pairs s are cells ns c solved v shows_cells free i n p h got = free i n p h (are i n p h got) got

@@ -33,13 +33,13 @@ IsNextOf ms top f pairs t n m q =
     (cells : Cells) (ns : List ℕ) (c : Path → Cycle) (s : Sizes) → IsSolved t cells ns → IsValuation ms top c → ShowsPlaced ms f pairs c ns → IsLawful m s (c n.0)
     → (run_items s (c n.0) m.items (c n.0)).net n.1 ≡ pair_value ns q
 
--- stores leave what the cells of a memory, which has so many, have in the next cycle
+-- stores leave what the cells of a memory, `count` in number, have in the next cycle
 abbrev pub AreCellsOf : List ModuleTree → ModuleTree → Flat → List (Option Pair) → TapeTree → FlatNet → ModuleTree → ℕ → Pair → List Store → Type 0
 AreCellsOf ms top f pairs t n m count q stores =
     (cells : Cells) (ns : List ℕ) (c : Path → Cycle) (s : Sizes) → IsSolved t cells ns → IsValuation ms top c → ShowsPlaced ms f pairs c ns → IsLawful m s (c n.0)
     → (a : ℕ) → (run_items s (c n.0) m.items (c n.0)).cell n.1 a ≡ cell_after ns count q a stores ((c n.0).cell n.1 a)
 
--- a slot is one of the pair of the register with this number, which stands in one of the first instances
+-- a slot is one of the pair of the register with this number, which is in one of the first instances
 pub record IsRegisterSlot (ms : List ModuleTree) (top : ModuleTree) (f : Flat) (pairs : List (Option Pair)) (k number slot : ℕ) : Type 0 where
   pub net : FlatNet
   pub has_number : HasNumber ms f number net

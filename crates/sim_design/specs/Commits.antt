@@ -9,7 +9,7 @@ use Rattle.sim_design.specs.declared.drafts.Commit.{Commit}
 abbrev pub commits_of : Pair → Pair → List Commit
 commits_of p q = record { slot = p.low; next = q.low } ∷ (if p.high == 0 then [] else record { slot = p.high; next = q.high } ∷ [])
 
--- those of a place that may have no pair
+-- those of a register that may have no pair
 abbrev pub commits_at : Option Pair → Option Pair → List Commit
 commits_at None q = []
 commits_at (Some p) None = []

@@ -21,10 +21,10 @@ use Rattle.sim_design.specs.declared.drafts.Commit.{Commit}
 use Rattle.sim_design.specs.declared.drafts.Width.{Width}
 use Rattle.sim_design.specs.declared.drafts.TapeDraft.{TapeDraft}
 use Rattle.sim_design.specs.Valuations.{IsLawful, IsValuation}
-use Rattle.sim_design.specs.States.{ShowsPlaced, Tells}
+use Rattle.sim_design.specs.States.{ShowsPlaced, TellsNumbers}
 use Rattle.sim_design.specs.Given.{ArePlaced, AreGiven}
 
--- The memories inside have two numbers each, one behind the other, behind those of the memories outside.
+-- The memories inside have two numbers each, one after the other, after those of the memories outside.
 pub record AreMemories (ms : List ModuleTree) (top : ModuleTree) (f : Flat) (memories : List (Option Pair)) (widths : List Width) : Type 0 where
   pub count : length memories ≡ length f.owners.items
   pub all : (number : ℕ) (n : FlatNet) (m : ModuleTree) (w k : ℕ) → HasNumber ms f number n → module_at ms top n.0 ≡ Some m → Has m.items (Memory w n.1 k)
@@ -54,7 +54,8 @@ pub record IsSlotOf (ms : List ModuleTree) (top : ModuleTree) (f : Flat) (pairs 
 -- Where a tape is solved and shows all nets of a cycle, each register has in the next cycle what it takes over, and each cell
 -- what is stored.
 pub record AreNext (ms : List ModuleTree) (top : ModuleTree) (f : Flat) (pairs memories : List (Option Pair)) (t : TapeTree) (commits : List Commit) (stores : List Store) : Type 0 where
-  pub registers : (number : ℕ) (n : FlatNet) (m : ModuleTree) (w : ℕ) (p : Pair) → HasNumber ms f number n → module_at ms top n.0 ≡ Some m → Has m.items (Reg w n.1) → get_or pairs number None ≡ Some p
+  pub registers : (number : ℕ) (n : FlatNet) (m : ModuleTree) (w : ℕ) (p : Pair) → HasNumber ms f number n → module_at ms top n.0 ≡ Some m → Has m.items (Reg w n.1)
+      → get_or pairs number None ≡ Some p
       → (q : Pair) × IsCommitted commits p q
       × ((cells : Cells) (ns : List ℕ) (c : Path → Cycle) (s : Sizes) → IsSolved t cells ns → IsValuation ms top c → ShowsPlaced ms f pairs c ns
       → IsLawful m s (c n.0) → (run_items s (c n.0) m.items (c n.0)).net n.1 ≡ pair_value ns q)
@@ -75,5 +76,5 @@ pub record IsDraft (ms : List ModuleTree) (top : ModuleTree) (f : Flat) (d : Tap
   pub placed : ArePlaced ms top f d.pairs.items
   pub given : AreGiven ms top f d.pairs.items (tree_of d.tape)
   pub numbered : AreMemories ms top f d.memories.items d.cells.items
-  pub tells : Tells ms top f d.pairs.items d.memories.items (tree_of d.tape)
+  pub tells : TellsNumbers ms top f d.pairs.items d.memories.items (tree_of d.tape)
   pub next : AreNext ms top f d.pairs.items d.memories.items (tree_of d.tape) d.commits.items d.stores.items

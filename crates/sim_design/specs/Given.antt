@@ -34,7 +34,7 @@ IsGivenPair t bits p = IsGivenSlot t p.low × (((bits ≤ 64) × (p.high ≡ 0))
 abbrev pub HaveOwnSlots : Pair → Pair → Type 0
 HaveOwnSlots p q = (p.low ≢ q.low) × (p.low ≢ q.high) × (p.high ≢ q.low) × ((p.high ≡ 0) ⊎ (p.high ≢ q.high))
 
--- the slots of a pair, but slot 0, come after so many
+-- the slots of a pair, but slot 0, are at least m
 abbrev pub IsBehind : ℕ → Pair → Type 0
 IsBehind m p = (m ≤ p.low) × ((p.high ≡ 0) ⊎ (m ≤ p.high))
 
@@ -50,7 +50,7 @@ pub record AreGiven (ms : List ModuleTree) (top : ModuleTree) (f : Flat) (pairs 
   pub own : (number other : ℕ) (n k : FlatNet) (p q : Pair) → HasNumber ms f number n → HasNumber ms f other k → IsFree ms top n → IsFree ms top k → number ≢ other
       → get_or pairs number None ≡ Some p → get_or pairs other None ≡ Some q → HaveOwnSlots p q
 
--- a place of an instance whose name has its number from no other
+-- the name of an instance has its number from no other
 abbrev pub IsFreeSource : ℕ → Name → Source → Type 0
 IsFreeSource k x source.Register = Unit {0}
 IsFreeSource k x source.Input = (k ≡ 0) × (rdata_of x ≡ None)

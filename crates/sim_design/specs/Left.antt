@@ -31,7 +31,7 @@ pub record AreLeft (ds : List Declaration) (pairs memories : List (Option Pair))
   pub value : AreApart ds memories → Told ds pairs t (λ s c ns. IsTrue (list_all (has_conditions ds) items) → ShowsNext ds memories next stores s c (run_items s c items c) ns)
 
 -- more commits and stores, by the lines of one instance's module
-pub record AreAdded (ds : List Declaration) (base : ℕ) (items : List Item) (pairs memories : List (Option Pair)) (t : TapeTree) (commits more : List Commit)
+pub record AreLinesAdded (ds : List Declaration) (base : ℕ) (items : List Item) (pairs memories : List (Option Pair)) (t : TapeTree) (commits more : List Commit)
     (stores more_stores : List Store) : Type 0 where
   pub next : List (Option Pair)
   pub new_stores : List Store

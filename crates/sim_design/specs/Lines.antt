@@ -12,7 +12,7 @@ use Rattle.sim_flat.specs.Instances.{StandsAt, IsModuleOf}
 use Rattle.sim_flat.specs.declared.flat.Flat.{Flat}
 use Rattle.sim_design.specs.declared.driven.Spot.{Spot}
 
--- in the instance of a module that stands here, a line drives a net of so many bits
+-- in the instance of a module at this spot, a line drives a net of `bits` bits
 pub record IsLine (ms : List ModuleTree) (f : Flat) (spot : Spot) (names : List Declaration) (path : Path) (m : ModuleTree) (x : Name) (e : Value) (bits : ℕ) : Type 0 where
   pub there : spot.instance < length f.instances.items
   pub stands : StandsAt ms f.instances.items spot.instance path
@@ -22,7 +22,7 @@ pub record IsLine (ms : List ModuleTree) (f : Flat) (spot : Spot) (names : List 
   pub wide : bits ≡ bits_of (declared m) x
   pub line : Has m.items (Assign x e)
 
--- a label stands at a place
+-- a label is at an index
 pub record IsLabelAt (labels : List Port) (i : ℕ) (label : Name) : Type 0 where
   pub port : Port
   pub got : slice_get labels i ≡ Some port

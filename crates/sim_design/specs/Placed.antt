@@ -7,7 +7,7 @@ use Rattle.sim_tape.specs.declared.gates.Pair.{Pair}
 use Rattle.sim_tape.specs.Tape.{TapeTree}
 use Rattle.sim_flat.specs.declared.flat.Flat.{Flat}
 use Rattle.sim_flat.specs.Flat.{HasNumber}
-use Rattle.sim_design.specs.States.{IsFree, AreRead, Tells}
+use Rattle.sim_design.specs.States.{IsFree, AreRead, TellsNumbers}
 
 -- only nets that have their numbers from no other net have pairs
 abbrev pub AreFree : List ModuleTree → ModuleTree → Flat → List (Option Pair) → Type 0
@@ -21,8 +21,8 @@ AllFree ms top f pairs = (number : ℕ) (n : FlatNet) → HasNumber ms f number 
 abbrev pub AreKept : List (Option Pair) → List (Option Pair) → Type 0
 AreKept old new = (number : ℕ) (p : Pair) → get_or old number None ≡ Some p → get_or new number None ≡ Some p
 
--- of pairs that a tape tells, more ones that a later tape tells
+-- pairs that a tape determines, and more ones that a later tape determines
 pub record ArePlacedMore (ms : List ModuleTree) (top : ModuleTree) (f : Flat) (memories old : List (Option Pair)) (s : TapeTree) (new : List (Option Pair)) (t : TapeTree) : Type 0 where
   pub count : length new ≡ length old
   pub read : length old ≡ length f.owners.items → AreRead ms top f old → AreRead ms top f new
-  pub tells : length old ≡ length f.owners.items → AreRead ms top f old → Tells ms top f old memories s → Tells ms top f new memories t
+  pub tells : length old ≡ length f.owners.items → AreRead ms top f old → TellsNumbers ms top f old memories s → TellsNumbers ms top f new memories t

@@ -20,7 +20,7 @@ pub record IsPlan (ms : List ModuleTree) (top : ModuleTree) (p : Plan) : Type 0 
   pub all : MemoriesPlaced ms top p.flat.now p.memories.now
   pub many : length p.memories.now ≡ length p.flat.now.owners.items
 
--- a net stands at a place of an instance, whose module has this table
+-- a net is at an index of an instance, whose module has this table
 pub record IsAtSpot (ms : List ModuleTree) (f : Flat) (t : Table) (spot : Spot) (place : ℕ) (n : FlatNet) : Type 0 where
   pub at : IsNetAt ms f spot.instance place n
   pub first : spot.base ≡ get_or f.first_net.items spot.instance 0

@@ -32,9 +32,9 @@ ShowsPlaced ms f pairs c ns = (number : ℕ) (n : FlatNet) (p : Pair) → HasNum
 abbrev pub CellsAre : Cycle → Name → ℕ → Cells → Pair → Type 0
 CellsAre c x count cells q = (a : ℕ) → (if nat_lt a count then c.cell x a else 0) ≡ cell_in cells q.high a * 2 ^ 64 + cell_in cells q.low a
 
--- The cells of the memories inside have their numbers in a cycle. Outside stand the memories of the top by their places in its
--- shape, each answering with the cell that it is asked for.
-pub record ShowsCells (ms : List ModuleTree) (top : ModuleTree) (f : Flat) (memories : List (Option Pair)) (c : Path → Cycle) (cells : Cells) : Type 0 where
+-- The cells of the memories inside have their numbers in a cycle. Outside are the memories of the top by their indices in its
+-- shape, each answering with the cell at its address.
+pub record HasCellsOf (ms : List ModuleTree) (top : ModuleTree) (f : Flat) (memories : List (Option Pair)) (c : Path → Cycle) (cells : Cells) : Type 0 where
   pub inside : (number : ℕ) (n : FlatNet) (q : Pair) (m : ModuleTree) (w k : ℕ) → HasNumber ms f number n → module_at ms top n.0 ≡ Some m
       → Has m.items (Memory w n.1 k) → get_or memories number None ≡ Some q → CellsAre (c n.0) n.1 k cells q
   pub outside : (i : ℕ) (l : Port) → slice_get (shape_of top).memories i ≡ Some l → (c []).net (m_rdata l.name) ≡ cell_in cells i ((c []).net (m_addr l.name))
@@ -45,9 +45,10 @@ ShowsFree ms top f pairs c ns = (number : ℕ) (n : FlatNet) (p : Pair) → HasN
 
 -- In each array that solves a tape and shows registers, inputs and memories of a cycle, the pairs of all nets have their
 -- numbers in that cycle, for all numbers that the design allows within one cycle.
-abbrev pub Tells : List ModuleTree → ModuleTree → Flat → List (Option Pair) → List (Option Pair) → TapeTree → Type 0
-Tells ms top f pairs memories t =
-    (cells : Cells) (ns : List ℕ) (c : Path → Cycle) → IsSolved t cells ns → IsValuation ms top c → ShowsCells ms top f memories c cells → ShowsFree ms top f pairs c ns → ShowsPlaced ms f pairs c ns
+abbrev pub TellsNumbers : List ModuleTree → ModuleTree → Flat → List (Option Pair) → List (Option Pair) → TapeTree → Type 0
+TellsNumbers ms top f pairs memories t =
+    (cells : Cells) (ns : List ℕ) (c : Path → Cycle) → IsSolved t cells ns → IsValuation ms top c → HasCellsOf ms top f memories c cells
+    → ShowsFree ms top f pairs c ns → ShowsPlaced ms f pairs c ns
 
 -- only nets that can be read have pairs, and no clock
 abbrev pub AreRead : List ModuleTree → ModuleTree → Flat → List (Option Pair) → Type 0
@@ -63,15 +64,16 @@ AreMemories ms top f memories =
 
 -- a pair has the number of a net in a cycle, wherever a tape is solved and shows the memories of the cycle and the nets that
 -- have pairs already
-abbrev pub IsTold : List ModuleTree → ModuleTree → Flat → List (Option Pair) → List (Option Pair) → TapeTree → FlatNet → Pair → Type 0
-IsTold ms top f memories pairs t n p =
-    (cells : Cells) (ns : List ℕ) (c : Path → Cycle) → IsSolved t cells ns → IsValuation ms top c → ShowsCells ms top f memories c cells
+abbrev pub HasNumbersOf : List ModuleTree → ModuleTree → Flat → List (Option Pair) → List (Option Pair) → TapeTree → FlatNet → Pair → Type 0
+HasNumbersOf ms top f memories pairs t n p =
+    (cells : Cells) (ns : List ℕ) (c : Path → Cycle) → IsSolved t cells ns → IsValuation ms top c → HasCellsOf ms top f memories c cells
     → ShowsPlaced ms f pairs c ns → (c n.0).net n.1 ≡ pair_value ns p
 
 -- all memories have numbers of lists of cells
 abbrev pub MemoriesPlaced : List ModuleTree → ModuleTree → Flat → List (Option Pair) → Type 0
 MemoriesPlaced ms top f memories =
-    (number : ℕ) (n : FlatNet) (m : ModuleTree) → HasNumber ms f number n → module_at ms top n.0 ≡ Some m → net_kind_of (declared m) n.1 ≡ kind.MemoryArray → IsSome (get_or memories number None)
+    (number : ℕ) (n : FlatNet) (m : ModuleTree) → HasNumber ms f number n → module_at ms top n.0 ≡ Some m
+    → net_kind_of (declared m) n.1 ≡ kind.MemoryArray → IsSome (get_or memories number None)
 
 -- the nets that a net has its number from have pairs
 abbrev pub PartsPlaced : List ModuleTree → ModuleTree → Flat → List (Option Pair) → FlatNet → Type 0

@@ -7,7 +7,7 @@ ghost use Rattle.sim_tape.specs.Tape.{Extends, IsTape};
 ghost use Rattle.sim_tape.specs.Trees.{tree_of};
 ghost use Rattle.sim_gates.specs.Nets.{SlotsBefore};
 ghost use Rattle.sim_design.specs.Plans.{IsPlan};
-ghost use Rattle.sim_design.specs.States.{AreRead, PartsPlaced, Tells};
+ghost use Rattle.sim_design.specs.States.{AreRead, PartsPlaced, TellsNumbers};
 ghost use Rattle.vlog_tree.specs.Flattened.{FlatNet};
 ghost use Rattle.sim_flat.specs.Flat.{HasNumber};
 ghost use Rattle.sim_flat.specs.Order.{IsNetOrder};
@@ -75,7 +75,7 @@ pub fn place_all(
     ensures kept { OnOk result (AreKept pairs.old.items pairs.new.items) }
     ensures tells { OnOk result ((ms : List ModuleTree) (top : ModuleTree) → IsPlan ms top plan.now → length pairs.old.items ≡ length plan.now.flat.now.owners.items
         → AreRead ms top plan.now.flat.now pairs.old.items → AreFree ms top plan.now.flat.now pairs.old.items
-        → AreRead ms top plan.now.flat.now pairs.new.items × Tells ms top plan.now.flat.now pairs.new.items plan.now.memories.now (tree_of tape.new)) }
+        → AreRead ms top plan.now.flat.now pairs.new.items × TellsNumbers ms top plan.now.flat.now pairs.new.items plan.now.memories.now (tree_of tape.new)) }
     ensures placed { OnOk result ((ms : List ModuleTree) (top : ModuleTree) → IsPlan ms top plan.now → IsNetOrder ms top plan.now.flat.now order.now
         → length pairs.old.items ≡ length plan.now.flat.now.owners.items → AreRead ms top plan.now.flat.now pairs.old.items → AllFree ms top plan.now.flat.now pairs.old.items
         → ArePlaced ms top plan.now.flat.now pairs.new.items) }

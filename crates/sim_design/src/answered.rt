@@ -14,7 +14,7 @@ ghost use Rattle.sim_tape.specs.Trees.{tree_of};
 ghost use Rattle.sim_gates.specs.Nets.{SlotsBefore};
 ghost use Rattle.sim_flat.specs.declared.flat.Flat.{Flat as FlatTree};
 ghost use Rattle.sim_flat.specs.Flat.{IsFlat, HasNumber};
-ghost use Rattle.sim_design.specs.States.{IsTold};
+ghost use Rattle.sim_design.specs.States.{HasNumbersOf};
 ghost use Rattle.sim_design.specs.Lines.{IsLabelAt};
 
 use crate::slices::pair_of;
@@ -24,7 +24,7 @@ use tapa_base::{Port, Text};
 use vlog_scope::Scope;
 use vlog_tree::addr_name;
 
-// The place of a label.
+// The index of a label.
 fn place_of_label(labels: &[Port], label: &[u8]) -> Option<usize>
     ensures at { IfSome result (λ i. IsLabelAt labels.now i label.now) }
     ensures there { (i : ℕ) → IsLabelAt labels.now i label.now → IsSome result }
@@ -37,7 +37,7 @@ fn place_of_label(labels: &[Port], label: &[u8]) -> Option<usize>
     None
 }
 
-/// The pair of what the memory outside of a label answers: the cell at the place that it is asked for.
+/// The pair of the read data of the memory outside with a label: the cell at its address.
 pub(crate) fn pair_of_answer(
     alloc: Global,
     tape: &mut Tape,
@@ -53,7 +53,7 @@ pub(crate) fn pair_of_answer(
     ensures slots { IfOk result (λ o. IfSome o (λ p. PairBefore (length (tree_of tape.new).gates) p)) }
     ensures told { (ms : List ModuleTree) (top : ModuleTree) (f : FlatTree) (memories : List (Option PairTree)) → IsFlat ms top f → scope.now ≡ declared top
         → outside.now ≡ (shape_of top).memories → 0 < length label.now → has_all_five (map port_declared top.ports) label.now ≡ true
-        → IfOk result (λ o. IfSome o (λ p. IsTold ms top f memories pairs.now (tree_of tape.new) ([], m_rdata label.now) p)) }
+        → IfOk result (λ o. IfSome o (λ p. HasNumbersOf ms top f memories pairs.now (tree_of tape.new) ([], m_rdata label.now) p)) }
     ensures some { (ms : List ModuleTree) (top : ModuleTree) (f : FlatTree) → IsFlat ms top f → scope.now ≡ declared top → outside.now ≡ (shape_of top).memories
         → 0 < length label.now → has_all_five (map port_declared top.ports) label.now ≡ true
         → ((number : ℕ) → HasNumber ms f number ([], m_addr label.now) → IsSome (get_or pairs.now number None)) → IfOk result (λ o. IsSome o) }

@@ -7,7 +7,7 @@ ghost use Rattle.sim_tape.specs.Tape.{IsTape};
 ghost use Rattle.sim_tape.specs.Trees.{tree_of};
 ghost use Rattle.sim_gates.specs.Nets.{SlotsBefore};
 ghost use Rattle.sim_flat.specs.Flat.{IsFlat};
-ghost use Rattle.sim_design.specs.States.{Tells};
+ghost use Rattle.sim_design.specs.States.{TellsNumbers};
 ghost use Rattle.sim_design.specs.Drafts.{IsDraft};
 ghost use Rattle.sim_design.specs.Below.{HasPlaces};
 
@@ -58,7 +58,7 @@ fn placed_of(alloc: Global, design: &Design, flat: &Flat) -> Result<TapeDraft, A
     ensures commits { IfOk result (λ d. d.commits.items ≡ []) }
     ensures stores { IfOk result (λ d. d.stores.items ≡ []) }
     ensures places { IfOk result (λ d. (m : ModuleTree) → TopOf design.now m → HasPlaces design.now.modules m flat.now d.pairs.items d.memories.items d.cells.items (tree_of d.tape)) }
-    ensures tells { IfOk result (λ d. (m : ModuleTree) → TopOf design.now m → Tells design.now.modules m flat.now d.pairs.items d.memories.items (tree_of d.tape)) }
+    ensures tells { IfOk result (λ d. (m : ModuleTree) → TopOf design.now m → TellsNumbers design.now.modules m flat.now d.pairs.items d.memories.items (tree_of d.tape)) }
 {
     let shape = design.shape(alloc)?;
     let memories = memories_of(alloc, flat, shape.memories.len())?;

@@ -8,7 +8,7 @@ ghost use Rattle.sim_tape.specs.Tape.{Extends, IsTape, PairBefore};
 ghost use Rattle.sim_tape.specs.Trees.{tree_of};
 ghost use Rattle.sim_gates.specs.Nets.{SlotsBefore};
 ghost use Rattle.sim_flat.specs.Flat.{IsFlat};
-ghost use Rattle.sim_design.specs.States.{AreRead, AreMemories, MemoriesPlaced, PartsPlaced, IsTold};
+ghost use Rattle.sim_design.specs.States.{AreRead, AreMemories, MemoriesPlaced, PartsPlaced, HasNumbersOf};
 ghost use Rattle.sim_design.specs.Lines.{IsLine};
 
 use crate::slices::part_of;
@@ -19,7 +19,7 @@ use std::alloc::AllocError;
 use vlog_scope::Scope;
 use vlog_tree::Value;
 
-/// Where an instance stands in a flattened design: its number, and that of its first net.
+/// An instance in a flattened design: its number, and that of its first net.
 #[derive(Clone, Copy)]
 pub struct Spot {
     pub instance: usize,
@@ -44,7 +44,7 @@ pub fn pair_of_line(
     ensures told { (ms : List ModuleTree) (top : ModuleTree) (path : Path) (m : ModuleTree) (x : Name) → IsFlat ms top flat.now
         → IsLine ms flat.now spot scope.now path m x value.now bits → length pairs.now ≡ length flat.now.owners.items → length memories.now ≡ length flat.now.owners.items
         → AreRead ms top flat.now pairs.now → AreMemories ms top flat.now memories.now
-        → IfOk result (λ o. IfSome o (λ p. IsTold ms top flat.now memories.now pairs.now (tree_of tape.new) (path, x) p)) }
+        → IfOk result (λ o. IfSome o (λ p. HasNumbersOf ms top flat.now memories.now pairs.now (tree_of tape.new) (path, x) p)) }
     ensures some { (ms : List ModuleTree) (top : ModuleTree) (path : Path) (m : ModuleTree) (x : Name) → IsFlat ms top flat.now
         → IsLine ms flat.now spot scope.now path m x value.now bits → length pairs.now ≡ length flat.now.owners.items → length memories.now ≡ length flat.now.owners.items
         → PartsPlaced ms top flat.now pairs.now (path, x) → MemoriesPlaced ms top flat.now memories.now

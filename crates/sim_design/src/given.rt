@@ -36,7 +36,7 @@ fn give(tape: &mut Tape, bits: u32) -> Result<Pair, AllocError>
     Ok(Pair { low, high })
 }
 
-// Slots of the net at a place, where it has its number from no other.
+// Slots of the net at an index, where it has its number from no other.
 fn give_source(
     tape: &mut Tape,
     instance: usize,

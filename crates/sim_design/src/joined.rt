@@ -1,4 +1,4 @@
-// Nets that are joined to others by instances.
+// Nets that are connected to others by instances.
 
 ghost use Rattle.std.specs.Prelude.{◌≡◌, ◌<◌, ℕ, true, List, IfSome, IsSome};
 ghost use Rattle.vlog_tree.specs.Form.{ModuleTree};
@@ -16,7 +16,7 @@ use crate::slices::pair_of;
 use sim_flat::{Flat, net_around, net_inside};
 use sim_tape::Pair;
 
-/// The pair of an input of an instance: that of the net around that it is joined to.
+/// The pair of an input of an instance: that of the net around that it is connected to.
 pub fn pair_around(
     flat: &Flat,
     pairs: &[Option<Pair>],

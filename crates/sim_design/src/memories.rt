@@ -51,7 +51,7 @@ fn is_memory(net_kind: NetKind) -> bool
     }
 }
 
-// The numbers of the lists of a memory behind others.
+// The numbers of the lists of a memory after others.
 fn pair_behind(outside: usize, count: usize) -> Result<Pair, AllocError>
     ensures { IfOk result (λ p. p ≡ memory_pair outside count) }
 {
@@ -93,7 +93,7 @@ fn add_name(
     Ok(())
 }
 
-/// The memories inside a design, behind those outside.
+/// The memories inside a design, after those outside.
 pub(crate) fn memories_of(
     alloc: Global,
     flat: &Flat,

@@ -10,7 +10,7 @@ ghost use Rattle.sim_tape.specs.Trees.{tree_of};
 ghost use Rattle.sim_gates.specs.Nets.{SlotsBefore};
 ghost use Rattle.sim_flat.specs.declared.tables.Source.TheVariants as sources;
 ghost use Rattle.sim_flat.specs.Flat.{HasNumber};
-ghost use Rattle.sim_design.specs.States.{AreRead, IsTold, IsFree, PartsPlaced};
+ghost use Rattle.sim_design.specs.States.{AreRead, HasNumbersOf, IsFree, PartsPlaced};
 ghost use Rattle.vlog_run_laws.specs.runs.Readable.{CanBeRead};
 ghost use Rattle.sim_design.specs.Plans.{IsPlan, IsAtSpot};
 
@@ -47,7 +47,7 @@ fn place_line(
     ensures told { (ms : List ModuleTree) (top : ModuleTree) (n : FlatNet) → IsPlan ms top plan.now → IsAtSpot ms plan.now.flat.now table.now spot place n
         → sources.Line at ≡ get_or table.now.sources.items place sources.Nothing → length pairs.now ≡ length plan.now.flat.now.owners.items
         → AreRead ms top plan.now.flat.now pairs.now
-        → IfOk result (λ o. IfSome o (λ p. IsTold ms top plan.now.flat.now plan.now.memories.now pairs.now (tree_of tape.new) n p)) }
+        → IfOk result (λ o. IfSome o (λ p. HasNumbersOf ms top plan.now.flat.now plan.now.memories.now pairs.now (tree_of tape.new) n p)) }
     ensures some { (ms : List ModuleTree) (top : ModuleTree) (n : FlatNet) → IsPlan ms top plan.now → IsAtSpot ms plan.now.flat.now table.now spot place n
         → sources.Line at ≡ get_or table.now.sources.items place sources.Nothing → length pairs.now ≡ length plan.now.flat.now.owners.items
         → PartsPlaced ms top plan.now.flat.now pairs.now n → IfOk result (λ o. IsSome o) }
@@ -79,7 +79,7 @@ fn place_line(
     }
 }
 
-/// The name at a place.
+/// The name at an index.
 pub(crate) fn name_at(table: &Table, place: usize) -> Option<&Declaration>
     ensures { option_copied result ≡ slice_get table.now.scope place }
 {
@@ -102,7 +102,7 @@ fn place_answer(
     ensures slots { IfOk result (λ o. IfSome o (λ p. PairBefore (length (tree_of tape.new).gates) p)) }
     ensures told { (ms : List ModuleTree) (top : ModuleTree) (n : FlatNet) → IsPlan ms top plan.now → IsAtSpot ms plan.now.flat.now table.now spot place n
         → spot.instance ≡ 0 → sources.Input ≡ get_or table.now.sources.items place sources.Nothing
-        → IfOk result (λ o. IfSome o (λ p. IsTold ms top plan.now.flat.now plan.now.memories.now pairs.now (tree_of tape.new) n p)) }
+        → IfOk result (λ o. IfSome o (λ p. HasNumbersOf ms top plan.now.flat.now plan.now.memories.now pairs.now (tree_of tape.new) n p)) }
     ensures some { (ms : List ModuleTree) (top : ModuleTree) (n : FlatNet) → IsPlan ms top plan.now → IsAtSpot ms plan.now.flat.now table.now spot place n
         → spot.instance ≡ 0 → sources.Input ≡ get_or table.now.sources.items place sources.Nothing
         → (IsFree ms top n → ⊥) → PartsPlaced ms top plan.now.flat.now pairs.now n → IfOk result (λ o. IsSome o) }
@@ -135,7 +135,7 @@ fn place_source(
     ensures told { (ms : List ModuleTree) (top : ModuleTree) (n : FlatNet) → IsPlan ms top plan.now → IsAtSpot ms plan.now.flat.now table.now spot place n
         → source ≡ get_or table.now.sources.items place sources.Nothing → length pairs.now ≡ length plan.now.flat.now.owners.items
         → AreRead ms top plan.now.flat.now pairs.now
-        → IfOk result (λ o. IfSome o (λ p. IsTold ms top plan.now.flat.now plan.now.memories.now pairs.now (tree_of tape.new) n p)) }
+        → IfOk result (λ o. IfSome o (λ p. HasNumbersOf ms top plan.now.flat.now plan.now.memories.now pairs.now (tree_of tape.new) n p)) }
     ensures some { (ms : List ModuleTree) (top : ModuleTree) (n : FlatNet) → IsPlan ms top plan.now → IsAtSpot ms plan.now.flat.now table.now spot place n
         → source ≡ get_or table.now.sources.items place sources.Nothing → length pairs.now ≡ length plan.now.flat.now.owners.items
         → CanBeRead ms top n → (IsFree ms top n → ⊥) → PartsPlaced ms top plan.now.flat.now pairs.now n → IfOk result (λ o. IsSome o) }
@@ -179,8 +179,9 @@ pub fn place_net(
         → IfOk result (λ o. IfSome o (λ p. IsTrue (net_kind_is_read (net_kind_of (declared m) n.1)) × (is_clk n.1 ≡ false))) }
     ensures told { (ms : List ModuleTree) (top : ModuleTree) (n : FlatNet) → IsPlan ms top plan.now → HasNumber ms plan.now.flat.now number n
         → length pairs.now ≡ length plan.now.flat.now.owners.items → AreRead ms top plan.now.flat.now pairs.now
-        → IfOk result (λ o. IfSome o (λ p. IsTold ms top plan.now.flat.now plan.now.memories.now pairs.now (tree_of tape.new) n p)) }
-    ensures some { (ms : List ModuleTree) (top : ModuleTree) (n : FlatNet) → IsPlan ms top plan.now → HasNumber ms plan.now.flat.now number n → length pairs.now ≡ length plan.now.flat.now.owners.items
+        → IfOk result (λ o. IfSome o (λ p. HasNumbersOf ms top plan.now.flat.now plan.now.memories.now pairs.now (tree_of tape.new) n p)) }
+    ensures some { (ms : List ModuleTree) (top : ModuleTree) (n : FlatNet) → IsPlan ms top plan.now → HasNumber ms plan.now.flat.now number n
+        → length pairs.now ≡ length plan.now.flat.now.owners.items
         → CanBeRead ms top n → (IsFree ms top n → ⊥) → PartsPlaced ms top plan.now.flat.now pairs.now n → IfOk result (λ o. IsSome o) }
 {
     let Some(instance) = owner_of(plan.flat, number) else {

@@ -38,7 +38,7 @@ fn pair_at(pairs: &[Option<Pair>], place: usize) -> Option<Pair>
     }
 }
 
-// What the register at a place takes over, where it has slots.
+// What the register at an index takes over, where it has slots.
 fn add_pairs(
     commits: &mut Vec<Commit>,
     old: Option<Pair>,
@@ -111,7 +111,7 @@ pub(crate) fn add_commits(
     Ok(())
 }
 
-/// Adds stores behind others.
+/// Appends stores to others.
 pub(crate) fn add_stores(stores: &mut Vec<Store>, more: &[Store]) -> Result<(), AllocError>
     ensures { OnOk result (stores.new.items ≡ stores.old.items ++ more.now) }
 {

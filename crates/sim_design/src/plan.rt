@@ -17,7 +17,7 @@ pub struct Plan<'a> {
     pub outside: &'a [Port],
 }
 
-/// What the name at a place has its number from.
+/// What the name at an index has its number from.
 pub(crate) fn source_at(table: &Table, place: usize) -> Source
     ensures { result ≡ get_or table.now.sources.items place sources.Nothing }
 {

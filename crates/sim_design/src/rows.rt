@@ -9,7 +9,7 @@ ghost use Rattle.sim_tape.specs.Trees.{tree_of};
 ghost use Rattle.sim_gates.specs.Nets.{SlotsBefore};
 ghost use Rattle.sim_gates.specs.Ready.{IsReady};
 ghost use Rattle.sim_design.specs.Commits.{commits_below};
-ghost use Rattle.sim_design.specs.Left.{own_pairs, module_of_instance, AreLeft, AreAdded};
+ghost use Rattle.sim_design.specs.Left.{own_pairs, module_of_instance, AreLeft, AreLinesAdded};
 ghost use Rattle.sim_design.specs.Drafts.{AreNext};
 ghost use Rattle.sim_design.specs.Below.{HasPlaces, AreNextBelow};
 
@@ -99,7 +99,7 @@ fn add_instance(
     ensures memories { draft.new.memories.items ≡ draft.old.memories.items }
     ensures cells { draft.new.cells.items ≡ draft.old.cells.items }
     ensures added { base + length table.now.scope ≤ length draft.old.pairs.items → base + length table.now.scope ≤ length draft.old.memories.items
-        → IfOk result (λ done. OnTrue done (AreAdded table.now.scope base m.now.items draft.old.pairs.items draft.old.memories.items
+        → IfOk result (λ done. OnTrue done (AreLinesAdded table.now.scope base m.now.items draft.old.pairs.items draft.old.memories.items
         (tree_of draft.new.tape) draft.old.commits.items draft.new.commits.items draft.old.stores.items draft.new.stores.items)) }
     ensures some { base + length table.now.scope ≤ length draft.old.pairs.items → base + length table.now.scope ≤ length draft.old.memories.items
         → AllByRecursion (IsReady table.now.scope (own_pairs base table.now.scope draft.old.pairs.items)
@@ -170,8 +170,10 @@ pub(crate) fn add_next(
     ensures memories { draft.new.memories.items ≡ draft.old.memories.items }
     ensures cells { draft.new.cells.items ≡ draft.old.cells.items }
     ensures next { (top : ModuleTree) (t : TapeTree) → HasPlaces modules.now top flat.now draft.old.pairs.items draft.old.memories.items draft.old.cells.items t
-        → IfOk result (λ done. OnTrue done (AreNext modules.now top flat.now draft.old.pairs.items draft.old.memories.items (tree_of draft.new.tape) draft.new.commits.items draft.new.stores.items)) }
-    ensures some { (top : ModuleTree) (t : TapeTree) → HasPlaces modules.now top flat.now draft.old.pairs.items draft.old.memories.items draft.old.cells.items t → IfOk result (λ done. IsTrue done) }
+        → IfOk result (λ done. OnTrue done (AreNext modules.now top flat.now draft.old.pairs.items draft.old.memories.items
+        (tree_of draft.new.tape) draft.new.commits.items draft.new.stores.items)) }
+    ensures some { (top : ModuleTree) (t : TapeTree) → HasPlaces modules.now top flat.now draft.old.pairs.items draft.old.memories.items draft.old.cells.items t
+        → IfOk result (λ done. IsTrue done) }
 {
     for instance in 0..flat.instances.len() {
         if !add_row(alloc, draft, flat, modules, instance)? {

@@ -25,7 +25,7 @@ lines_at ms f k = option_map_or (λ (m : ModuleTree). m.items) (option_and_then 
 abbrev pub base_at : Flat → ℕ → ℕ
 base_at f k = get_or f.first_net.items k 0
 
--- the place of the net that an input is joined to
+-- the index of the net that an input is connected to
 abbrev pub joined_in : Flat → ℕ → ℕ → ℕ → Option ℕ
 joined_in f k c p = option_and_then (λ (t : Table). option_and_then (λ (ch : Child). get_or ch.joined.items p None) (slice_get t.children.items c)) (table_at f k)
 
@@ -48,7 +48,7 @@ assign_edges base ds (Always b) = []
 abbrev pub own_edges : List ModuleTree → Flat → ℕ → List (ℕ × ℕ)
 own_edges ms f k = option_map_or (λ (t : Table). flat_map (assign_edges (base_at f k) t.scope) (lines_at ms f k)) (table_at f k) []
 
--- an input rests on the net around that it is joined to, and a net on an output
+-- an input depends on the net around that it is connected to, and a net on an output
 abbrev pub connection_edge : ℕ → List Declaration → ℕ → List Declaration → Connection → List (ℕ × ℕ)
 connection_edge base ds base_inside inside l =
     if net_kind_is_input (net_kind_of inside l.port)
@@ -63,7 +63,7 @@ connections_of (Reg w x) = []
 connections_of (Memory w x n) = []
 connections_of (Always b) = []
 
--- the connections of the instance at a place of another
+-- the connections of the instance at an index in another
 abbrev pub connections_in : List ModuleTree → Flat → ℕ → ℕ → List Connection
 connections_in ms f k c =
     option_map_or (λ (t : Table). option_map_or (λ (ch : Child). option_map_or connections_of (slice_get (lines_at ms f k) ch.line) []) (slice_get t.children.items c) []) (table_at f k) []
@@ -77,7 +77,7 @@ joins_in ms f k r =
 abbrev pub join_edges : List ModuleTree → Flat → ℕ → List (ℕ × ℕ)
 join_edges ms f k = if k == 0 then [] else option_map_or (joins_in ms f k) (slice_get f.instances.items k) []
 
--- what a memory of the top answers rests on the place that it is asked for
+-- a memory's read data at the top depends on its address
 abbrev pub answer_edges : List Declaration → List Declaration → Declaration → List (ℕ × ℕ)
 answer_edges ds ports d = net_edges 0 ds d.name (asked_port ports d.name)
 

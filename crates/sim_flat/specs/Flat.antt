@@ -14,7 +14,7 @@ use Rattle.sim_flat.specs.declared.flat.Flat.{Flat}
 use Rattle.sim_flat.specs.Places.{DeclaredAt}
 use Rattle.sim_flat.specs.Tables.{AreTables}
 
--- a number is that of the name at a place of an instance
+-- a number is that of the name at an index in an instance
 pub record IsOwner (ms : List ModuleTree) (rows : List row.Instance) (first : List ℕ) (number k : ℕ) : Type 0 where
   pub there : k < length rows
   pub tree : ModuleTree
@@ -24,7 +24,7 @@ pub record IsOwner (ms : List ModuleTree) (rows : List row.Instance) (first : Li
   pub is : number ≡ get_or first k 0 + place
 
 -- The names of instance k have the numbers from the k-th first one on, in the order of the text, those of the top from 0 on; of
--- each number the instance is told. So no two have the same number.
+-- each number the instance is given. So no two have the same number.
 pub record AreNumbered (ms : List ModuleTree) (rows : List row.Instance) (first owners : List ℕ) : Type 0 where
   pub count : length first ≡ length rows
   pub starts : get_or first 0 0 ≡ 0
@@ -41,7 +41,7 @@ pub record IsFlat (ms : List ModuleTree) (top : ModuleTree) (f : Flat) : Type 0 
   pub instances : AreInstances ms top f.instances.items f.first_child.items
   pub numbers : AreNumbered ms f.instances.items f.first_net.items f.owners.items
 
--- a net of a flattened design, by its instance's number and its place there
+-- a net of a flattened design, by its instance's number and its index there
 pub record IsNetAt (ms : List ModuleTree) (f : Flat) (k j : ℕ) (n : FlatNet) : Type 0 where
   pub there : k < length f.instances.items
   pub stands : StandsAt ms f.instances.items k n.0
@@ -56,7 +56,7 @@ pub record HasNumber (ms : List ModuleTree) (f : Flat) (number : ℕ) (n : FlatN
   pub at : IsNetAt ms f instance place n
   pub is : number ≡ get_or f.first_net.items instance 0 + place
 
--- a port of an instance, and the net of the module around that it is joined to
+-- a port of an instance, and the net of the module around that it is connected to
 pub record AreJoined (ms : List ModuleTree) (top : ModuleTree) (port net : FlatNet) : Type 0 where
   pub tree : ModuleTree
   pub at : module_at ms top net.0 ≡ Some tree
@@ -69,7 +69,7 @@ pub record AreJoined (ms : List ModuleTree) (top : ModuleTree) (port net : FlatN
   pub port_is : port ≡ (name ∷ net.0, connection.port)
   pub net_is : net.1 ≡ connection.net
 
--- an answer tells the number of a net that another has its number from in the same cycle, by a connection
+-- an answer is the number of a net that another has its number from in the same cycle, by a connection
 pub record IsLink (ms : List ModuleTree) (top : ModuleTree) (f : Flat) (n : FlatNet) (J : FlatNet → FlatNet → Type 0) (answer : Option ℕ) : Type 0 where
   pub number : ℕ
   pub net : FlatNet

@@ -23,8 +23,8 @@ StandsAt ms rows k (i ∷ path) = (0 < k) × IsNamed ms rows k i × StandsAt ms 
 abbrev pub IsModuleOf : List ModuleTree → List Instance → ℕ → ModuleTree → Type 0
 IsModuleOf ms rows k m = slice_get ms (row_at rows k).kind ≡ Some m
 
--- Each number stands for the instance at the end of a path, and each instance has one number. Those in one instance have numbers
--- one behind the other, in the order of the text.
+-- Each number denotes the instance at the end of a path, and each instance has one number. Those in one instance have numbers
+-- one after the other, in the order of the text.
 pub record AreInstances (ms : List ModuleTree) (top : ModuleTree) (rows : List Instance) (first : List ℕ) : Type 0 where
   pub paths : (k : ℕ) → k < length rows → (path : Path) × StandsAt ms rows k path
   pub modules : (k : ℕ) (path : Path) → k < length rows → StandsAt ms rows k path → (m : ModuleTree) × (module_at ms top path ≡ Some m) × IsModuleOf ms rows k m

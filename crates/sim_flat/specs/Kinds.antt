@@ -1,4 +1,4 @@
--- The modules of instances by their places.
+-- The modules of instances by their indices.
 use Rattle.std.specs.Prelude.{ℕ, Bool, List, [], ◌∷◌, map}
 use Rattle.std.specs.List.{flat_map}
 use Rattle.std.specs.Option.{option_map_or}
@@ -9,7 +9,7 @@ use Rattle.vlog_tree.specs.Form.{ModuleTree}
 use Rattle.vlog_tree.specs.Table.{Name, declaration_name}
 use Rattle.vlog_scope.specs.NameTable.{places_from}
 
--- the first place of a name
+-- the first index of a name
 abbrev pub kind_place : List Declaration → Name → ℕ
 kind_place names x = option_map_or (λ (p : ℕ × Bool). p.0) (places_from 0 (map declaration_name names) x) 0
 
@@ -21,7 +21,7 @@ item_kinds names (Memory w x n) = []
 item_kinds names (Assign x e) = []
 item_kinds names (Always b) = []
 
--- the places of the modules of a module's instances
+-- the indices of the modules of a module's instances
 abbrev pub module_kinds : List Declaration → ModuleTree → List ℕ
 module_kinds names m = flat_map (item_kinds names) m.items
 

@@ -5,14 +5,14 @@ use Rattle.sim_flat.specs.declared.instances.Instance as row
 use Rattle.sim_flat.specs.Rows.{row_at}
 use Rattle.sim_flat.specs.declared.tables.Table.{Table}
 
--- how many names the module at a place declares, and the module of an instance
+-- how many names the module at an index declares, and the module of an instance
 abbrev pub names_at : List Table → ℕ → ℕ
 names_at tables kind = option_map_or (λ (t : Table). length t.sources.items) (slice_get tables kind) 0
 
 abbrev pub count_at : List Table → List row.Instance → ℕ → ℕ
 count_at tables rows k = names_at tables (row_at rows k).kind
 
--- The first n instances, each with so many names, have numbers for them, one instance behind the other.
+-- The first n instances, each with its count of names, have numbers for them, one instance after the other.
 pub record IsNumbering (count : ℕ → ℕ) (n : ℕ) (first owners : List ℕ) : Type 0 where
   pub len : length first ≡ n
   pub starts : get_or first 0 (length owners) ≡ 0

@@ -18,16 +18,18 @@ pub record IsNetOrder (ms : List ModuleTree) (top : ModuleTree) (f : Flat) (orde
   pub low : (i : ℕ) → i < length order → get_or order i 0 < length f.owners.items
   pub once : (i : ℕ) → i < length order → Has (take i order) (get_or order i 0) → ⊥
   pub all : (number : ℕ) → number < length f.owners.items → Has order number
-  pub parts_first : (i number : ℕ) (n part : FlatNet) → i < length order → HasNumber ms f (get_or order i 0) n → HasNumber ms f number part → Has (parts ms top true n) part → Has (take i order) number
+  pub parts_first : (i number : ℕ) (n part : FlatNet) → i < length order → HasNumber ms f (get_or order i 0) n → HasNumber ms f number part
+      → Has (parts ms top true n) part → Has (take i order) number
 
 -- the nets that a net's driver reads come before it; they are nets of the same instance
 abbrev pub DriversComeFirst : Type 0
 DriversComeFirst =
-    (ms : List ModuleTree) (top : ModuleTree) (f : Flat) (order : List ℕ) → IsFlat ms top f → IsNetOrder ms top f order → (i k j : ℕ) (n : FlatNet) → i < length order → (h : IsNetAt ms f k j n)
+    (ms : List ModuleTree) (top : ModuleTree) (f : Flat) (order : List ℕ) → IsFlat ms top f → IsNetOrder ms top f order
+    → (i k j : ℕ) (n : FlatNet) → i < length order → (h : IsNetAt ms f k j n)
     → get_or order i 0 ≡ get_or f.first_net.items k 0 + j → (line : ℕ) (e : Value) → slice_get h.tree.items line ≡ Some (Assign n.1 e) → (y : Name) → Has (value_nets e) y
     → (q : ℕ) × DeclaredAt h.tree q y × Has (take i order) (get_or f.first_net.items k 0 + q)
 
--- what a memory of the top answers comes behind the place that it is asked for; the top's nets have their places as numbers
+-- a memory's read data at the top comes after its address; the top's nets have their indices as numbers
 abbrev pub AskedComeFirst : Type 0
 AskedComeFirst =
     (ms : List ModuleTree) (top : ModuleTree) (f : Flat) (order : List ℕ) → IsFlat ms top f → IsNetOrder ms top f order → (i : ℕ) (x label : Name) → i < length order

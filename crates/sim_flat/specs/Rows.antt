@@ -1,11 +1,11 @@
--- Rows of instances as they grow: the first ones have the instances in them, which stand one behind the other.
+-- Rows of instances as they grow: the first ones have the instances in them, one after the other.
 use Rattle.std.specs.Prelude.{◌≡◌, ℕ, ◌+◌, ◌<◌, ◌≤◌, List, [], ◌∷◌, length, get_or}
 use Rattle.sim_flat.specs.declared.instances.Instance.{Instance}
 
 abbrev pub row_at : List Instance → ℕ → Instance
 row_at rows k = get_or rows k (record { kind = 0; around = 0; child = 0; depth = 0 })
 
--- the instances of one module in an instance, from a place on
+-- the instances of one module in an instance, from an index on
 abbrev pub rows_inside : ℕ → ℕ → ℕ → List ℕ → List Instance
 rows_inside around depth child [] = []
 rows_inside around depth child (k ∷ ks) = record { kind = k; around = around; child = child; depth = depth } ∷ rows_inside around depth (child + 1) ks
@@ -21,7 +21,7 @@ pub record IsPlaced (kinds : List (List ℕ)) (done s : ℕ) (row outer : Instan
   pub kind : row.kind ≡ get_or (kinds_at kinds outer.kind) row.child 0
   pub depth : row.depth ≡ outer.depth + 1
 
--- the instance with this number is the one at a place in another
+-- the instance with this number is the one at an index in another
 pub record IsInside (rows : List Instance) (s k c : ℕ) : Type 0 where
   pub there : s < length rows
   pub behind : k < s
@@ -41,7 +41,7 @@ pub record AreRows (kinds : List (List ℕ)) (top : ℕ) (rows : List Instance) 
 abbrev pub HaveDepth : List Instance → ℕ → ℕ → ℕ → Type 0
 HaveDepth rows low high depth = (s : ℕ) → low ≤ s → s < high → (row_at rows s).depth ≡ depth
 
--- more rows behind some
+-- more rows after some
 pub record AreMore (old new : List Instance) : Type 0 where
   pub count : length old ≤ length new
   pub same : (k : ℕ) → k < length old → row_at new k ≡ row_at old k

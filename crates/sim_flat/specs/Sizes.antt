@@ -25,7 +25,7 @@ abbrev pub own_sum : (ℕ → ℕ) → List Instance → ℕ
 own_sum own [] = 0
 own_sum own (r ∷ rs) = own r.kind + own_sum own rs
 
--- what the first instances have of their own, and what is counted in the modules of those behind them
+-- what the first instances have of their own, and what is counted in the modules of those after them
 abbrev pub sum_from : (ℕ → ℕ) → List ℕ → List Instance → ℕ → ℕ
 sum_from own counts rows done = own_sum own (take done rows) + own_sum (λ k. get_or counts k 0) (drop done rows)
 

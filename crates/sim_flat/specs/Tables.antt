@@ -1,4 +1,4 @@
--- What each module has, by places.
+-- What each module has, by indices.
 use Rattle.std.specs.Prelude.{◌≡◌, ◌⊎◌, ℕ, ◌<◌, Bool, true, false, List, Some, None, length, get_or, slice_get, map}
 use Rattle.vlog_tree.specs.declared.tree.Value.{Value}
 use Rattle.vlog_tree.specs.declared.tree.Connection.{Connection}
@@ -15,7 +15,7 @@ use Rattle.sim_flat.specs.declared.tables.Source.TheVariants as source
 use Rattle.sim_flat.specs.declared.tables.Table.{Table}
 use Rattle.sim_flat.specs.Places.{DeclaredAt}
 
--- the instance at a place among those of a module, and the line of it at a place among the module's lines
+-- the instance at an index among those of a module, and its line at an index among the module's lines
 pub record IsInstanceAt (ms : List ModuleTree) (m : ModuleTree) (line c : ℕ) : Type 0 where
   pub module_name : Name
   pub name : Name
@@ -25,8 +25,8 @@ pub record IsInstanceAt (ms : List ModuleTree) (m : ModuleTree) (line c : ℕ) :
   pub stands : slice_get m.items line ≡ Some (Instance module_name name connections)
   pub known : module_named ms module_name ≡ Some inner
 
--- among the connections of an instance in m is one of a port at a place of the instance's module, which is an input or not, and
--- a net at a place of m
+-- among the connections of an instance in m is one of a port at an index of the instance's module, which is an input or not, and
+-- a net at an index of m
 pub record IsConnected (ms : List ModuleTree) (m : ModuleTree) (module_name : Name) (connections : List Connection) (inner : ModuleTree) (is_input : Bool) (port net : ℕ) : Type 0 where
   pub connection : Connection
   pub connected : Has connections connection
@@ -34,11 +34,11 @@ pub record IsConnected (ms : List ModuleTree) (m : ModuleTree) (module_name : Na
   pub port_at : DeclaredAt inner port connection.port
   pub net_at : DeclaredAt m net connection.net
 
--- a port of the instance at a place among those of m drives the net at a place
+-- a port of the instance at an index among those of m drives the net at an index
 abbrev pub IsDrivenByPort : List ModuleTree → ModuleTree → ℕ → ℕ → ℕ → Type 0
 IsDrivenByPort ms m j c p = (line : ℕ) × (i : IsInstanceAt ms m line c) × IsConnected ms m i.module_name i.connections i.inner false p j
 
--- What the name at a place has its number from. It has none where it is the clock, a memory or an instance.
+-- What the name at an index has its number from. It has none where it is the clock, a memory or an instance.
 abbrev pub IsSource : List ModuleTree → ModuleTree → ℕ → Declaration → Source → Type 0
 IsSource ms m j d source.Nothing = (is_clk d.name ≡ true) ⊎ (net_kind_is_read d.net_kind ≡ false)
 IsSource ms m j d source.Register = d.net_kind ≡ kind.Register
@@ -46,7 +46,7 @@ IsSource ms m j d source.Input = (d.net_kind ≡ kind.Input) × (is_clk d.name �
 IsSource ms m j d (source.Line l) = (e : Value) × (slice_get m.items l ≡ Some (Assign d.name e))
 IsSource ms m j d (source.Child c p) = IsDrivenByPort ms m j c p
 
--- an instance by its place: its line, and for each input the place of the net that the input is joined to
+-- an instance by its index: its line, and for each input the index of the net that the input is connected to
 pub record IsChild (ms : List ModuleTree) (m : ModuleTree) (children : List Child) (c : ℕ) : Type 0 where
   pub child : Child
   pub got : slice_get children c ≡ Some child

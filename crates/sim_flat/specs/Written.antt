@@ -17,7 +17,7 @@ use Rattle.sim_flat.specs.declared.tables.Source.{Source}
 use Rattle.sim_flat.specs.declared.tables.Source.TheVariants as source
 use Rattle.sim_flat.specs.Places.{place_in, both}
 
--- a list after writes to places of it, one after another; a write past the end changes nothing
+-- a list after writes at indices of it, one after another; a write past the end changes nothing
 abbrev pub written : {A : Type 0} → List (ℕ × A) → List A → List A
 written [] xs = xs
 written (w ∷ ws) xs = written ws (slice_set xs w.0 w.1)
@@ -45,7 +45,7 @@ pub record AreScopes (ms : List ModuleTree) (s : Scopes) : Type 0 where
 abbrev pub inner_names : Scopes → Name → List Declaration
 inner_names s kn = unwrap_or (slice_get s.scopes.now (kind_place s.names.now kn)) s.none
 
--- the places of an input and of the net that it is joined to, and of another port and the net that it drives
+-- the indices of an input and of the net that it is connected to, and of another port and the net that it drives
 abbrev pub join_of : List Declaration → List Declaration → Connection → Option (ℕ × ℕ)
 join_of inner ds l = if net_kind_is_input (net_kind_of inner l.port) then both (place_in inner l.port) (place_in ds l.net) else None
 
@@ -70,7 +70,7 @@ joined_of inner ds connections = written (flat_map (join_writes inner ds) connec
 abbrev pub some_line : ℕ → ℕ → ℕ × Source
 some_line line p = (p, source.Line line)
 
--- what a line of a module writes: the line at a place, where so many instances stand before it
+-- what the line of a module at an index writes, where c instances come before it
 abbrev pub line_writes : Scopes → List Declaration → ℕ → ℕ → Item → List (ℕ × Source)
 line_writes s ds line c (Assign x e) = option_to_list (option_map (some_line line) (place_in ds x))
 line_writes s ds line c (Instance kn i connections) = flat_map (output_writes (inner_names s kn) ds c) connections

@@ -168,7 +168,7 @@ pub fn add_assigns(
     Ok(())
 }
 
-// An input rests on the net around that it is joined to, and a net on an output.
+// An input depends on the net around that it is connected to, and a net on an output.
 fn add_connection(
     edges: &mut Edges,
     base: usize,
@@ -209,7 +209,7 @@ pub fn add_connections(
     Ok(())
 }
 
-// What a memory answers rests on the place that it is asked for, where the top has ports for both.
+// A memory's read data depends on its address, where the top has ports for both.
 fn add_answer(
     alloc: Global,
     edges: &mut Edges,

@@ -17,7 +17,7 @@ use std::alloc::{AllocError, Global};
 use vlog_design::Design;
 
 /// The tables of the modules, the instances, of each instance the number of its first net and of the first instance in it, and
-/// of each net the number of its instance. A net has the number of its instance's first net and its place among the names of
+/// of each net the number of its instance. A net has the number of its instance's first net and its index among the names of
 /// the module together.
 #[derive(Drop)]
 pub struct Flat {
@@ -65,7 +65,7 @@ pub fn base_at(flat: &Flat, k: usize) -> usize
     }
 }
 
-// How many names the module at a place declares.
+// How many names the module at an index declares.
 fn names_of_kind(tables: &[Table], kind: usize) -> usize
     ensures { result ≡ names_at tables.now kind }
 {
@@ -100,7 +100,7 @@ fn add_instance(numbers: &mut Numbers, instance: usize, count: usize) -> Result<
     add_owners(&mut numbers.owners, instance, count)
 }
 
-// No numbers yet, with room for so many nets.
+// No numbers yet, with room for those of the given number of nets.
 fn no_numbers(alloc: Global, nets: usize) -> Result<Numbers, AllocError>
     ensures { IfOk result (λ n. (n.first.items ≡ []) × (n.owners.items ≡ [])) }
 {
@@ -124,11 +124,12 @@ fn numbers_of(none: Numbers, tables: &[Table], rows: &[Instance]) -> Result<Numb
 }
 
 /// Flattens a design. Its instances and nets are counted by modules, and room for them is taken before the first one is laid out, so
-/// that a text whose modules contain one another again and again is told at once where there is no such room. The flattened design is
+/// that a text whose modules contain one another again and again is refused at once where there is no such room. The flattened design is
 /// no smaller than that.
 pub fn flatten(alloc: Global, design: &Design) -> Result<Flat, AllocError>
     ensures flat { IfOk result (λ f. (m : ModuleTree) → TopOf design.now m → IsFlat design.now.modules m f) }
-    ensures needed { IfOk result (λ f. (m : ModuleTree) (s : SizesTree) → TopOf design.now m → AreSizes design.now f.tables.items s → AreReached s (length f.instances.items) (length f.owners.items)) }
+    ensures needed { IfOk result (λ f. (m : ModuleTree) (s : SizesTree) → TopOf design.now m → AreSizes design.now f.tables.items s
+        → AreReached s (length f.instances.items) (length f.owners.items)) }
 {
     let _modules = design.modules();
     let tables = tables_of(alloc, design)?;

@@ -17,7 +17,7 @@ use vlog_design::Design;
 use vlog_scope::Scope;
 use vlog_tree::Module;
 
-/// An instance: the place of its module, and, but for the top, the number of the instance around it and its place among the
+/// An instance: the index of its module, and, but for the top, the number of the instance around it and its index among the
 /// instances there; and how many instances are around it.
 #[derive(Clone, Copy)]
 pub struct Instance {
@@ -34,7 +34,7 @@ pub struct Instances {
     pub first: Vec<usize>,
 }
 
-/// The places of the modules of a module's instances, and none where there is no such module.
+/// The indices of the modules of a module's instances, and none where there is no such module.
 pub(crate) fn kinds_at(kinds: &[Vec<usize>], kind: usize) -> &[usize]
     ensures { result.now ≡ targets_of kinds.now kind }
 {
@@ -107,7 +107,7 @@ fn add_level(kinds: &[Vec<usize>], depth: usize, all: &mut Instances) -> Result<
     Ok(())
 }
 
-// The top, with room for so many instances.
+// The top, with room for the given number of instances.
 fn top_alone(alloc: Global, top: usize, room: usize) -> Result<Instances, AllocError>
     ensures first { IfOk result (λ v. length v.first.items ≡ 0) }
     ensures rows { IfOk result (λ v. length v.rows.items ≡ 1) }
@@ -164,7 +164,7 @@ fn numbered(
 }
 
 /// The instances of a design: number 0 is the top, and the instances in one have numbers one after the other, in the order of
-/// the text. Room for so many is taken first.
+/// the text. Room for the given number of them is taken first.
 pub fn instances_of(alloc: Global, design: &Design, room: usize) -> Result<Instances, AllocError>
     ensures instances { IfOk result (λ v. (m : ModuleTree) → TopOf design.now m → AreInstances design.now.modules m v.rows.items v.first.items) }
     ensures counted { IfOk result (λ v. (m : ModuleTree) → TopOf design.now m → (own : ℕ → ℕ) (counts : List ℕ)

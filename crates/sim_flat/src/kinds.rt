@@ -1,4 +1,4 @@
-// The modules of instances by their places.
+// The modules of instances by their indices.
 
 ghost use Rattle.std.specs.Prelude.{◌≡◌, ◌++◌, ◌∷◌, [], IfOk, OnOk};
 ghost use Rattle.number_graph.specs.Graphs.{rows_of};
@@ -9,7 +9,7 @@ use tapa_base::Text;
 use vlog_scope::Scope;
 use vlog_tree::{Item, Module};
 
-/// The place of a module's name among those of all modules.
+/// The index of a module's name among those of all modules.
 pub fn place_of(names: &Scope, name: &Text) -> usize
     ensures { result ≡ kind_place names.now name.now }
 {
@@ -53,7 +53,7 @@ fn push_row(out: &mut Vec<Vec<usize>>, row: Vec<usize>) -> Result<(), AllocError
     Ok(())
 }
 
-/// Of each module the places of the modules of its instances, in the order of the text.
+/// For each module, the indices of the modules of its instances, in the order of the text.
 pub(crate) fn kinds_of(
     alloc: Global,
     names: &Scope,

@@ -1,4 +1,4 @@
-// The nets at the other ends of connections.
+// The nets at the other sides of connections.
 
 ghost use Rattle.std.specs.Prelude.{◌≡◌, ◌+◌, ◌<◌, ◌^◌, true, Some, None, ℕ, List, get_or};
 ghost use Rattle.vlog_tree.specs.Form.{ModuleTree};
@@ -34,7 +34,7 @@ fn joined_at(joined: &[Option<usize>], place: usize) -> Option<usize>
     }
 }
 
-// The place of the net that an input is joined to, by the places of the input and of its instance.
+// The index of the net that an input is connected to, by the indices of the input and of its instance.
 fn joined_in(flat: &Flat, instance: usize, child: usize, port: usize) -> Option<usize>
     ensures { result ≡ joined_lem flat.now instance child port }
 {
@@ -47,7 +47,7 @@ fn joined_in(flat: &Flat, instance: usize, child: usize, port: usize) -> Option<
     }
 }
 
-// The number of the net around an instance that an input of the instance is joined to.
+// The number of the net around an instance that an input of the instance is connected to.
 fn number_around(flat: &Flat, around: usize, child: usize, port: usize) -> Option<usize>
     ensures { (q : ℕ) → joined_lem flat.now around child port ≡ Some q → base_lem flat.now around + q < 2 ^ 64 → result ≡ Some (base_lem flat.now around + q) }
 {
@@ -57,7 +57,7 @@ fn number_around(flat: &Flat, around: usize, child: usize, port: usize) -> Optio
     }
 }
 
-// The number of a port of the instance with this number, or of one so far behind it.
+// The number of a port of the instance with this number plus an offset.
 fn number_inside(flat: &Flat, first: usize, child: usize, port: usize) -> Option<usize>
     ensures { first + child < 2 ^ 64 → base_lem flat.now (first + child) + port < 2 ^ 64 → result ≡ Some (base_lem flat.now (first + child) + port) }
 {
@@ -67,7 +67,7 @@ fn number_inside(flat: &Flat, first: usize, child: usize, port: usize) -> Option
     }
 }
 
-/// The number of the net that an input of an instance is joined to.
+/// The number of the net that an input of an instance is connected to.
 pub fn net_around(flat: &Flat, instance: usize, place: usize) -> Option<usize>
     ensures { (ms : List ModuleTree) (top : ModuleTree) (n : FlatNet) → IsFlat ms top flat.now → 0 < instance → (h : IsNetAt ms flat.now instance place n)
         → net_kind_is_input (net_kind_of (declared h.tree) n.1) ≡ true → IsLink ms top flat.now n (λ a b. AreJoined ms top a b) result }
@@ -79,7 +79,7 @@ pub fn net_around(flat: &Flat, instance: usize, place: usize) -> Option<usize>
     }
 }
 
-/// The number of a port of an instance in another, by the places of both.
+/// The number of a port of an instance in another, by the indices of both.
 pub fn net_inside(flat: &Flat, instance: usize, child: usize, port: usize) -> Option<usize>
     ensures { (ms : List ModuleTree) (top : ModuleTree) (j : ℕ) (n : FlatNet) → IsFlat ms top flat.now → (h : IsNetAt ms flat.now instance j n)
         → IsDrivenByPort ms h.tree j child port → IsLink ms top flat.now n (λ a b. AreJoined ms top b a) result }

@@ -46,7 +46,7 @@ fn connections_of(item: &Item) -> &[Connection]
     }
 }
 
-// The connections of the instance at a place of another.
+// The connections of the instance at an index in another.
 fn connections_in<'a>(
     flat: &Flat,
     modules: &'a [Module],

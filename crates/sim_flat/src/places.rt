@@ -6,7 +6,7 @@ ghost use Rattle.sim_flat.specs.Places.{place_in as place_lem, number_in as numb
 use tapa_base::Text;
 use vlog_scope::Scope;
 
-/// The first place of a name.
+/// The first index of a name.
 pub fn place_in(scope: &Scope, name: &Text) -> Option<usize>
     ensures place { result ≡ place_lem scope.now name.now }
     ensures low { IfSome result (λ p. p < length scope.now) }

@@ -111,7 +111,7 @@ fn steps_of(alloc: Global, kinds: &[Vec<usize>]) -> Result<Vec<(usize, usize)>, 
     Ok(edges)
 }
 
-// The modules of a design, each after those of its instances. Only how well it is counted rests on it.
+// The modules of a design, each after those of its instances. Only how well it is counted depends on this order.
 fn order_of_kinds(alloc: Global, kinds: &[Vec<usize>]) -> Result<Vec<usize>, AllocError> {
     let edges = steps_of(alloc, kinds)?;
     let graph = Graph::of(alloc, kinds.len(), &edges)?;

@@ -1,4 +1,4 @@
-// What each module has, by places: of its names, and of its instances.
+// What each module has, by indices: of its names, and of its instances.
 
 ghost use Rattle.std.specs.Prelude.{◌≡◌, ◌+◌, ◌++◌, ◌∷◌, [], List, Some, None, IfOk, OnOk, length, map, replicate, slice_set, option_to_list};
 ghost use Rattle.std.specs.List.{flat_map};
@@ -20,8 +20,8 @@ use vlog_rules::{is_clock, is_input};
 use vlog_scope::Scope;
 use vlog_tree::{Connection, Item, Module, NetKind};
 
-/// An instance in a module: the place of its line among the module's lines, and by the place of an input of its module the
-/// place of the net that the input is joined to.
+/// An instance in a module: the index of its line among the module's lines, and by the index of an input of its module the
+/// index of the net that the input is connected to.
 #[derive(Drop)]
 pub struct Child {
     pub line: usize,
@@ -127,7 +127,7 @@ fn set_joined(joined: &mut Vec<Option<usize>>, place: usize, net: usize)
     }
 }
 
-// The places of an input of an instance and of the net that it is joined to.
+// The indices of an input of an instance and of the net that it is connected to.
 fn join_of(inner: &Scope, scope: &Scope, connection: &Connection) -> Option<(usize, usize)>
     ensures { result ≡ join_lem inner.now scope.now connection.now }
 {
@@ -141,7 +141,7 @@ fn join_of(inner: &Scope, scope: &Scope, connection: &Connection) -> Option<(usi
     }
 }
 
-// The places of an output of an instance and of the net that it drives.
+// The indices of an output of an instance and of the net that it drives.
 fn output_of(inner: &Scope, scope: &Scope, connection: &Connection) -> Option<(usize, usize)>
     ensures { result ≡ output_lem inner.now scope.now connection.now }
 {

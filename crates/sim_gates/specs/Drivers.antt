@@ -31,6 +31,6 @@ abbrev pub IsDriven : List Declaration → List (Option Pair) → List (Option P
 IsDriven ds pairs memories bits e t p =
     (cells : Cells) (ns : List ℕ) (s : Sizes) (c : Cycle) → IsSolved t cells ns → ShowsNets ds pairs s c ns → ShowsMemories ds memories s c cells → driven s bits c e ≡ pair_value ns p
 
--- a cell at a place of 128 bits: there is none past 2^64
+-- a cell at an address of 128 bits: there is none past 2^64
 abbrev pub cell_at : Cells → ℕ → ℕ → ℕ
 cell_at cells m a = if nat_lt a (2 ^ 64) then cell_in cells m a else 0

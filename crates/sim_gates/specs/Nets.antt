@@ -1,4 +1,4 @@
--- Where nets stand on a tape, and when slots and cells show the numbers of a cycle.
+-- Which slots of a tape nets have, and when slots and cells show the numbers of a cycle.
 use Rattle.std.specs.Prelude.{◌≡◌, ℕ, ◌*◌, ◌+◌, ◌<◌, ◌^◌, Bool, List, Option, Some, None, IsSome, IsTrue, get_or, map}
 use Rattle.vlog_tree.specs.declared.table.Declaration.{Declaration}
 use Rattle.vlog_tree.specs.Table.{Name, declaration_name, bits_of, cells_of}
@@ -12,7 +12,7 @@ use Rattle.sim_tape.specs.Operators.{Cells, cell_in}
 use Rattle.sim_tape.specs.Tape.{TapeTree, pair_value, PairBefore}
 use Rattle.sim_tape.specs.Solved.{IsSolved}
 
--- the pair at the first place of a name
+-- the pair at the first index of a name
 abbrev pub pair_in : List Declaration → List (Option Pair) → Name → Option Pair
 pair_in ds pairs x = and_then (places_from 0 (map declaration_name ds) x) (λ (p : ℕ × Bool). get_or pairs p.0 None)
 
@@ -20,7 +20,7 @@ pair_in ds pairs x = and_then (places_from 0 (map declaration_name ds) x) (λ (p
 abbrev pub HavePairs : List Declaration → List (Option Pair) → List Name → Type 0
 HavePairs ds pairs xs = (x : Name) → Has xs x → IsSome (pair_in ds pairs x)
 
--- the slots of all nets come before a place
+-- the slots of all nets are below n
 abbrev pub SlotsBefore : List (Option Pair) → ℕ → Type 0
 SlotsBefore pairs n = (i : ℕ) (p : Pair) → get_or pairs i None ≡ Some p → PairBefore n p
 
@@ -32,7 +32,7 @@ pub record ShowsNets (ds : List Declaration) (pairs : List (Option Pair)) (s : S
   pub width : (x : Name) (p : Pair) → pair_in ds pairs x ≡ Some p → s.width x ≡ bits_of ds x
 
 -- The memories that have the numbers of two lists of cells have in them the low and the high halves of what they have in a
--- cycle, 0 past the end; it fits their widths, and they have as many cells as are declared.
+-- cycle, 0 past the end; it fits their widths, and they have the number of cells that is declared.
 pub record ShowsMemories (ds : List Declaration) (memories : List (Option Pair)) (s : Sizes) (c : Cycle) (cells : Cells) : Type 0 where
   pub value : (m : Name) (q : Pair) → pair_in ds memories m ≡ Some q → (a : ℕ) → read_cell s c m a ≡ cell_in cells q.high a * 2 ^ 64 + cell_in cells q.low a
   pub fits : (m : Name) (q : Pair) → pair_in ds memories m ≡ Some q → (a : ℕ) → read_cell s c m a < 2 ^ bits_of ds m

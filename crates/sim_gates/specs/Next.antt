@@ -1,4 +1,4 @@
--- What registers and memories have in the next cycle, told by the numbers of slots in this one.
+-- What registers and memories have in the next cycle, by the numbers of slots in this one.
 use Rattle.std.specs.Prelude.{◌≡◌, ℕ, Bool, ◌&&◌, List, [], ◌∷◌, Option, Some, None, get_or, is_some, nat_lt, ◌==◌, if◌then◌else◌}
 use Rattle.vlog_tree.specs.declared.tree.Step.{Step}
 use Rattle.vlog_tree.specs.declared.tree.Item.{Item}
@@ -13,7 +13,7 @@ use Rattle.sim_gates.specs.declared.parts.Part.{Part}
 use Rattle.sim_gates.specs.declared.writes.Store.{Store}
 use Rattle.sim_gates.specs.Parts.{parts_run, WalkShows}
 
--- whether a store writes this cell of the memory with these two numbers, which has so many cells
+-- whether a store writes this cell of the memory with these two numbers, which has `count` cells
 abbrev pub hits : List ℕ → ℕ → Pair → ℕ → Store → Bool
 hits ns count q a t = (number_at ns t.on == 1) && ((t.memory.low == q.low) && (a == pair_value ns t.at) && nat_lt (pair_value ns t.at) count)
 
@@ -44,11 +44,11 @@ AreApart ds memories = (m k : Name) (p q : Pair) → pair_in ds memories m ≡ S
 abbrev pub AreKnown : List Declaration → List (Option Pair) → List Store → Type 0
 AreKnown ds memories stores = (t : Store) → Has stores t → (m : Name) × (pair_in ds memories m ≡ Some t.memory)
 
--- pairs stand at the same places
+-- pairs are at the same indices
 abbrev pub SamePlaces : List (Option Pair) → List (Option Pair) → Type 0
 SamePlaces old new = (i : ℕ) → is_some (get_or new i None) ≡ is_some (get_or old i None)
 
--- the pair at one place has the number of another where a slot is 1, and nothing else changes
+-- the pair at one index has the number of another where a slot is 1, and nothing else changes
 abbrev pub IsPut : List ℕ → ℕ → Pair → ℕ → List (Option Pair) → List (Option Pair) → Type 0
 IsPut ns on value place old new =
     (i : ℕ) (p : Pair) → get_or new i None ≡ Some p

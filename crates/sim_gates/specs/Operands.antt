@@ -1,4 +1,4 @@
--- Which operator of a tape stands for which of the Verilog subset.
+-- Which operator of a tape means which of the Verilog subset.
 use Rattle.vlog_tree.specs.declared.tree.BinaryOp.{BinaryOp}
 use Rattle.vlog_tree.specs.declared.tree.BinaryOp.TheVariants as binary
 use Rattle.sim_tape.specs.declared.gates.Operator.{Operator}

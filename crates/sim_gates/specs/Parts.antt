@@ -1,4 +1,4 @@
--- The parts of a clocked block that are open, told by the numbers of slots.
+-- The parts of a clocked block that are open, by the numbers of slots.
 use Rattle.std.specs.Prelude.{◌≡◌, ℕ, ◌<◌, Bool, true, not, List, [], ◌∷◌, map, ◌==◌, if◌then◌else◌}
 use Rattle.std.specs.List.{list_all}
 use Rattle.vlog_tree.specs.declared.tree.Step.{Step}
@@ -24,7 +24,7 @@ abbrev pub WalkShows : List ℕ → ℕ → List Part → Type 0
 WalkShows ns on [] = number_at ns on ≡ 1
 WalkShows ns on (p ∷ parts) = (number_at ns on ≡ (if part_runs ns p then number_at ns p.around else 0)) × WalkShows ns p.around parts
 
--- the slots of open parts come before a place
+-- the slots of open parts are below n
 abbrev pub WalkBefore : ℕ → ℕ → List Part → Type 0
 WalkBefore n on [] = on < n
 WalkBefore n on (p ∷ parts) = (on < n) × (p.test < n) × WalkBefore n p.around parts

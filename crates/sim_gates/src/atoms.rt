@@ -35,7 +35,7 @@ pub fn literal(tape: &mut Tape, n: u128) -> Result<Pair, AllocError>
     Ok(Pair { low, high })
 }
 
-// The bits of a slot from a low one on, so many, as a gate.
+// The given number of bits of a slot, from a low one on, as a gate.
 fn cut_part(tape: &mut Tape, slot: u32, low: u32, bits: u32) -> Result<Pair, AllocError>
     requires tape { IsTape (tree_of tape.old) }
     requires slot { slot < length (tree_of tape.old).gates }
@@ -70,7 +70,7 @@ fn short_part(tape: &mut Tape, slot: u32, low: u32, bits: u32) -> Result<Pair, A
     Ok(Pair { low: slot, high: 0 })
 }
 
-// The bits of a pair from a low one on, so many, as a shift and a cut of numbers of 128 bits.
+// The given number of bits of a pair, from a low one on, as a shift and a cut of numbers of 128 bits.
 fn long_part(tape: &mut Tape, pair: Pair, low: u32, bits: u32) -> Result<Pair, AllocError>
     requires tape { IsTape (tree_of tape.old) }
     requires pair { PairBefore (length (tree_of tape.old).gates) pair }

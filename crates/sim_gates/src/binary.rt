@@ -84,7 +84,7 @@ fn two_gates(
     Ok(Pair { low, high })
 }
 
-/// A pair with what an operator makes of two pairs of so many bits each, for a target of some bits.
+/// A pair with what an operator makes of two pairs of `bits` bits each, for a target of some bits.
 pub fn pair_of_operator(
     tape: &mut Tape,
     bits: u32,

@@ -17,7 +17,7 @@ use sim_tape::{Operator, Pair, Tape};
 use std::alloc::AllocError;
 use tapa_base::Text;
 
-// Half of a cell at a place of at most 64 bits.
+// Half of a cell at an address of at most 64 bits.
 fn near_half(tape: &mut Tape, memory: u32, at: Pair) -> Result<u32, AllocError>
     requires tape { IsTape (tree_of tape.old) }
     requires at { PairBefore (length (tree_of tape.old).gates) at }
@@ -30,7 +30,7 @@ fn near_half(tape: &mut Tape, memory: u32, at: Pair) -> Result<u32, AllocError>
     Ok(cell)
 }
 
-// Half of a cell at a place: none is read past 2^64.
+// Half of a cell at an address: none is read past 2^64.
 fn half_of_cell(tape: &mut Tape, memory: u32, at: Pair, is_narrow: bool) -> Result<u32, AllocError>
     requires tape { IsTape (tree_of tape.old) }
     requires at { PairBefore (length (tree_of tape.old).gates) at }
@@ -47,7 +47,7 @@ fn half_of_cell(tape: &mut Tape, memory: u32, at: Pair, is_narrow: bool) -> Resu
     Ok(half)
 }
 
-/// A pair with a memory's cell whose place is on a net.
+/// A pair with a memory's cell whose address is on a net.
 pub(crate) fn pair_of_cell(
     tape: &mut Tape,
     nets: &Nets,

@@ -19,7 +19,7 @@ use std::alloc::AllocError;
 use vlog_tree::{Atom, BinaryOp, Value};
 use vlog_values::value_of;
 
-// The number that has 1 in each of some copies of so many bits.
+// The number that has 1 in each of `count` copies of `bits` bits.
 fn one_in_each(bits: u32, count: u32) -> Option<u128>
     ensures { result ≡ fitting (copies bits 1 count) }
 {

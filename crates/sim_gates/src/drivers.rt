@@ -29,7 +29,8 @@ pub fn pair_of_driver(
     ensures slots { IfOk result (λ o. IfSome o (λ p. PairBefore (length (tree_of tape.new).gates) p)) }
     ensures says { IsTrue (value_fits nets.now.scope.now bits value.now)
         → IfOk result (λ o. IfSome o (λ p. IsDriven nets.now.scope.now nets.now.pairs.now nets.now.memories.now bits value.now (tree_of tape.new) p)) }
-    ensures some { bits ≤ 128 → IsTrue (value_fits nets.now.scope.now bits value.now) → HasParts nets.now.scope.now nets.now.pairs.now nets.now.memories.now value.now → IfOk result (λ o. IsSome o) }
+    ensures some { bits ≤ 128 → IsTrue (value_fits nets.now.scope.now bits value.now) → HasParts nets.now.scope.now nets.now.pairs.now nets.now.memories.now value.now
+        → IfOk result (λ o. IsSome o) }
 {
     if bits > 128 {
         return Ok(None);

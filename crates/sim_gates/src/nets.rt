@@ -1,4 +1,4 @@
-// Where the nets of a module stand on a tape.
+// Which slots of a tape the nets of a module have.
 
 ghost use Rattle.std.specs.Prelude.{◌≡◌, ◌+◌, ◌-◌, get_or};
 ghost use Rattle.vlog_tree.specs.Table.{bits_of};

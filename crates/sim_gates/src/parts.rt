@@ -105,7 +105,8 @@ fn turn_part(tape: &mut Tape, walk: &mut Walk) -> Result<bool, AllocError>
     ensures value { IfOk result (λ done. OnTrue done (Says (tree_of tape.new)
         (λ cells ns. (s : Sizes) (c : Cycle) → WalkShows ns walk.old.on (reverse walk.old.parts.items)
         → IsTurned s c ns steps.Else (reverse walk.old.parts.items) walk.new.on (reverse walk.new.parts.items)))) }
-    ensures some { (parts : List Bool) → elses (reverse walk.old.parts.items) ≡ false ∷ parts → IfOk result (λ done. IsTrue done × (elses (reverse walk.new.parts.items) ≡ true ∷ parts)) }
+    ensures some { (parts : List Bool) → elses (reverse walk.old.parts.items) ≡ false ∷ parts
+        → IfOk result (λ done. IsTrue done × (elses (reverse walk.new.parts.items) ≡ true ∷ parts)) }
 {
     let Some(part) = walk.parts.pop() else {
         return Ok(false);

@@ -30,7 +30,7 @@ pub struct Store {
     pub value: Pair,
 }
 
-/// What the blocks of a module leave: by the places of its names the pairs with the numbers that nets have in the next cycle,
+/// What the blocks of a module leave: by the indices of its names the pairs with the numbers that nets have in the next cycle,
 /// and the stores, in the order of the text.
 #[derive(Drop)]
 pub struct Writes {
@@ -47,7 +47,7 @@ fn pair_at(pairs: &[Option<Pair>], place: usize) -> Option<Pair>
     }
 }
 
-// The pair of a place gets another number where a slot is 1; false where the place has none.
+// The pair at an index gets another number where a slot is 1; false where there is none.
 fn put_at(
     tape: &mut Tape,
     on: u32,

@@ -7,14 +7,14 @@ use Rattle.vlog_tree.specs.Cycle.{Cycle, Path}
 use Rattle.vlog_tree.specs.Environment.{Environment, FitsShape, shape_of}
 use Rattle.vlog_tree.specs.Refused.{IsDesign}
 use Rattle.vlog_design.specs.Designs.{DesignTree, TopOf}
-use Rattle.cycle_sim.specs.Sims.{SimTree, InRuns, IsFirst, IsDoneAt, last_cycle}
+use Rattle.cycle_sim.specs.Sims.{SimTree, InRuns, IsNewSim, IsDoneAt, last_cycle}
 use Rattle.sim_output.specs.Ending.{EndsSo, HasFront, end_of}
 use Rattle.sim_output.proofs.Simulating.{contents, zeros, only, of_run, ends}
 use Rattle.sim_output.specs.Dumped.{dump_of, IsDumped}
 use Rattle.sim_output.proofs.Going.{some_done_at}
 use Rattle.sim_output.proofs.Writing.{IsPartWritten}
 
-module _ (design : DesignTree) (env : Environment) (limit : ℕ) (top : ModuleTree) (is_top : TopOf design top) (is_design : IsDesign design.modules design.top) (fits : FitsShape env (shape_of top)) (first : SimTree) (is_first : IsFirst design env 0 first) where
+module _ (design : DesignTree) (env : Environment) (limit : ℕ) (top : ModuleTree) (is_top : TopOf design top) (is_design : IsDesign design.modules design.top) (fits : FitsShape env (shape_of top)) (first : SimTree) (is_first : IsNewSim design env 0 first) where
   abbrev nets : ℕ → Path → Cycle
   nets = (only design env limit top is_top is_design fits).run
 

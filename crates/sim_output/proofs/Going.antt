@@ -4,7 +4,7 @@ use Rattle.std.specs.Prelude.{◌⊎◌, ◌≢◌}
 use Rattle.std.proofs.lemmas.Bool.{cases_eq}
 use Rattle.vlog_tree.specs.Form.{ModuleTree}
 use Rattle.vlog_tree.specs.Cycle.{Cycle, Path}
-use Rattle.vlog_tree.specs.Environment.{Environment, FitsShape, RunsIn, IsDone, shape_of}
+use Rattle.vlog_tree.specs.Environment.{Environment, FitsShape, RunsIn, RaisesDone, shape_of}
 use Rattle.vlog_tree.specs.Labels as label
 use Rattle.vlog_design.specs.Designs.{DesignTree, TopOf}
 use Rattle.cycle_sim.specs.Told.{IsToldOf}
@@ -29,9 +29,9 @@ module _ (first now : SimTree) (n : ℕ) (run : IsLater first now n) where
 
 -- none of the cycles before was the last
 abbrev pub IsGoing : (ℕ → Cycle) → ℕ → Type 0
-IsGoing run n = (j : ℕ) → j < n → IsDone run j → ⊥
+IsGoing run n = (j : ℕ) → j < n → RaisesDone run j → ⊥
 
-pub not_at_first : (run : ℕ → Cycle) → IsDone run 0 → ⊥
+pub not_at_first : (run : ℕ → Cycle) → RaisesDone run 0 → ⊥
 not_at_first run d = (let low : 1 ≤ 0 = d.0 in absurd (omega arith))
 
 -- so the last comes later
@@ -45,18 +45,18 @@ goes_to run limit n (Some k) done low going = by_order (cases_less k n) where
   by_order (inl less) = absurd (going k less done.1)
   by_order (inr h) = h
 
-pub going_on : (run : ℕ → Cycle) (n : ℕ) → IsGoing run n → (IsDone run n → ⊥) → IsGoing run (n + 1)
+pub going_on : (run : ℕ → Cycle) (n : ℕ) → IsGoing run n → (RaisesDone run n → ⊥) → IsGoing run (n + 1)
 going_on run n going not_now j low d = by_case (cases_eq j n) where
   by_case : (j ≡ n) ⊎ (j ≢ n) → ⊥
-  by_case (inl e) = not_now (subst (λ (k : ℕ). IsDone run k) e d)
+  by_case (inl e) = not_now (subst (λ (k : ℕ). RaisesDone run k) e d)
   by_case (inr ne) = going j (omega arith) d
 
 -- ---- a design is done first in some cycle, or in none up to a limit
 
-one_more : (run : ℕ → Cycle) (n : ℕ) → ((j : ℕ) → j ≤ n → IsDone run j → ⊥) → ((run (suc n)).net label.done ≡ 1) ⊎ ((run (suc n)).net label.done ≢ 1) → (at : Option ℕ) × IsDoneAt run (suc n) at
+one_more : (run : ℕ → Cycle) (n : ℕ) → ((j : ℕ) → j ≤ n → RaisesDone run j → ⊥) → ((run (suc n)).net label.done ≡ 1) ⊎ ((run (suc n)).net label.done ≢ 1) → (at : Option ℕ) × IsDoneAt run (suc n) at
 one_more run n none (inl is) = (Some (suc n), (omega arith, (omega arith, is), λ j low d. none j (omega arith) d))
 one_more run n none (inr not) = (None, λ j low d. by_case j low d (cases_eq j (suc n))) where
-  by_case : (j : ℕ) → j ≤ suc n → IsDone run j → (j ≡ suc n) ⊎ (j ≢ suc n) → ⊥
+  by_case : (j : ℕ) → j ≤ suc n → RaisesDone run j → (j ≡ suc n) ⊎ (j ≢ suc n) → ⊥
   by_case j low d (inl e) = not (subst (λ (k : ℕ). (run k).net label.done ≡ 1) e d.1)
   by_case j low d (inr ne) = none j (omega arith) d
 

@@ -11,7 +11,7 @@ use Rattle.run_data.specs.Report.{stream_line, memory_line, last_line}
 use Rattle.vlog_tree.specs.declared.tree.Item.{Item}
 use Rattle.vlog_tree.specs.declared.tree.Item.TheVariants.{Wire, Reg, Memory, Assign, Always, Instance}
 use Rattle.vlog_tree.specs.Cycle.{Cycle, Path}
-use Rattle.vlog_tree.specs.Environment.{Environment, shape_of, streams_of, tokens, token_of, carried, cells_at, set_cell, IsDone}
+use Rattle.vlog_tree.specs.Environment.{Environment, shape_of, streams_of, tokens, token_of, carried, cells_at, set_cell, RaisesDone}
 use Rattle.vlog_tree.specs.Form.{ModuleTree}
 use Rattle.vlog_tree.specs.Labels.{done, m_ack, m_we, m_addr, m_wdata, s_wr, s_rdy, s_din}
 use Rattle.vlog_tree.specs.Refused.{IsDesign}
@@ -65,10 +65,10 @@ module _ (a b : ℕ → Cycle) where
 
 -- the first cycle in which it is done is one
 module _ (a b : ℕ → Cycle) (same : Agree a b done) (limit : ℕ) where
-  there : (n : ℕ) → IsDone a n → IsDone b n
+  there : (n : ℕ) → RaisesDone a n → RaisesDone b n
   there n d = (d.0, sym (same n) ∙ d.1)
 
-  back : (n : ℕ) → IsDone b n → IsDone a n
+  back : (n : ℕ) → RaisesDone b n → RaisesDone a n
   back n d = (d.0, same n ∙ d.1)
 
   pub done_once : (o p : Option ℕ) → IsDoneAt a limit o → IsDoneAt b limit p → o ≡ p

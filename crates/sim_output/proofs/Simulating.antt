@@ -20,7 +20,7 @@ use Rattle.vlog_run_laws.proofs.runs.Filled as fill
 use Rattle.vlog_run_laws.proofs.runs.Surround.{one_run_from}
 use Rattle.vlog_design.specs.Environments.{lists_of}
 use Rattle.cycle_sim.specs.Told.{IsToldOf}
-use Rattle.cycle_sim.specs.Sims.{SimTree, InRuns, IsFirst, IsLater, IsDoneAt, last_cycle}
+use Rattle.cycle_sim.specs.Sims.{SimTree, InRuns, IsNewSim, IsLater, IsDoneAt, last_cycle}
 use Rattle.sim_output.specs.Ending.{Telling, EndsSo, end_of}
 use Rattle.sim_output.specs.Reports.{stream_lines, memory_lines, streams_to, memories_at, last_of, IsSimulated}
 
@@ -52,7 +52,7 @@ module _ (design : DesignTree) (env : Environment) (limit : ℕ) (top : ModuleTr
   abbrev pub nets : ℕ → Path → Cycle
   nets = only.run
 
-  module _ (first : SimTree) (is_first : IsFirst design env 0 first) where
+  module _ (first : SimTree) (is_first : IsNewSim design env 0 first) where
     -- what holds of each run that the simulator tells of holds of the run
     pub of_run : (P : ModuleTree → Environment → (ℕ → Path → Cycle) → Type 0) → InRuns first P → P top env nets
     of_run P h =

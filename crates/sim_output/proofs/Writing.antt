@@ -9,7 +9,7 @@ use Rattle.tapa_files.proofs.Known.{appends_none, appends_both, part_so_far, par
 use Rattle.vlog_tree.specs.Form.{ModuleTree}
 use Rattle.vlog_tree.specs.Refused.{IsDesign}
 use Rattle.vlog_tree.specs.Cycle.{Cycle, Path}
-use Rattle.vlog_tree.specs.Environment.{IsDone}
+use Rattle.vlog_tree.specs.Environment.{RaisesDone}
 use Rattle.vlog_design.specs.Designs.{DesignTree, TopOf}
 use Rattle.cycle_sim.specs.Told.{IsToldOf}
 use Rattle.cycle_sim.specs.Sims.{SimTree, InRuns, IsNext, IsLater, IsDoneAt, last_cycle}
@@ -111,18 +111,18 @@ pub fewer : (first : SimTree) (n : ℕ) → AreGoing first (n + 1) → AreGoing 
 fewer first n going m env nets at f ready r told j low = going m env nets at f ready r told j (omega arith)
 
 pub none_yet : (first : SimTree) → AreGoing first 1
-none_yet first m env nets at f ready r told j low d = let zero : j ≡ 0 = omega arith in not_at_first (λ n. nets n []) (subst (λ (k : ℕ). IsDone (λ n. nets n []) k) zero d)
+none_yet first m env nets at f ready r told j low d = let zero : j ≡ 0 = omega arith in not_at_first (λ n. nets n []) (subst (λ (k : ℕ). RaisesDone (λ n. nets n []) k) zero d)
 
 module _ (first next : SimTree) (n : ℕ) (later : IsLater first next n) (going : AreGoing first n) where
-  pub still_going : InRuns next (λ m env nets. IsDone (λ n. nets n []) next.told.cycle → ⊥) → AreGoing first (n + 1)
+  pub still_going : InRuns next (λ m env nets. RaisesDone (λ n. nets n []) next.told.cycle → ⊥) → AreGoing first (n + 1)
   still_going not_now m env nets at f ready r told =
       going_on (λ n. nets n []) n (going m env nets at f ready r told)
-      (λ d. from_later first next n later (λ m env nets. IsDone (λ n. nets n []) next.told.cycle → ⊥) not_now m env nets at f ready r told (subst (λ (k : ℕ). IsDone (λ n. nets n []) k) (sym later.at) d))
+      (λ d. from_later first next n later (λ m env nets. RaisesDone (λ n. nets n []) next.told.cycle → ⊥) not_now m env nets at f ready r told (subst (λ (k : ℕ). RaisesDone (λ n. nets n []) k) (sym later.at) d))
 
-  pub done_here : (limit : ℕ) → n ≤ limit → InRuns next (λ m env nets. IsDone (λ n. nets n []) next.told.cycle) → InRuns first (λ m env nets. IsDoneAt (λ n. nets n []) limit (Some n))
+  pub done_here : (limit : ℕ) → n ≤ limit → InRuns next (λ m env nets. RaisesDone (λ n. nets n []) next.told.cycle) → InRuns first (λ m env nets. IsDoneAt (λ n. nets n []) limit (Some n))
   done_here limit low done m env nets at f ready r told = (
     low,
-    subst (λ (k : ℕ). IsDone (λ n. nets n []) k) later.at (from_later first next n later (λ m env nets. IsDone (λ n. nets n []) next.told.cycle) done m env nets at f ready r told),
+    subst (λ (k : ℕ). RaisesDone (λ n. nets n []) k) later.at (from_later first next n later (λ m env nets. RaisesDone (λ n. nets n []) next.told.cycle) done m env nets at f ready r told),
     going m env nets at f ready r told,
   )
 

@@ -28,7 +28,8 @@ FitsDesign design env = (m : ModuleTree) → TopOf design m → FitsShape env (s
 -- the dump of a design in an environment that fits it is a value change dump of the nets of its top, with their values in the run
 abbrev pub DumpsAreDumps : Type 0
 DumpsAreDumps =
-    (design : DesignTree) → IsDesign design.modules design.top → (env : Environment) → FitsDesign design env → (limit : ℕ) (at : Option ℕ) (text : List ℕ) (h : IsDumped design env limit at text)
+    (design : DesignTree) → IsDesign design.modules design.top → (env : Environment) → FitsDesign design env
+    → (limit : ℕ) (at : Option ℕ) (text : List ℕ) (h : IsDumped design env limit at text)
     → IsDumpOf h.top.name (nets_of h.top) (values_in (nets_of h.top) (λ n. h.nets n [])) (last_cycle limit at) text
 
 -- so what is shown of a net of it are the numbers of that net in the run

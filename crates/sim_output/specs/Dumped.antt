@@ -28,7 +28,7 @@ widths_of nets = map (λ (n : Net). n.bits) nets
 abbrev pub name_at : List Net → ℕ → Name
 name_at nets k = option_map_or (λ (n : Net). n.name) (slice_get nets k) []
 
--- the values of nets in a run, by cycle and place
+-- the values of nets in a run, by cycle and index
 abbrev pub values_in : List Net → (ℕ → Cycle) → Values
 values_in nets run n k = (run n).net (name_at nets k)
 

@@ -12,4 +12,5 @@ DesignsHaveOneReport =
     → IsSimulated design env limit at report → IsSimulated design env limit other told → (at ≡ other) × (report ≡ told)
 
 abbrev pub DesignsHaveAReport : Type 0
-DesignsHaveAReport = (design : DesignTree) → IsDesign design.modules design.top → (env : Environment) (limit : ℕ) → (at : Option ℕ) × (report : List ℕ) × IsSimulated design env limit at report
+DesignsHaveAReport =
+    (design : DesignTree) → IsDesign design.modules design.top → (env : Environment) (limit : ℕ) → (at : Option ℕ) × (report : List ℕ) × IsSimulated design env limit at report

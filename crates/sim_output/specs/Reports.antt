@@ -14,11 +14,11 @@ use Rattle.vlog_run_laws.specs.runs.Filled.{IsFilled}
 use Rattle.vlog_run_laws.specs.runs.OneRun.{IsRunFrom}
 use Rattle.cycle_sim.specs.Sims.{IsDoneAt, last_cycle}
 
--- the lines of streams, with the tokens of each by its place
+-- the lines of streams, with the tokens of each by its index
 abbrev pub stream_lines : (ℕ → List Token) → List Port → List ℕ
 stream_lines carried streams = lines_from (λ (l : Port) i. stream_line l.name (carried i)) 0 streams
 
--- the lines of memories, with the cells of each by its place
+-- the lines of memories, with the cells of each by its index
 abbrev pub memory_lines : (ℕ → List ℕ) → List Port → List ℕ
 memory_lines cells memories = lines_from (λ (l : Port) i. memory_line l.name (cells i)) 0 memories
 

@@ -1,4 +1,4 @@
--- What is written of a cycle, by what a simulator tells of it and by the values of the cycle before.
+-- What is written of a cycle, by what a simulator shows of it and by the values of the cycle before.
 use Rattle.std.specs.Prelude.{◌≡◌, ℕ, ◌<◌, ◌^◌, Bool, ◌||◌, not, ◌==◌, if◌then◌else◌, List, [], Some, length, slice_get, get_or}
 use Rattle.tapa_base.specs.Gaps.{Bytes}
 use Rattle.vlog_tree.specs.Form.{ModuleTree}
@@ -7,7 +7,7 @@ use Rattle.vcd_text.specs.Nets.{Net}
 use Rattle.vcd_text.specs.Dump.{lines_from, change_line}
 use Rattle.sim_output.specs.Dumped.{nets_of, name_at}
 
--- the value that is told of the net at a place of a top module
+-- the value that is shown of the net at an index of a top module
 abbrev pub told_at : SimTree → ModuleTree → ℕ → ℕ
 told_at s m k = s.told.number [] (name_at (nets_of m) k)
 

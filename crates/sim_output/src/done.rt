@@ -13,7 +13,7 @@ use tapa_base::OutOfMemory;
 use vlog_design::{Design, Env};
 
 /// Runs a design in an environment that fits it, from power-up with 0 in every register and every cell, until it is done and
-/// for at most `limit` cycles, and tells the cycle in which it is done, or `None` where it is done in none of them.
+/// for at most `limit` cycles, and returns the cycle in which it is done, or `None` where it is done in none of them.
 pub fn done_cycle(
     alloc: Global,
     design: Design,

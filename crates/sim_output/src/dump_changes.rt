@@ -60,8 +60,8 @@ fn push_changes(
     Ok(())
 }
 
-/// Puts the lines of a cycle behind a text: that of the cycle, and those of its changes. The values of the cycle before are
-/// kept, and those of this one are kept in their place.
+/// Appends the lines of a cycle to a text: that of the cycle, and those of its changes. The values of the cycle before are
+/// replaced by those of this one.
 pub(crate) fn push_turn(
     text: &mut Vec<u8>,
     sim: &Sim,

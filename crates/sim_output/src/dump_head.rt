@@ -56,7 +56,7 @@ fn push_nets(
     Ok(widths)
 }
 
-/// Puts the head of a design's dump behind a text, and gives the widths of its nets.
+/// Appends the head of a design's dump to a text, and gives the widths of its nets.
 pub(crate) fn push_head(
     alloc: Global,
     text: &mut Vec<u8>,

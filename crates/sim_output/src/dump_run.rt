@@ -18,7 +18,7 @@ use vlog_design::{Design, Env};
 
 /// Runs a design in an environment that fits it, from power-up with 0 in every register and every cell, until it is done and
 /// for at most `limit` cycles, and writes the value change dump of the nets of its top in these cycles. After an error the
-/// output holds what it held and a front part of the dump; a write fails only where there is a dump.
+/// output holds what it held and a prefix of the dump; a write fails only where there is a dump.
 pub fn dump_design<O: Sink>(
     alloc: Global,
     design: Design,

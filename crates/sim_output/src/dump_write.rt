@@ -16,7 +16,7 @@ use tapa_files::{PrintFault, Sink, WriteFault, put_all};
 // How many bytes are written together at least, but for the last ones.
 const TOGETHER: usize = 65_536;
 
-// Writes a text and empties it, where it has so many bytes.
+// Writes a text and empties it, where it has at least `TOGETHER` bytes.
 fn put_piece<O: Sink>(text: &mut Vec<u8>, out: &mut O) -> Result<(), WriteFault>
     ensures piece { OnOk result ((piece : List ℕ) × Appends (O.contents out.old) (O.contents out.new) piece × (text.old.items ≡ piece ++ text.new.items)) }
     ensures part { OnErr result (AppendsPart (O.contents out.old) (O.contents out.new) text.old.items) }
@@ -32,8 +32,8 @@ fn put_piece<O: Sink>(text: &mut Vec<u8>, out: &mut O) -> Result<(), WriteFault>
 }
 
 /// Steps until the design is done or to a cycle, writes the dump of the cycles from 0 on, and gives the first cycle in which
-/// the design is done. The simulator then stands in the last of these cycles. After an error the output holds what it held
-/// and a front part of the dump of these cycles, and the simulator stands in one of them.
+/// the design is done. The simulator is then in the last of these cycles. After an error the output holds what it held
+/// and a prefix of the dump of these cycles, and the simulator is in one of them.
 pub fn write_vcd<O: Sink>(
     alloc: Global,
     sim: &mut Sim,

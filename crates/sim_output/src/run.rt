@@ -47,7 +47,7 @@ pub fn end_after(done_at: Option<u64>) -> DesignEnd
 
 /// Runs a design in an environment that fits it, from power-up with 0 in every register and every cell, until it is done and
 /// for at most `limit` cycles, and writes the report: what each stream carried, the cells of each memory in the last cycle,
-/// before its store, and the cycle. After an error the output holds what it held and a front part of the report; a write
+/// before its store, and the cycle. After an error the output holds what it held and a prefix of the report; a write
 /// fails only where there is a report.
 pub fn run_design<O: Sink>(
     alloc: Global,

@@ -14,7 +14,7 @@ use std::alloc::Global;
 use tapa_base::{Port, Token};
 use tapa_files::{PrintFault, Sink};
 
-// The tokens of a stream by its place, and none where there is no such place.
+// The tokens of a stream by its index, and none past the last.
 fn tokens_at(tokens: &[Vec<Token>], place: usize) -> &[Token]
     ensures { result.now ≡ slice_index_or (lists_of tokens.now) place [] }
 {
@@ -43,7 +43,7 @@ fn show_streams<O: Sink>(
     Ok(())
 }
 
-// The lines of all memories. There are not so many that their places pass 32 bits, where there is memory for them.
+// The lines of all memories. Where there is memory for them, their indices stay below 2^32.
 fn show_memories<O: Sink>(
     alloc: Global,
     memories: &[Port],

@@ -12,7 +12,7 @@ use crate::runs::GateRun;
 use sim_tape::{Pair, Rule, Wide};
 use std::alloc::{AllocError, Global};
 
-// A block comes behind those of a list, unless it is the last of them.
+// Appends a block to a list, unless it is the last of it.
 fn add_block(list: &mut Vec<u32>, block: u32) -> Result<(), AllocError>
     ensures kept { OnOk result ((k : ℕ) → Lists list.old.items k → Lists list.new.items k) }
     ensures added { OnOk result (Lists list.new.items block) }

@@ -15,7 +15,7 @@ use std::collections::HashMap;
 use vlog_tree::BinaryOp;
 
 /// The gates of slots 0, 1, 2 and so on, each reading slots before its own, the wide operators, and where constants and gates of
-/// operators stand, so that none of them is made twice. Slot 0 is the constant 0.
+/// operators are, so that none of them is made twice. Slot 0 is the constant 0.
 #[derive(Drop)]
 pub struct Tape {
     gates: Vec<Gate>,
@@ -213,7 +213,7 @@ impl Tape {
         Ok(Pair { low, high })
     }
 
-    /// A wide operator behind the others, and its place.
+    /// A wide operator after the others, and its index.
     pub fn push_wide(&mut self, wide: Wide) -> Result<u32, AllocError>
         requires { IsTape (tree_of self.old) }
         ensures extends { Extends (tree_of self.old) (tree_of self.new) }

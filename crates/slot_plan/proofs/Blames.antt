@@ -7,23 +7,23 @@ use Rattle.slot_plan.specs.declared.floorplan.Mode.{Mode}
 use Rattle.slot_plan.specs.declared.floorplan.Mode.TheVariants.{Exact, Fit}
 use Rattle.slot_plan.specs.declared.floorplan.PlanFault.{PlanFault}
 use Rattle.slot_plan.specs.declared.floorplan.PlanFault.TheVariants.{NoFit, TooMany, OutOfMemory}
-use Rattle.slot_plan.specs.Causes.{open_slots, free_groups, HasFewWays, IsCause}
+use Rattle.slot_plan.specs.Causes.{open_slots, free_groups, HasFewWays, IsPlanCause}
 use Rattle.slot_plan.specs.Placing.{IsStuck, IsPinFault}
 use Rattle.slot_plan.specs.Plan.{AreNeeds}
 use Rattle.slot_plan.proofs.Placings.{fit_none}
 use Rattle.slot_plan.proofs.Merging.{stuck_none}
 
-pub memory_cause : (g : Graph) (d : Device) (m : Mode) (fault : PlanFault) → fault ≡ OutOfMemory → IsCause g d m fault
-memory_cause g d Exact fault e = subst (IsCause g d Exact) (sym e) tt
-memory_cause g d Fit fault e = subst (IsCause g d Fit) (sym e) tt
+pub memory_cause : (g : Graph) (d : Device) (m : Mode) (fault : PlanFault) → fault ≡ OutOfMemory → IsPlanCause g d m fault
+memory_cause g d Exact fault e = subst (IsPlanCause g d Exact) (sym e) tt
+memory_cause g d Fit fault e = subst (IsPlanCause g d Fit) (sym e) tt
 
-pub many_cause : (g : Graph) (d : Device) (fault : PlanFault) → (fault ≡ TooMany (open_slots d) (free_groups d)) × (4194304 < open_slots d ^ free_groups d) → IsCause g d Exact fault
-many_cause g d fault h = subst (IsCause g d Exact) (sym h.0) (refl, refl, h.1)
+pub many_cause : (g : Graph) (d : Device) (fault : PlanFault) → (fault ≡ TooMany (open_slots d) (free_groups d)) × (4194304 < open_slots d ^ free_groups d) → IsPlanCause g d Exact fault
+many_cause g d fault h = subst (IsPlanCause g d Exact) (sym h.0) (refl, refl, h.1)
 
-pub fit_cause : (g : Graph) (d : Device) (needs : List Use) (free : Bool) (p : List ℕ) (fault : PlanFault) → AreNeeds g d needs → (v : ℕ) × (fault ≡ NoFit (Some v)) × IsStuck d needs free p v → IsCause g d Fit fault
-fit_cause g d needs free p fault needed h = subst (IsCause g d Fit) (sym h.1) (p, fit_none g d needs p h.0 needed h.2.none)
+pub fit_cause : (g : Graph) (d : Device) (needs : List Use) (free : Bool) (p : List ℕ) (fault : PlanFault) → AreNeeds g d needs → (v : ℕ) × (fault ≡ NoFit (Some v)) × IsStuck d needs free p v → IsPlanCause g d Fit fault
+fit_cause g d needs free p fault needed h = subst (IsPlanCause g d Fit) (sym h.1) (p, fit_none g d needs p h.0 needed h.2.none)
 
-pub pin_cause : (g : Graph) (d : Device) (needs : List Use) (fault : PlanFault) → AreNeeds g d needs → HasFewWays d → IsPinFault d needs fault → IsCause g d Exact fault
+pub pin_cause : (g : Graph) (d : Device) (needs : List Use) (fault : PlanFault) → AreNeeds g d needs → HasFewWays d → IsPinFault d needs fault → IsPlanCause g d Exact fault
 pin_cause g d needs (NoFit None) needed few h = (few, λ q plan. stuck_none g d needs h.0 h.1 needed h.2 q plan)
 pin_cause g d needs (NoFit (Some v)) needed few h = absurd h
 pin_cause g d needs (TooMany slots free) needed few h = absurd h

@@ -13,3 +13,4 @@ pub mod Filling
 pub mod Limits
 pub mod UsedSums
 pub mod Blames
+pub mod Beating

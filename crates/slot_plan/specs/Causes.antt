@@ -38,12 +38,12 @@ IsPlanBy g d Exact p = HasFewWays d × IsLeastPlanOf g d p
 IsPlanBy g d Fit p = IsFirstFit g d p
 
 -- exact mode: there are too many ways, or no plan; first fit: the group finds no slot
-abbrev pub IsCause : Graph → Device → Mode → PlanFault → Type 0
-IsCause g d Exact (TooMany slots free) = (slots ≡ open_slots d) × (free ≡ free_groups d) × (4194304 < slots ^ free)
-IsCause g d Exact (NoFit None) = HasFewWays d × ((q : List ℕ) → IsPlanOf g d q → ⊥)
-IsCause g d Exact (NoFit (Some v)) = ⊥
-IsCause g d Exact OutOfMemory = Unit {0}
-IsCause g d Fit (TooMany slots free) = ⊥
-IsCause g d Fit (NoFit None) = ⊥
-IsCause g d Fit (NoFit (Some v)) = (p : List ℕ) × FindsNone g.groups (need_of g d) d p v
-IsCause g d Fit OutOfMemory = Unit {0}
+abbrev pub IsPlanCause : Graph → Device → Mode → PlanFault → Type 0
+IsPlanCause g d Exact (TooMany slots free) = (slots ≡ open_slots d) × (free ≡ free_groups d) × (4194304 < slots ^ free)
+IsPlanCause g d Exact (NoFit None) = HasFewWays d × ((q : List ℕ) → IsPlanOf g d q → ⊥)
+IsPlanCause g d Exact (NoFit (Some v)) = ⊥
+IsPlanCause g d Exact OutOfMemory = Unit {0}
+IsPlanCause g d Fit (TooMany slots free) = ⊥
+IsPlanCause g d Fit (NoFit None) = ⊥
+IsPlanCause g d Fit (NoFit (Some v)) = (p : List ℕ) × FindsNone g.groups (need_of g d) d p v
+IsPlanCause g d Fit OutOfMemory = Unit {0}

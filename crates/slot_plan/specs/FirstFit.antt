@@ -25,12 +25,12 @@ comes_before d u v =
 abbrev pub used_before : ℕ → (ℕ → ℕ → ℕ) → Device → List ℕ → ℕ → ℕ → ℕ → ℕ
 used_before n need d p v s k = total n (λ u. if comes_before d u v && (slice_index p u == s) then need u k else 0)
 
--- v may stand in a slot, which keeps it within capacity beside the groups before v
+-- v may be in a slot, which keeps it within capacity beside the groups before v
 pub record HasRoom (n : ℕ) (need : ℕ → ℕ → ℕ) (d : Device) (p : List ℕ) (v s : ℕ) : Type 0 where
   pub may : MayStand d v s
   pub room : (k : ℕ) → (used_before n need d p v s k + need v k) * 100 ≤ amount_at d.slots.items s k * d.percent
 
--- v stands in the first slot that has room for it
+-- v is in the first slot that has room for it
 pub record StandsFirst (n : ℕ) (need : ℕ → ℕ → ℕ) (d : Device) (p : List ℕ) (v : ℕ) : Type 0 where
   pub room : HasRoom n need d p v (slice_index p v)
   pub first : (s : ℕ) → s < slice_index p v → HasRoom n need d p v s → ⊥

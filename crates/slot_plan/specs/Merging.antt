@@ -46,13 +46,14 @@ beside_pins g d b v s =
 abbrev pub table_of : (ℕ → ℕ → ℕ) → List ℕ → List ℕ → List ℕ
 table_of F xs ys = flat_map (λ x. map (F x) ys) xs
 
--- the tables of items and places, where the pinned groups use so much of each slot
+-- the tables of items and places, where `used` is what the pinned groups use of each slot
 pub record AreTablesOf (g : Graph) (d : Device) (needs : List Use) (b : List ℕ) (used : List Use) (free open_slots : List ℕ) (t : Tables) : Type 0 where
   pub needs_long : length t.needs.items ≡ length free
   pub needs_are : (j k : ℕ) → j < length free → amount_at t.needs.items j k ≡ amount_at needs (slice_index free j) k * 100
   pub small : (j k : ℕ) → amount_at t.needs.items j k < 2 ^ 56
   pub room_long : length t.room.items ≡ length open_slots
-  pub room : (y k : ℕ) → y < length open_slots → amount_at t.room.items y k + amount_at used (slice_index open_slots y) k * 100 ≡ amount_at d.slots.items (slice_index open_slots y) k * d.percent
+  pub room : (y k : ℕ) → y < length open_slots
+      → amount_at t.room.items y k + amount_at used (slice_index open_slots y) k * 100 ≡ amount_at d.slots.items (slice_index open_slots y) k * d.percent
   pub alone : t.alone.items ≡ table_of (beside_pins g d b) free open_slots
   pub joint : t.joint.items ≡ table_of (between g) free free
   pub distance : t.distance.items ≡ table_of (distance d) open_slots open_slots
@@ -62,7 +63,7 @@ pub record AreHomesOf (homes regions free open_slots : List ℕ) (t : Tables) : 
   pub of_items : t.homes.items ≡ map (slice_index homes) free
   pub of_places : t.regions.items ≡ map (slice_index regions) open_slots
 
--- each group that is not pinned stands in a slot of the region where it is at home
+-- each group that is not pinned is in a slot of the region where it is at home
 abbrev pub StayAtHome : Device → List ℕ → List ℕ → List ℕ → Type 0
 StayAtHome d homes regions p = (v : ℕ) → v < length p → is_pinned d v ≡ false → slice_index homes v ≡ slice_index regions (slice_index p v)
 

@@ -33,7 +33,7 @@ pub record AreLoads (d : Device) (needs used : List Use) : Type 0 where
   pub long : length used ≡ length d.slots.items
   pub within : (s k : ℕ) → s < length d.slots.items → amount_at used s k * 100 ≤ amount_at d.slots.items s k * d.percent
 
--- group v may stand in a slot, which has room for it
+-- group v may be in a slot, which has room for it
 pub record HasSpace (d : Device) (needs used : List Use) (v s : ℕ) : Type 0 where
   pub may : MayStand d v s
   pub room : (k : ℕ) → (amount_at used s k + amount_at needs v k) * 100 ≤ amount_at d.slots.items s k * d.percent
@@ -44,7 +44,7 @@ pub record IsFirstSpace (d : Device) (needs used : List Use) (v s : ℕ) (after 
   pub first : (t : ℕ) → t < s → HasSpace d needs used v t → ⊥
   pub sum : (k : ℕ) → amount after k ≡ amount_at used s k + amount_at needs v k
 
--- the placed groups stand as first fit places them
+-- the placed groups are where first fit places them
 pub record ArePlaced (d : Device) (needs : List Use) (free : Bool) (v : ℕ) (p : List ℕ) (used : List Use) : Type 0 where
   pub long : length p ≡ length needs
   pub loads : AreLoads d needs used

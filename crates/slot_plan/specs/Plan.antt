@@ -28,7 +28,7 @@ cost g d p = total (streams g) (link_cost g d p)
 abbrev pub load : List Use → List ℕ → ℕ → ℕ → ℕ
 load needs p s k = total (length p) (λ v. if slice_index p v == s then amount_at needs v k else 0)
 
--- a group may stand in a slot: one that is not forbidden, and its pin where it has one
+-- a group may be in a slot: one that is not forbidden, and its pin where it has one
 pub record MayStand (d : Device) (v s : ℕ) : Type 0 where
   pub inside : s < length d.slots.items
   pub free : slice_index_or d.forbidden.items s false ≡ false

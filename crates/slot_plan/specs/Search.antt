@@ -84,7 +84,7 @@ pub record IsAt (t : Tables) (p : List ℕ) (left : List Use) (spent : ℕ) (bes
   pub sound : IsSound t best
   pub earlier : (q : List ℕ) → Begins p q → IsEarlier best q
 
--- the state of the search at a beginning p whose next item is to stand at place s
+-- the state of the search at a beginning p whose next item is tried at place s
 pub record IsAtPlace (t : Tables) (p : List ℕ) (left : List Use) (spent : ℕ) (best : Option Best) (s : ℕ) : Type 0 where
   pub more : length p < items t
   pub place : s < places t

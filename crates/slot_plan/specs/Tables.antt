@@ -25,7 +25,7 @@ joint_at t i j = cell t.joint.items (items t) i j
 abbrev pub distance_at : Tables → ℕ → ℕ → ℕ
 distance_at t x y = cell t.distance.items (places t) x y
 
--- an item may stand at a place that is of the region where it is at home
+-- an item may be at a place that is of the region where it is at home
 abbrev pub Suits : Tables → ℕ → ℕ → Type 0
 Suits t j y = slice_index t.homes.items j ≡ slice_index t.regions.items y
 

@@ -84,7 +84,7 @@ pub(crate) fn difference(a: Use, b: Use) -> Use
     }
 }
 
-/// So many times an amount.
+/// An amount `times` times.
 fn multiple(a: Use, times: u32) -> Use
     requires times { times ≤ 100 }
     requires small { AreBelow a (2 ^ 50) }
@@ -110,7 +110,7 @@ pub(crate) fn hundredfold(uses: &[Use], i: usize) -> Use
     multiple(uses[i], 100)
 }
 
-/// What is left of the capacity of a slot up to so many hundredths, in hundredths.
+/// The rest of `percent` hundredths of the capacity of a slot, in hundredths.
 pub(crate) fn room_beside(slots: &[Use], percent: u32, used: &[Use], slot: usize) -> Use
     requires inside { slot < length slots.now }
     requires used { slot < length used.now }

@@ -1,7 +1,7 @@
 //! Mode exact.
 ghost use Rattle.std.specs.Prelude.{◌≡◌, ◌<◌, ℕ, List, false, length, slice_index, IfOk, IfErr, MatchOption};
 ghost use Rattle.slot_plan.specs.Grids.{IsGrid};
-ghost use Rattle.slot_plan.specs.Causes.{IsPlanBy, IsCause};
+ghost use Rattle.slot_plan.specs.Causes.{IsPlanBy, IsPlanCause};
 ghost use Rattle.slot_plan.specs.Least.{IsLeastOf, HasNoneOf};
 ghost use Rattle.slot_plan.specs.Merging.{StayAtHome};
 ghost use Rattle.slot_plan.specs.Placing.{ArePlaced, CanPlace, IsStuck};
@@ -104,7 +104,7 @@ pub fn least_at_home(
     }
 }
 
-/// The slots of the least plan: pinned groups stand before the search begins.
+/// The slots of the least plan: pinned groups are placed before the search begins.
 pub(crate) fn exact_slots(
     alloc: Global,
     graph: &Graph,
@@ -115,7 +115,7 @@ pub(crate) fn exact_slots(
     requires needs { AreNeeds graph.now device.now needs.now }
     ensures plan { IfOk result (λ slot. IsPlanOf graph.now device.now slot.items) }
     ensures by_mode { IfOk result (λ slot. IsPlanBy graph.now device.now Mode.Exact slot.items) }
-    ensures cause { IfErr result (IsCause graph.now device.now Mode.Exact) }
+    ensures cause { IfErr result (IsPlanCause graph.now device.now Mode.Exact) }
 {
     check_ways(device)?;
     let homes = vec![in alloc; 0; graph.groups as usize]?;

@@ -1,7 +1,7 @@
 //! First fit.
 ghost use Rattle.std.specs.Prelude.{◌≡◌, ◌<◌, ◌+◌, ℕ, IsTrue, true, false, length, IfOk, IfErr, OnOk, Some};
 ghost use Rattle.slot_plan.specs.Grids.{IsGrid};
-ghost use Rattle.slot_plan.specs.Causes.{IsPlanBy, IsCause};
+ghost use Rattle.slot_plan.specs.Causes.{IsPlanBy, IsPlanCause};
 ghost use Rattle.slot_plan.specs.Placing.{ArePlaced, CanPlace, IsStuck};
 ghost use Rattle.slot_plan.specs.Plan.{AreNeeds, IsPlanOf};
 
@@ -88,7 +88,7 @@ pub(crate) fn first_fit(
     requires needs { AreNeeds graph.now device.now needs.now }
     ensures plan { IfOk result (λ slot. IsPlanOf graph.now device.now slot.items) }
     ensures by_mode { IfOk result (λ slot. IsPlanBy graph.now device.now Mode.Fit slot.items) }
-    ensures cause { IfErr result (IsCause graph.now device.now Mode.Fit) }
+    ensures cause { IfErr result (IsPlanCause graph.now device.now Mode.Fit) }
 {
     let mut placing = nothing_placed(alloc, device, needs)?;
     placing.place_all(device, needs, false)?;

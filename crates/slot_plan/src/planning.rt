@@ -2,7 +2,7 @@
 ghost use Rattle.std.specs.Prelude.{◌≡◌, IfOk, IfErr};
 ghost use Rattle.plan_device.specs.Devices.{IsDevice};
 ghost use Rattle.slot_plan.specs.Grids.{IsGrid};
-ghost use Rattle.slot_plan.specs.Causes.{IsPlanBy, IsCause, AreUsed};
+ghost use Rattle.slot_plan.specs.Causes.{IsPlanBy, IsPlanCause, AreUsed};
 ghost use Rattle.slot_plan.specs.Plan.{AreNeeds, IsPlanOf, cost};
 
 use crate::exact::exact_slots;
@@ -26,7 +26,7 @@ fn slots_by(
     requires needs { AreNeeds graph.now device.now needs.now }
     ensures plan { IfOk result (λ slot. IsPlanOf graph.now device.now slot.items) }
     ensures by_mode { IfOk result (λ slot. IsPlanBy graph.now device.now mode slot.items) }
-    ensures cause { IfErr result (IsCause graph.now device.now mode) }
+    ensures cause { IfErr result (IsPlanCause graph.now device.now mode) }
 {
     match mode {
         Mode::Exact => exact_slots(alloc, graph, device, needs),
@@ -62,7 +62,7 @@ pub fn plan(alloc: Global, graph: &Graph, device: &Device, mode: Mode) -> Result
     ensures by_mode { IfOk result (λ p. IsPlanBy graph.now device.now mode p.slot.items) }
     ensures used { IfOk result (λ p. AreUsed graph.now device.now p.slot.items p.used.items) }
     ensures cost { IfOk result (λ p. p.cost ≡ cost graph.now device.now p.slot.items) }
-    ensures cause { IfErr result (IsCause graph.now device.now mode) }
+    ensures cause { IfErr result (IsPlanCause graph.now device.now mode) }
 {
     let needs = group_needs(alloc, graph, device)?;
     let slot = slots_by(alloc, graph, device, &needs, mode)?;

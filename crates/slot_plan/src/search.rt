@@ -1,5 +1,5 @@
-//! The search for the least layout: branch and bound over the items in order, each at each place. A node looks at what is left
-//! to place, and never at a stream.
+//! The search for the least layout: branch and bound over the items in order, each at each place. A node looks at the items that are
+//! still to be placed, and never at a stream.
 ghost use Rattle.std.specs.Prelude.{◌≡◌, ◌<◌, ◌≤◌, ◌+◌, ◌*◌, ◌^◌, ◌↔◌, ℕ, IsTrue, OnOk, IfOk, length, MatchOption, false, [], ◌∷◌, ◌++◌};
 ghost use Rattle.slot_plan.specs.Tables.{items, AreTables};
 ghost use Rattle.slot_plan.specs.Search.{AreRows, IsBelowRest, IsAnswer, IsAt, IsAtPlace, Explored};

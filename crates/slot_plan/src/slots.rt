@@ -1,4 +1,4 @@
-//! Where a group may stand, and whether it has room there.
+//! Where a group may be, and whether it has room there.
 ghost use Rattle.std.specs.Prelude.{◌≡◌, ◌<◌, ◌≤◌, ◌+◌, ◌*◌, ◌^◌, ◌↔◌, ℕ, IsTrue, length, false, not, IfNone, IfSome, MatchOption};
 ghost use Rattle.task_graph.specs.Streams.{amount, amount_at};
 ghost use Rattle.slot_plan.specs.Plan.{distance, MayStand};
@@ -20,7 +20,7 @@ pub(crate) fn is_free(device: &Device, group: usize) -> bool
     }
 }
 
-/// Whether a group may stand in a slot.
+/// Whether a group may be in a slot.
 pub(crate) fn may_stand(device: &Device, group: usize, slot: usize) -> bool
     requires slot { slot < length device.now.slots.items }
     requires group { group < length device.now.pins.items }
@@ -76,7 +76,7 @@ pub(crate) fn loaded(
     }
 }
 
-/// What a slot holds with one more group, if the group may stand there and has room.
+/// What a slot holds with one more group, if the group may be there and has room.
 fn room_in(device: &Device, needs: &[Use], used: &[Use], group: usize, slot: usize) -> Option<Use>
     requires loads { AreLoads device.now needs.now used.now }
     requires group { group < length needs.now }

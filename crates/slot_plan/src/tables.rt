@@ -27,7 +27,7 @@ pub(crate) struct Tables {
     pub joint: Vec<u64>,
     /// The distance of each two places.
     pub distance: Vec<u64>,
-    /// The region where each item is at home, and the region of each place: an item stands at a place of its own region alone.
+    /// The region where each item is at home, and the region of each place: an item is at a place of its own region alone.
     pub homes: Vec<u32>,
     pub regions: Vec<u32>,
 }
@@ -104,7 +104,7 @@ fn place_rooms(
     Ok(room)
 }
 
-/// The numbers at some places of a list.
+/// The numbers at some indices of a list.
 fn chosen(alloc: Global, numbers: &[u32], at: &[u32]) -> Result<Vec<u32>, AllocError>
     requires { (j : ℕ) → j < length at.now → slice_index at.now j < length numbers.now }
     ensures { IfOk result (λ list. list.items ≡ map (slice_index numbers.now) at.now) }

@@ -9,38 +9,12 @@ use Rattle.task_graph.specs.Streams.{amount_at}
 use Rattle.task_graph.specs.Arcs.{total}
 use Rattle.plan_device.specs.declared.device.Device.{Device}
 use Rattle.flow_cert.proofs.Sums.{total_same, total_zero}
-use Rattle.slot_plan.specs.Least.{NotAfter, Beats}
+use Rattle.slot_plan.proofs.Beating.{beat_both}
 use Rattle.slot_plan.specs.Merging.{is_open}
 use Rattle.slot_split.specs.Halving.{corner, capacity_in, AreCuts, FitsLevel, StaysIn, IsNextLevel, IsLevel, HasNone, HasOneHalvingPlan, HalvingGivesPlans, HalvesOrFails, FailsAtOneLevel}
 use Rattle.slot_split.proofs.Corners.{corner_start, corner_last}
 use Rattle.slot_split.proofs.Levels.{level_fits}
 use Rattle.slot_split.proofs.Sums.{bool_cases, true_not_false, first_of, test_same}
-
--- ---- lists neither of which comes after the other
-
-pub not_after_both : (p q : List ℕ) → length p ≡ length q → NotAfter p q → NotAfter q p → p ≡ q
-not_after_both [] [] e a b = refl
-not_after_both [] (y ∷ ys) e a b = absurd b
-not_after_both (x ∷ xs) [] e a b = absurd a
-not_after_both (x ∷ xs) (y ∷ ys) e a b =
-    ⊎_elim
-    (λ (l : x < y). ⊎_elim
-    (λ (k : y < x). absurd (let i : ⊥ = omega arith in i))
-    (λ (k : (y ≡ x) × NotAfter ys xs). absurd (let f = k.0 in let i : ⊥ = omega arith in i))
-    b)
-    (λ (l : (x ≡ y) × NotAfter xs ys). ⊎_elim
-    (λ (k : y < x). absurd (let f = l.0 in let i : ⊥ = omega arith in i))
-    (λ (k : (y ≡ x) × NotAfter ys xs).
-    let rest = not_after_both xs ys (omega arith) l.1 k.1 in
-    ap (λ (z : ℕ). z ∷ xs) l.0 ∙ ap (λ (zs : List ℕ). y ∷ zs) rest)
-    b)
-    a
-
-beat_both : (g : Graph) (d : Device) (p q : List ℕ) → length p ≡ length q → Beats g d p q → Beats g d q p → p ≡ q
-beat_both g d p q e a b =
-    let x = a.cheap in
-    let y = b.cheap in
-    not_after_both p q e (a.first (omega arith)) (b.first (omega arith))
 
 -- ---- one list a level
 

@@ -15,7 +15,7 @@ use Rattle.slot_plan.specs.Plan.{used_in, IsPlanOf}
 abbrev pub half : ℕ → ℕ
 half n = (n + 1) / 2
 
--- where the part begins in which row or column x of n is after k cuts; a single one is cut no more
+-- where the part begins in which row or column x of n is after k cuts; a part of one is cut no more
 abbrev pub part_start : ℕ → ℕ → ℕ → ℕ
 part_start zero n x = 0
 part_start (suc k) n x = if nat_lt x (half n) then part_start k (half n) x else half n + part_start k (n - half n) (x - half n)
@@ -29,7 +29,7 @@ pub record AreCuts (n k : ℕ) : Type 0 where
 abbrev pub row_cuts : ℕ → ℕ → ℕ
 row_cuts R K = if nat_le K R then K else R
 
--- The first slot of the region in which a slot is at level K, where R cuts part all rows. It tells the region: the first part of
+-- The first slot of the region in which a slot is at level K, where R cuts part all rows. It identifies the region: the first part of
 -- a region has the region's own first slot, the second part a later one.
 abbrev pub corner : Device → ℕ → ℕ → ℕ → ℕ
 corner d R K s = part_start (row_cuts R K) d.rows (s / d.cols) * d.cols + part_start (K - R) d.cols (s % d.cols)
@@ -44,7 +44,7 @@ pub record IsOpenIn (d : Device) (R K c s : ℕ) : Type 0 where
   pub region : corner d R K s ≡ c
   pub free : is_open d s ≡ true
 
--- a region of level K for each group, told by its first slot: it has a slot that is not forbidden, and that of the group's pin
+-- a region of level K for each group, given by its first slot: it has a slot that is not forbidden, and that of the group's pin
 pub record IsIn (d : Device) (R K v c : ℕ) : Type 0 where
   pub inside : c < length d.slots.items
   pub region : corner d R K c ≡ c
@@ -61,7 +61,7 @@ pub record FitsLevel (g : Graph) (d : Device) (R K : ℕ) (p : List ℕ) : Type 
 abbrev pub StaysIn : Device → ℕ → ℕ → List ℕ → List ℕ → Type 0
 StaysIn d R K p q = (v : ℕ) → v < length q → corner d R K (slice_index q v) ≡ slice_index p v
 
--- Level K + 1 behind p: of the lists that fit, one that costs least, and of several the first in order. The cost of a list of
+-- Level K + 1 after p: of the lists that fit, one that costs least, and of several the first in order. The cost of a list of
 -- regions is that of their first slots: width times the rows and the columns between them.
 pub record IsNextLevel (g : Graph) (d : Device) (R K : ℕ) (p q : List ℕ) : Type 0 where
   pub fits : FitsLevel g d R (suc K) q
@@ -73,7 +73,7 @@ abbrev pub IsLevel : Graph → Device → ℕ → ℕ → List ℕ → Type 0
 IsLevel g d R zero p = FitsLevel g d R 0 p
 IsLevel g d R (suc K) q = (p : List ℕ) × IsLevel g d R K p × IsNextLevel g d R K p q
 
--- no list fits at level K behind those before it
+-- no list fits at level K after those before it
 abbrev pub HasNone : Graph → Device → ℕ → ℕ → Type 0
 HasNone g d R zero = (p : List ℕ) → FitsLevel g d R 0 p → ⊥
 HasNone g d R (suc K) = (p : List ℕ) × IsLevel g d R K p × ((q : List ℕ) → FitsLevel g d R (suc K) q → StaysIn d R K p q → ⊥)

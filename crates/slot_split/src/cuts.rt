@@ -12,7 +12,7 @@ fn half(n: u32) -> u32
     (n + 1) / 2
 }
 
-/// How many cuts part n rows or columns into single ones.
+/// How many cuts part n rows or columns into parts of one.
 #[tactic(auto, using(crate::proofs::Parting::cuts_0, crate::proofs::Parting::cuts_1, crate::proofs::Parting::cuts_2, crate::proofs::Parting::cuts_3))]
 pub(crate) fn cuts(n: u32) -> u32
     requires some { 0 < n }
@@ -31,7 +31,7 @@ pub(crate) fn cuts(n: u32) -> u32
     }
 }
 
-/// Where the part begins in which one of n rows or columns is after so many cuts.
+/// Where the part begins in which one of n rows or columns is after a number of cuts.
 fn part_start(cuts: u32, n: u32, x: u32) -> u32
     requires few { n ≤ 8 }
     requires inside { x < n }

@@ -20,7 +20,7 @@ use task_graph::{Graph, Use};
 pub enum SplitFault {
     /// More than 22 groups are free.
     TooMany { free: u32 },
-    /// No list of regions fits at this level behind those of the levels before.
+    /// No list of regions fits at this level after those of the levels before.
     NoSplit { level: u32 },
     /// Memory was refused.
     OutOfMemory,

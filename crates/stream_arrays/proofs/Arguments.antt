@@ -8,12 +8,12 @@ use Rattle.stream_arrays.specs.declared.fault.ArrayRefusal.{ArrayRefusal}
 use Rattle.stream_arrays.specs.declared.fault.ArrayRefusal.TheVariants.{Fault, OutOfMemory}
 use Rattle.stream_arrays.specs.declared.piece.Piece.{Piece}
 use Rattle.stream_arrays.specs.declared.piece.Piece.TheVariants.{Comma}
-use Rattle.stream_arrays.specs.Answers.{IsCause}
+use Rattle.stream_arrays.specs.Answers.{IsArrayCause}
 use Rattle.stream_arrays.specs.Forms.{argument_size}
 use Rattle.stream_arrays.specs.Reading.{adding}
 use Rattle.stream_arrays.specs.Written.{Scope, Outcome, and_then, argument_pieces, pieces_from}
 
-cause_first : (e : ArrayRefusal) (p : List Piece) (o : Outcome (List Piece)) (k : List Piece → Outcome (List Piece)) → IsCause e (adding p o) → IsCause e (and_then o k)
+cause_first : (e : ArrayRefusal) (p : List Piece) (o : Outcome (List Piece)) (k : List Piece → Outcome (List Piece)) → IsArrayCause e (adding p o) → IsArrayCause e (and_then o k)
 cause_first OutOfMemory p o k h = tt
 cause_first (Fault f) p (Ok x) k h = absurd (cc)
 cause_first (Fault f) p (Err g) k h = h
@@ -23,11 +23,11 @@ ok_first p (Ok x) k q r e h = h x (let f : p ++ x ≡ q = cc in f)
 ok_first p (Err g) k q r e h = absurd (cc)
 
 pub argument_fault : (text : Bytes) (s : Scope) (n turns : ℕ) (pieces : List Piece) (rest : List Lexeme) (size : ℕ) (e : ArrayRefusal) → size ≡ argument_size text 0 rest
-    → IsCause e (adding pieces (argument_pieces text s n (take size rest))) → IsCause e (pieces_from text s n (suc turns) pieces rest)
+    → IsArrayCause e (adding pieces (argument_pieces text s n (take size rest))) → IsArrayCause e (pieces_from text s n (suc turns) pieces rest)
 argument_fault text s n turns pieces rest size e g h =
     cause_first e pieces (argument_pieces text s n (take (argument_size text 0 rest) rest))
     (λ more. cond (nat_lt (argument_size text 0 rest) (length rest)) (pieces_from text s n turns (pieces ++ more ++ Comma ∷ []) (drop (suc (argument_size text 0 rest)) rest)) (Ok (pieces ++ more)))
-    (subst (λ z. IsCause e (adding pieces (argument_pieces text s n (take z rest)))) g h)
+    (subst (λ z. IsArrayCause e (adding pieces (argument_pieces text s n (take z rest)))) g h)
 
 pub last_argument : (text : Bytes) (s : Scope) (n turns : ℕ) (pieces : List Piece) (rest : List Lexeme) (size : ℕ) (q : List Piece) → size ≡ argument_size text 0 rest → length rest ≤ size
     → adding pieces (argument_pieces text s n (take size rest)) ≡ Ok q → pieces_from text s n (suc turns) pieces rest ≡ Ok q

@@ -7,7 +7,7 @@ use Rattle.tapa_syntax.specs.declared.lexeme.Lexeme.{Lexeme}
 use Rattle.stream_arrays.specs.declared.fault.ArrayCode.TheVariants.{A4}
 use Rattle.stream_arrays.specs.declared.fault.ArrayRefusal.{ArrayRefusal}
 use Rattle.stream_arrays.specs.declared.fault.ArrayRefusal.TheVariants.{Fault, OutOfMemory}
-use Rattle.stream_arrays.specs.Answers.{IsCause}
+use Rattle.stream_arrays.specs.Answers.{IsArrayCause}
 use Rattle.stream_arrays.specs.Written.{Outcome, and_then, faulty, most, within_most, whole, written_out}
 use Rattle.stream_arrays.specs.Writing.{more}
 
@@ -27,7 +27,7 @@ pub finished : (o : Outcome Bytes) (out : Option Bytes) → and_then o (λ t. Ok
 finished (Ok t) out e = told_once t ∙ ap told (let f : more (Some []) t ≡ out = cc in f)
 finished (Err g) out e = absurd (cc)
 
-pub cause_finished : (e : ArrayRefusal) (o : Outcome Bytes) → IsCause e (and_then o (λ t. Ok (more (Some []) t))) → IsCause e (and_then o within_most)
+pub cause_finished : (e : ArrayRefusal) (o : Outcome Bytes) → IsArrayCause e (and_then o (λ t. Ok (more (Some []) t))) → IsArrayCause e (and_then o within_most)
 cause_finished OutOfMemory o h = tt
 cause_finished (Fault f) (Ok t) h = absurd (cc)
 cause_finished (Fault f) (Err g) h = let t : g ≡ f = cc in ap (λ z. Err z) t

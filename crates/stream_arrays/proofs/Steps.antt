@@ -9,7 +9,7 @@ use Rattle.tapa_base.specs.Gaps.{Bytes}
 use Rattle.tapa_syntax.specs.declared.lexeme.Lexeme.{Lexeme}
 use Rattle.stream_arrays.specs.declared.fault.ArrayRefusal.{ArrayRefusal}
 use Rattle.stream_arrays.specs.declared.fault.ArrayRefusal.TheVariants.{Fault, OutOfMemory}
-use Rattle.stream_arrays.specs.Answers.{IsCause}
+use Rattle.stream_arrays.specs.Answers.{IsArrayCause}
 use Rattle.stream_arrays.specs.Forms.{Declaration, declaration, Invocation, invocation}
 use Rattle.stream_arrays.specs.Words.{spaced}
 use Rattle.stream_arrays.specs.Written.{Scope, Step, Outcome, and_then, declaration_step, invocation_step, element_step, argument_element, other_step, step, array_at, scope_behind, faulty}
@@ -22,13 +22,13 @@ form_written w v u words feeds h e g =
     ap (λ (z : Writing). z.text) g ∙ ap (λ (z : Writing). more z.text feeds) e ∙ ap (λ o. more o feeds) (said_all w.text words h) ∙ more_more w.text (spaced words) feeds
 
 -- a cause stays one where more would follow
-pub cause_then : {A B : Type 0} (e : ArrayRefusal) (o : Outcome A) (k : A → Outcome B) → IsCause e o → IsCause e (and_then o k)
+pub cause_then : {A B : Type 0} (e : ArrayRefusal) (o : Outcome A) (k : A → Outcome B) → IsArrayCause e o → IsArrayCause e (and_then o k)
 cause_then OutOfMemory o k h = tt
 cause_then (Fault f) (Ok a) k h = absurd (cc)
 cause_then (Fault f) (Err g) k h = let t : g ≡ f = cc in ap (λ z. Err z) t
 
-pub cause_behind : {A B : Type 0} (e : ArrayRefusal) (o : Outcome A) (a : A) (k : A → Outcome B) → o ≡ Ok a → IsCause e (k a) → IsCause e (and_then o k)
-cause_behind e o a k g h = subst (λ z. IsCause e (and_then z k)) (sym g) h
+pub cause_behind : {A B : Type 0} (e : ArrayRefusal) (o : Outcome A) (a : A) (k : A → Outcome B) → o ≡ Ok a → IsArrayCause e (k a) → IsArrayCause e (and_then o k)
+cause_behind e o a k g h = subst (λ z. IsArrayCause e (and_then z k)) (sym g) h
 
 pub step_declared : (text : Bytes) (s : Scope) (before ls : List Lexeme) (d : Declaration) → declaration text ls ≡ Some d → step text s before ls ≡ declaration_step text s ls d
 step_declared text s before ls d e =

@@ -19,7 +19,7 @@ use Rattle.tapa_syntax.specs.Trees.{literal_count, name_count, parenthesized_cou
 use Rattle.tapa_syntax.specs.Trees.{no_start, declare_start, act_start, HeadTree, StatementTree, attributed, empty, block, declare, act, if_only, if_else, while, for, while_not_eot}
 use Rattle.tapa_syntax.specs.Trees.{break, continue, Statements, no_statement, statement_then, StreamTree, ArgumentTree, InvocationTree, BodyTree, leaf, upper, TaskTree, ItemTree}
 use Rattle.tapa_syntax.specs.Trees.{constant, task}
-use Rattle.tapa_syntax.specs.Grammar.{Part, Takes, May, Means, IsName, IsPlainName, is_name, named, IsOne, AreWords, IsType, word_kind, sized_kind, prefix_operator_of}
+use Rattle.tapa_syntax.specs.Grammar.{Part, Takes, May, MeansTree, IsName, IsPlainName, is_name, named, IsOne, AreWords, IsType, word_kind, sized_kind, prefix_operator_of}
 use Rattle.tapa_syntax.specs.Grammar.{binary_operator_of, assignment_operator_of, step_operator_of, binds_at, sum_level, or_level, expression_level, argument_level, IsExpression}
 use Rattle.tapa_syntax.specs.Grammar.{AreArguments, AreMoreArguments, IsPlace, IsAction, IsCountForm, IsCount, IsDeclarator, IsDeclaration, IsAttributeArgument, AreAttributeArguments}
 use Rattle.tapa_syntax.specs.Grammar.{IsAttribute, IsStart, IsHead, IsStatement, AreStatements, IsParameter, MayBeLabelled, IsStream, IsArgument, IsMode, IsInvocation, IsBody, IsTask}
@@ -57,7 +57,7 @@ takes m e = symbol (λ x. x.terminal ≡ m) (λ x h is. other m terminal.Tapa e 
 means_none : {A : Type 0} (table : Terminal → Option A) (a : A) (x : Symbol) → table terminal.Tapa ≡ None → table x.terminal ≡ Some a → x.terminal ≡ terminal.Tapa → ⊥
 means_none table a x out h is = let e : None ≡ Some a = sym out ∙ ap table (sym is) ∙ h in absurd (cc)
 
-means : {A : Type 0} (table : Terminal → Option A) (a : A) → table terminal.Tapa ≡ None → Keeps (Means table a)
+means : {A : Type 0} (table : Terminal → Option A) (a : A) → table terminal.Tapa ≡ None → Keeps (MeansTree table a)
 means table a out = symbol (λ x. table x.terminal ≡ Some a) (λ x h is. means_none table a x out h is)
 
 no_name : (x : Symbol) → is_name x.terminal ≡ true → x.terminal ≡ terminal.Tapa → ⊥

@@ -9,7 +9,7 @@ use Rattle.stream_arrays.specs.Words.{end_of}
 use Rattle.stream_arrays.specs.Written.{Scope, Step, Outcome, and_then, step, written_from}
 use Rattle.stream_arrays.specs.Writing.{more}
 use Rattle.stream_arrays.specs.declared.fault.ArrayRefusal.{ArrayRefusal}
-use Rattle.stream_arrays.specs.Answers.{IsCause}
+use Rattle.stream_arrays.specs.Answers.{IsArrayCause}
 use Rattle.stream_arrays.proofs.Steps.{cause_then}
 use Rattle.stream_arrays.proofs.Writers.{more_more}
 
@@ -78,13 +78,13 @@ form_done text lexemes turns s at end l tail r size w u t e0 e1 e2 e3 e4 =
 
 -- a form has a fault
 pub form_fault : (text : Bytes) (lexemes : List Lexeme) (turns : ℕ) (s : Scope) (at end : ℕ) (l : Lexeme) (tail : List Lexeme) (w : Option Bytes) (e : ArrayRefusal) → drop at lexemes ≡ l ∷ tail
-    → IsCause e (step text s (take at lexemes) (drop at lexemes)) → IsCause e (ending w (written_from text (suc turns) s (take at lexemes) end (drop at lexemes)))
+    → IsArrayCause e (step text s (take at lexemes) (drop at lexemes)) → IsArrayCause e (ending w (written_from text (suc turns) s (take at lexemes) end (drop at lexemes)))
 form_fault text lexemes turns s at end l tail w e f h =
-    subst (λ z. IsCause e (ending w (written_from text (suc turns) s (take at lexemes) end z))) (sym f)
+    subst (λ z. IsArrayCause e (ending w (written_from text (suc turns) s (take at lexemes) end z))) (sym f)
     (cause_then e (written_from text (suc turns) s (take at lexemes) end (l ∷ tail)) (λ t. Ok (more w t))
     (cause_then e (step text s (take at lexemes) (l ∷ tail))
     (λ r. and_then (written_from text turns r.scope (take at lexemes ++ l ∷ take r.more tail) (end_of l.to (take r.more tail)) (drop r.more tail)) (λ rest. Ok (slice_range text end l.from ++ (r.written ++ rest))))
-    (subst (λ z. IsCause e (step text s (take at lexemes) z)) f h)))
+    (subst (λ z. IsArrayCause e (step text s (take at lexemes) z)) f h)))
 
 -- no form is left
 pub all_done : (text : Bytes) (n : ℕ) (s : Scope) (before : List Lexeme) (end : ℕ) (rest : List Lexeme) (w : Option Bytes) → rest ≡ [] → ending w (written_from text n s before end rest) ≡ Ok (more w (drop end text))

@@ -5,11 +5,11 @@ use Rattle.stream_arrays.specs.declared.fault.ArrayRefusal.TheVariants.{Fault, O
 use Rattle.stream_arrays.specs.Written.{Outcome}
 
 -- a refusal has its cause; want of memory says nothing
-abbrev pub IsCause : {A : Type 0} → ArrayRefusal → Outcome A → Type 0
-IsCause (Fault fault) outcome = outcome ≡ Err fault
-IsCause OutOfMemory outcome = Unit {0}
+abbrev pub IsArrayCause : {A : Type 0} → ArrayRefusal → Outcome A → Type 0
+IsArrayCause (Fault fault) outcome = outcome ≡ Err fault
+IsArrayCause OutOfMemory outcome = Unit {0}
 
 -- a value is what the definitions give, seen so
 abbrev pub Gives : {A B : Type 0} → (A → B) → Result A ArrayRefusal → Outcome B → Type 0
 Gives view (Ok a) outcome = outcome ≡ Ok (view a)
-Gives view (Err e) outcome = IsCause e outcome
+Gives view (Err e) outcome = IsArrayCause e outcome

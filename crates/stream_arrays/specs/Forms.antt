@@ -1,4 +1,4 @@
--- Which form stands in front of some lexemes (TAPA documentation, `tapa::streams` and `invoke<mode, n>`).
+-- The form at the start of a list of lexemes (TAPA documentation, `tapa::streams` and `invoke<mode, n>`).
 use Rattle.std.specs.Prelude.{ℕ, zero, suc, ◌-◌, Bool, false, ◌&&◌, ◌||◌, ◌==◌, if◌then◌else◌, List, [], ◌∷◌, ◌++◌, length, take, drop, slice_get, codes, bytes_eq, Option, Some, None, option_map}
 use Rattle.tapa_base.specs.Gaps.{Bytes}
 use Rattle.tapa_syntax.specs.declared.lexeme.Lexeme.{Lexeme}
@@ -9,7 +9,7 @@ use Rattle.stream_arrays.specs.Numbers.{literal_of, may_count}
 
 -- ---- `tapa::streams<T, N, D> name, name;`
 
--- the words of the type, the count, the depth where one is given, the names, and how many lexemes are left behind
+-- the words of the type, the count, the depth where one is given, the names, and how many lexemes are left after the semicolon
 pub record Declaration : Type 0 where
   pub element : List Lexeme
   pub count : Lexeme
@@ -17,17 +17,17 @@ pub record Declaration : Type 0 where
   pub names : List Lexeme
   pub left : ℕ
 
--- the string in parentheses that may stand behind a name
+-- how many lexemes the string in parentheses after a name has; 0 where there is none
 abbrev pub label_size : Bytes → List Lexeme → ℕ
 label_size text ls = if stand text (terminal.LeftParen ∷ terminal.Str ∷ terminal.RightParen ∷ []) ls then 3 else 0
 
--- behind a name: the semicolon, or a comma and more names
+-- what follows a name: the semicolon, or a comma and more names
 abbrev pub names_behind : Bytes → (List Lexeme → List Lexeme → Option (List Lexeme × ℕ)) → List Lexeme → List Lexeme → Option (List Lexeme × ℕ)
 names_behind text more names [] = None
 names_behind text more names (l ∷ ls) = if is text terminal.Semicolon l then Some (names, length ls) else (if is text terminal.Comma l then more names ls else None)
 
--- names behind others, up to the semicolon, and how many lexemes are left behind it. The number bounds the turns, and each turn
--- takes a name.
+-- the names so far and those up to the semicolon, and how many lexemes are left after it. The number bounds the turns, and each
+-- turn takes a name.
 abbrev pub names_from : Bytes → ℕ → List Lexeme → List Lexeme → Option (List Lexeme × ℕ)
 names_from text zero names ls = None
 names_from text (suc turns) names [] = None
@@ -39,18 +39,18 @@ declared_as element count depth p = record { element = element; count = count; d
 abbrev pub with_names : Bytes → List Lexeme → Lexeme → Option Lexeme → List Lexeme → Option Declaration
 with_names text element count depth ls = option_map (declared_as element count depth) (names_from text (length ls) [] ls)
 
--- behind the comma of a depth
+-- from the depth on, after its comma
 abbrev pub with_depth : Bytes → List Lexeme → Lexeme → List Lexeme → Option Declaration
 with_depth text element count (d ∷ c ∷ ls) = if may_count text d && is text terminal.Greater c then with_names text element count (Some d) ls else None
 with_depth text element count _ = None
 
--- behind the count
+-- from the lexeme after the count on
 abbrev pub behind_count : Bytes → List Lexeme → Lexeme → List Lexeme → Option Declaration
 behind_count text element count [] = None
 behind_count text element count (l ∷ ls) =
     if is text terminal.Greater l then with_names text element count None ls else (if is text terminal.Comma l then with_depth text element count ls else None)
 
--- behind the type
+-- from the comma before the count on
 abbrev pub behind_type : Bytes → List Lexeme → List Lexeme → Option Declaration
 behind_type text element (c ∷ n ∷ ls) = if is text terminal.Comma c && may_count text n then behind_count text element n ls else None
 behind_type text element _ = None
@@ -72,11 +72,11 @@ pub record Invocation : Type 0 where
   pub count : Lexeme
   pub inside : List Lexeme
 
--- how many parentheses are open behind a lexeme
+-- the number of open parentheses after a lexeme
 abbrev pub open_behind : Bytes → ℕ → Lexeme → ℕ
 open_behind text count l = if is text terminal.RightParen l then count - 1 else (if is text terminal.LeftParen l then suc count else count)
 
--- how many lexemes stand before the parenthesis that closes what is open, where so many more are open
+-- how many lexemes come before the parenthesis that closes the one open at the start; count more are open inside it
 abbrev pub inside_size : Bytes → ℕ → List Lexeme → Option ℕ
 inside_size text count [] = None
 inside_size text count (l ∷ ls) = if is text terminal.RightParen l && (count == 0) then Some 0 else option_map suc (inside_size text (open_behind text count l) ls)
@@ -90,7 +90,8 @@ first_may_count text (l ∷ ls) = may_count text l
 
 abbrev pub begins_invocation : Bytes → List Lexeme → Bool
 begins_invocation text ls =
-    stand text (terminal.Dot ∷ terminal.Invoke ∷ terminal.Less ∷ terminal.Tapa ∷ terminal.Scope ∷ []) ls && is_mode (first_word text (drop 5 ls)) && stand text (terminal.Comma ∷ []) (drop 6 ls)
+    stand text (terminal.Dot ∷ terminal.Invoke ∷ terminal.Less ∷ terminal.Tapa ∷ terminal.Scope ∷ []) ls && is_mode (first_word text (drop 5 ls))
+    && stand text (terminal.Comma ∷ []) (drop 6 ls)
     && first_may_count text (drop 7 ls) && stand text (terminal.Greater ∷ terminal.LeftParen ∷ []) (drop 8 ls)
 
 abbrev pub invoked : List Lexeme → Option Lexeme → Option ℕ → Option Invocation
@@ -120,7 +121,7 @@ abbrev pub constant_typed : Bytes → List Lexeme → Option ℕ → Option (Byt
 constant_typed text ls None = None
 constant_typed text ls (Some n) = initialised text (drop n ls)
 
--- behind `const` or `constexpr`
+-- from the type of a constant on, after `const` or `constexpr`
 abbrev pub constant_behind : Bytes → List Lexeme → Option (Bytes × ℕ)
 constant_behind text ls = constant_typed text ls (type_size text ls)
 

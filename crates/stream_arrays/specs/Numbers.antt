@@ -1,4 +1,4 @@
--- Names that stand for numbers, and counts.
+-- Names that denote numbers, and counts.
 use Rattle.std.specs.Prelude.{ℕ, Bool, not, ◌&&◌, ◌||◌, ◌==◌, nat_le, if◌then◌else◌, List, [], ◌∷◌, length, map, slice_index, Option, Some, None, option_and_then, bytes_eq, Vec}
 use Rattle.std.specs.List.{list_all}
 use Rattle.std.specs.declared.alloc.Global.{Global}
@@ -15,7 +15,7 @@ use Rattle.stream_arrays.specs.Standing.{is, is_named}
 abbrev pub Numbering : Type 0
 Numbering = List (Bytes × ℕ)
 
--- those of a table
+-- the numbering of a table's entries
 abbrev pub numbering_of : List (Vec ℕ Global × ℕ) → Numbering
 numbering_of entries = map (λ e. (e.0.items, e.1)) entries
 
@@ -29,7 +29,7 @@ abbrev pub numbered : Numbering → Bytes → ℕ → Numbering
 numbered [] x n = (x, n) ∷ []
 numbered (e ∷ es) x n = if bytes_eq e.0 x then (e.0, n) ∷ es else e ∷ numbered es x n
 
--- decimal digits without a suffix: `0`, or none in front
+-- decimal digits without a suffix: `0`, or no 0 as the first digit
 abbrev pub is_decimal : Bytes → Bool
 is_decimal word = list_all is_digit word && (not (slice_index word 0 == 48) || (length word == 1))
 

@@ -14,7 +14,7 @@ use Rattle.stream_arrays.specs.Numbers.{Numbering}
 use Rattle.stream_arrays.specs.Forms.{Declaration, Invocation, inside_size}
 use Rattle.stream_arrays.specs.Written.{Scope, Step, Outcome, and_then, depth_behind, arrays_behind}
 use Rattle.stream_arrays.specs.Words.{words_of, depth_words}
-use Rattle.stream_arrays.specs.Answers.{IsCause}
+use Rattle.stream_arrays.specs.Answers.{IsArrayCause}
 use Rattle.stream_arrays.specs.Writing.{writing, more}
 
 abbrev pub known : Known → Scope
@@ -45,15 +45,15 @@ head_words text d = codes "tapa" ∷ codes "::" ∷ codes "stream" ∷ codes "<"
 abbrev pub invocation_of : Invoked → Invocation
 invocation_of v = record { count = v.count; inside = v.inside.now }
 
--- pieces behind others
+-- the pieces so far, and then those of the outcome
 abbrev pub adding : List Piece → Outcome (List Piece) → Outcome (List Piece)
 adding pieces outcome = and_then outcome (λ more. Ok (pieces ++ more))
 
--- from each lexeme on, how many stand before the parenthesis that closes what is open there
+-- for each lexeme, the number of lexemes from it on before the parenthesis that closes the innermost open one
 abbrev pub AreClosings : Bytes → List Lexeme → List (Option ℕ) → Type 0
 AreClosings text ls table = (length table ≡ suc (length ls)) × ((i : ℕ) → i ≤ length ls → slice_get table i ≡ Some (inside_size text 0 (drop i ls)))
 
--- a form was written: so much is told of what it becomes
+-- a form was written: what it becomes is known but for its bytes where the text is too long
 pub record IsStep (r : Step) (size : ℕ) (s : Scope) (before behind : Option Bytes) : Type 0 where
   pub scope : r.scope ≡ s
   pub sized : suc r.more ≡ size
@@ -61,4 +61,4 @@ pub record IsStep (r : Step) (size : ℕ) (s : Scope) (before behind : Option By
 
 abbrev pub Steps : Result ℕ ArrayRefusal → Known → Writer → Writer → Outcome Step → Type 0
 Steps (Ok size) s before behind outcome = (r : Step) × (outcome ≡ Ok r) × IsStep r size (known s) (writing before).text (writing behind).text
-Steps (Err e) s before behind outcome = IsCause e outcome
+Steps (Err e) s before behind outcome = IsArrayCause e outcome

@@ -1,4 +1,4 @@
--- What stands at a place among the lexemes of a text.
+-- Tests of the lexemes at a position of a text.
 use Rattle.std.specs.Prelude.{ℕ, ◌-◌, Bool, true, false, ◌&&◌, List, [], ◌∷◌, length, drop, Option, Some, None, Ok, Err}
 use Rattle.tapa_base.specs.Gaps.{Bytes}
 use Rattle.tapa_base.specs.declared.kind.Kind.{Kind}
@@ -19,13 +19,13 @@ is text m l = same (terminal_at text l) m
 abbrev pub is_named : Bytes → Lexeme → Bool
 is_named text l = is_name (terminal_at text l)
 
--- these stand in front
+-- the lexemes begin with these terminals
 abbrev pub stand : Bytes → List Terminal → List Lexeme → Bool
 stand text [] ls = true
 stand text (m ∷ ms) [] = false
 stand text (m ∷ ms) (l ∷ ls) = is text m l && stand text ms ls
 
--- these stand last
+-- the lexemes end with these terminals
 abbrev pub stand_last : Bytes → List Terminal → List Lexeme → Bool
 stand_last text ms ls = stand text ms (drop (length ls - length ms) ls)
 
@@ -38,6 +38,6 @@ abbrev pub size_behind : ℕ → Outcome Kind → Option ℕ
 size_behind n (Ok p) = Some (n - length p.1)
 size_behind n (Err e) = None
 
--- how many lexemes the type has that stands in front, in its longest reading
+-- how many lexemes the type at the start has, in its longest reading
 abbrev pub type_size : Bytes → List Lexeme → Option ℕ
 type_size text ls = size_behind (length ls) (type_name (symbols_of text ls))

@@ -1,4 +1,4 @@
--- How a form is written: with single spaces, and behind it the line feeds that stand within it.
+-- How a form is written: with one space between words, and then the line feeds that occur in it.
 use Rattle.std.specs.Prelude.{ℕ, zero, suc, ◌-◌, Bool, ◌==◌, List, [], ◌∷◌, ◌++◌, map, codes, decimal, slice_range, Option, Some, None}
 use Rattle.std.specs.List.{flat_map, filter}
 use Rattle.tapa_base.specs.Gaps.{Bytes}
@@ -7,7 +7,7 @@ use Rattle.tapa_syntax.specs.Symbols.{text_of}
 use Rattle.stream_arrays.specs.declared.piece.Piece.{Piece}
 use Rattle.stream_arrays.specs.declared.piece.Piece.TheVariants.{Word, Comma, Instance, Element}
 
--- words with single spaces
+-- words with one space between them
 abbrev pub spaced : List Bytes → Bytes
 spaced [] = []
 spaced (w ∷ ws) = w ++ flat_map (λ v. 32 ∷ v) ws
@@ -36,7 +36,7 @@ form_text text ls words = spaced words ++ line_feeds text ls
 abbrev pub element_name : Bytes → ℕ → Bytes
 element_name x i = x ++ codes "_" ++ decimal i
 
--- the words of an element whose array's name stands in front
+-- the word of an element, where the lexemes begin with the array's name
 abbrev pub element_words : Bytes → List Lexeme → ℕ → List Bytes
 element_words text [] k = []
 element_words text (l ∷ ls) k = element_name (text_of text l) k ∷ []
@@ -48,7 +48,7 @@ below (suc n) = below n ++ n ∷ []
 
 -- ---- declarations
 
--- the elements of an array behind the first
+-- the elements of an array after the first, each after a comma
 abbrev pub more_elements : Bytes → ℕ → List Bytes
 more_elements x n = flat_map (λ i. codes "," ∷ element_name x (suc i) ∷ []) (below (n - 1))
 
@@ -59,7 +59,7 @@ elements x n = element_name x 0 ∷ more_elements x n
 abbrev pub more_names : Bytes → ℕ → List Lexeme → List Bytes
 more_names text n names = flat_map (λ (x : Lexeme). codes "," ∷ elements (text_of text x) n) names
 
--- those of several
+-- the elements of several arrays, with commas
 abbrev pub name_words : Bytes → ℕ → List Lexeme → List Bytes
 name_words text n [] = []
 name_words text n (x ∷ xs) = elements (text_of text x) n ++ more_names text n xs
@@ -80,6 +80,6 @@ piece_word text i Comma = codes ","
 piece_word text i (Instance l) = element_name (text_of text l) i
 piece_word text i (Element l k) = element_name (text_of text l) k
 
--- n invokes, one behind the other
+-- n invokes, one after the other
 abbrev pub invoke_words : Bytes → List Piece → ℕ → List Bytes
 invoke_words text pieces n = flat_map (λ i. map (piece_word text i) pieces) (below n)

@@ -1,4 +1,4 @@
--- What a writer holds: the text so far, which is told only while it isn't too long, and whether a word of the form is there.
+-- The state of a writer: the text so far, which is known only while it isn't too long, and whether the form has a word yet.
 use Rattle.std.specs.Prelude.{◌+◌, nat_le, Bool, true, false, not, ◌&&◌, is_some, if◌then◌else◌, List, [], ◌∷◌, ◌++◌, length, Option, Some, None}
 use Rattle.tapa_base.specs.Gaps.{Bytes}
 use Rattle.stream_arrays.specs.declared.writer.Writer.{Writer}
@@ -15,7 +15,7 @@ writing w = record { text = if w.is_over then None else Some w.bytes.items; begu
 abbrev pub is_full : Writing → Bool
 is_full w = not (is_some w.text) && w.begun
 
--- bytes behind those so far
+-- the text so far and then these bytes; none once it is longer than the limit
 abbrev pub more : Option Bytes → Bytes → Option Bytes
 more None bytes = None
 more (Some out) bytes = if nat_le (length out + length bytes) most then Some (out ++ bytes) else None

@@ -16,15 +16,15 @@ use Rattle.stream_arrays.specs.Numbers.{Numbering, found, numbered, number_of, c
 use Rattle.stream_arrays.specs.Forms.{Declaration, declaration, Invocation, invocation, argument_size, constant_behind, begins_constant}
 use Rattle.stream_arrays.specs.Words.{end_of, form_text, element_words, name_words, depth_words, words_of, invoke_words}
 
--- What is known at a place: the constants of the file before it; the arrays, with how many elements each has; how many braces are
--- open; and of each open parenthesis, the innermost last, whether it is that of an invoke.
+-- What is known before a lexeme: the constants of the file; the arrays, with how many elements each has; how many braces are open;
+-- and of each open parenthesis, the innermost last, whether it is that of an invoke.
 pub record Scope : Type 0 where
   pub constants : Numbering
   pub arrays : Numbering
   pub depth : ℕ
   pub opened : List Bool
 
--- What a form becomes, what is known behind it, and how many lexemes it has behind its first.
+-- What a form becomes, what is known after it, and how many lexemes it has after its first.
 pub record Step : Type 0 where
   pub written : Bytes
   pub scope : Scope
@@ -47,15 +47,15 @@ some_or code place (Some a) = Ok a
 
 -- ---- names of arrays
 
--- a word right behind `.` or `tapa ::` is no name of an array
+-- a word directly after `.` or `tapa ::` is no name of an array
 abbrev pub is_selected : Bytes → List Lexeme → Bool
 is_selected text before = stand_last text (terminal.Dot ∷ []) before || stand_last text (terminal.Tapa ∷ terminal.Scope ∷ []) before
 
--- how many elements the array has whose name a lexeme is, behind others
+-- how many elements the array has whose name a lexeme is, given the lexemes before it
 abbrev pub array_at : Bytes → Numbering → List Lexeme → Lexeme → Option ℕ
 array_at text arrays before l = if is_named text l && (if is_selected text before then false else true) then found arrays (text_of text l) else None
 
--- no name of an array stands among these lexemes, behind others
+-- none of these lexemes is the name of an array, given the lexemes before them
 abbrev pub without_arrays : Bytes → Numbering → List Lexeme → List Lexeme → Outcome (Unit {0})
 without_arrays text arrays before [] = Ok tt
 without_arrays text arrays before (l ∷ ls) = if is_some (array_at text arrays before l) then faulty A3 l.place else without_arrays text arrays (before ++ l ∷ []) ls
@@ -68,7 +68,7 @@ count_in text s l = and_then (without_arrays text s.arrays [] (l ∷ [])) (λ _.
 abbrev pub index_of : Bytes → Scope → Lexeme → Option ℕ
 index_of text s k = if is_some (array_at text s.arrays [] k) then None else number_of text s.constants k
 
--- the length and the index, where the name of an array stands in front with a number in brackets
+-- the length and the index, where the lexemes begin with the name of an array and a number in brackets
 abbrev pub both : Option ℕ → Option ℕ → Option (ℕ × ℕ)
 both (Some m) (Some k) = Some (m, k)
 both _ _ = None
@@ -112,7 +112,7 @@ declaration_step text s ls d =
 
 -- ---- counted invokes
 
--- an argument that is one name of an array, behind others the array's length
+-- the length of the array, where an argument is only the name of an array
 abbrev pub whole_array : Bytes → Scope → List Lexeme → Option ℕ
 whole_array text s (l ∷ []) = array_at text s.arrays [] l
 whole_array text s _ = None
@@ -145,7 +145,7 @@ by_array text s n a (Some m) = if m == n then Ok (instances a) else faulty A2 (f
 abbrev pub argument_pieces : Bytes → Scope → ℕ → List Lexeme → Outcome (List Piece)
 argument_pieces text s n a = by_array text s n a (whole_array text s a)
 
--- the pieces of arguments with commas, behind others. The number bounds the turns, and each turn takes an argument.
+-- the pieces so far and those of the arguments, with commas. The number bounds the turns, and each turn takes an argument.
 abbrev pub pieces_from : Bytes → Scope → ℕ → ℕ → List Piece → List Lexeme → Outcome (List Piece)
 pieces_from text s n zero pieces ls = Ok pieces
 pieces_from text s n (suc turns) pieces ls =
@@ -182,11 +182,11 @@ invocation_step text s ls v =
 abbrev pub in_invoke : List Bool → Bool
 in_invoke opened = unwrap_or (slice_get opened (length opened - 1)) false
 
--- an argument of an invoke begins behind these lexemes
+-- an argument of an invoke begins after these lexemes
 abbrev pub begins_argument : Bytes → Scope → List Lexeme → Bool
 begins_argument text s before = (stand_last text (terminal.LeftParen ∷ []) before || stand_last text (terminal.Comma ∷ []) before) && in_invoke s.opened
 
--- and ends before these
+-- an argument of an invoke ends before these lexemes
 abbrev pub ends_argument : Bytes → List Lexeme → Bool
 ends_argument text ls = stand text (terminal.Comma ∷ []) ls || stand text (terminal.RightParen ∷ []) ls
 
@@ -201,7 +201,7 @@ argument_element text s before ls = if begins_argument text s before && ends_arg
 
 -- ---- all other lexemes
 
--- these lexemes end with what stands before the parenthesis of an invoke, with a mode or without
+-- these lexemes end with all that comes before the parenthesis of an invoke, with a mode or without
 abbrev pub ends_invoke : Bytes → List Lexeme → Bool
 ends_invoke text before =
     stand_last text (terminal.Dot ∷ terminal.Invoke ∷ []) before
@@ -212,14 +212,14 @@ abbrev pub with_constant : Numbering → Option (Bytes × ℕ) → Numbering
 with_constant constants None = constants
 with_constant constants (Some p) = numbered constants p.0 p.1
 
--- the constants of the file behind a lexeme that others follow
+-- the constants of the file after lexeme l, which ls follow
 abbrev pub constants_behind : Bytes → Scope → Lexeme → List Lexeme → Numbering
 constants_behind text s l ls = if begins_constant text l && (s.depth == 0) then with_constant s.constants (constant_behind text ls) else s.constants
 
 abbrev pub depth_behind : Bytes → ℕ → Lexeme → ℕ
 depth_behind text depth l = if is text terminal.RightBrace l then depth - 1 else (if is text terminal.LeftBrace l then depth + 1 else depth)
 
--- the brace that closes a task's body ends its arrays
+-- the arrays after a lexeme: the brace that closes a task's body ends their scope
 abbrev pub arrays_behind : Bytes → Scope → Lexeme → Numbering
 arrays_behind text s l = if is text terminal.RightBrace l && (s.depth - 1 == 0) then [] else s.arrays
 
@@ -239,7 +239,7 @@ other_step text s before (l ∷ ls) =
 
 -- ---- whole texts
 
--- the form that stands in front, behind other lexemes
+-- the form at the start of lexemes, given those before them
 abbrev pub step : Bytes → Scope → List Lexeme → List Lexeme → Outcome Step
 step text s before ls =
     unwrap_or (option_map (declaration_step text s ls) (declaration text ls))
@@ -247,8 +247,8 @@ step text s before ls =
     (unwrap_or (option_map (element_step text s ls) (argument_element text s before ls))
     (other_step text s before ls)))
 
--- what is written of lexemes, behind others and behind the bytes up to a place. What stands between two forms is copied. The number
--- bounds the turns, and each turn takes a form.
+-- the text from index at on, with the forms of the lexemes ls written out, where `before` are the lexemes so far. What is between two
+-- forms is copied. The number bounds the turns, and each turn takes a form.
 abbrev pub written_from : Bytes → ℕ → Scope → List Lexeme → ℕ → List Lexeme → Outcome Bytes
 written_from text zero s before at ls = Ok (drop at text)
 written_from text (suc turns) s before at [] = Ok (drop at text)

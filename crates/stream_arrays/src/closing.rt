@@ -8,7 +8,7 @@ use crate::standing::is;
 use std::alloc::{AllocError, Global};
 use tapa_syntax::{Lexeme, Terminal};
 
-/// How many lexemes stand before the parenthesis that closes what is open, from each lexeme on, and behind the last.
+/// For each lexeme, and for the end, the number of lexemes from it on before the parenthesis that closes the innermost open one.
 pub(crate) fn closings(
     alloc: Global,
     text: &[u8],
@@ -25,7 +25,7 @@ pub(crate) fn closings(
     Ok(table)
 }
 
-/// The number of one lexeme, where those of the lexemes behind it are known.
+/// The entry of one lexeme in the table of closings, given those of the lexemes after it.
 fn closing_at(
     text: &[u8],
     lexeme: &Lexeme,
@@ -48,7 +48,7 @@ fn closing_at(
     }
 }
 
-/// The number at a place of the table, or none behind it.
+/// The entry at an index of the table, and none past its end.
 pub(crate) fn next_closing(behind: &[Option<usize>], at: usize) -> Option<usize>
     ensures { result ≡ option_and_then (λ o. o) (slice_get behind.now at) }
 {

@@ -11,7 +11,7 @@ use crate::standing::{behind, is, is_named, type_size};
 use std::alloc::Global;
 use tapa_syntax::{Lexeme, Terminal};
 
-/// The name and the number of a constant, behind its type.
+/// The name and the number of a constant, from the lexeme after its type on.
 fn initialised(text: &[u8], lexemes: &[Lexeme]) -> Option<(Lexeme, u64)>
     ensures { option_map (named_by text.now) result ≡ spec.initialised text.now lexemes.now }
 {
@@ -30,7 +30,7 @@ fn initialised(text: &[u8], lexemes: &[Lexeme]) -> Option<(Lexeme, u64)>
     }
 }
 
-/// The name and the number of a constant that is one decimal literal, behind `const` or `constexpr`.
+/// The name and the number of a constant that is one decimal literal, from the lexeme after `const` or `constexpr` on.
 pub(crate) fn constant_behind(
     alloc: Global,
     text: &[u8],

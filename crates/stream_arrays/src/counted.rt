@@ -23,7 +23,7 @@ use tapa_syntax::{Lexeme, Terminal};
 /// How many lexemes a counted invoke has before its arguments.
 const HEAD: usize = 10;
 
-/// A counted invoke that stands in front of some lexemes: its count, and the lexemes between its parentheses.
+/// A counted invoke at the start of some lexemes: its count, and the lexemes between its parentheses.
 #[derive(Clone, Copy)]
 pub(crate) struct Invocation<'a> {
     count: Lexeme,
@@ -66,7 +66,7 @@ fn begins_invocation(text: &[u8], lexemes: &[Lexeme]) -> bool
         )
 }
 
-/// The counted invoke that stands in front, if one does; `closing` tells how many lexemes it has between its parentheses.
+/// The counted invoke at the start, if there is one; `closing` is the number of lexemes between its parentheses.
 pub(crate) fn find_invocation<'a>(
     text: &[u8],
     lexemes: &'a [Lexeme],
@@ -126,7 +126,7 @@ fn push_words(pieces: &mut Vec<Piece>, lexemes: &[Lexeme]) -> Result<(), ArrayRe
     Ok(())
 }
 
-/// An argument that is no array: an element of one, or what stands there.
+/// An argument that is no array: an element of one, or its own words.
 fn push_other(
     text: &[u8],
     scope: &Scope,
@@ -260,7 +260,7 @@ fn write_invokes(
     Ok(())
 }
 
-/// Writes a counted invoke out that stands in front of these lexemes, and tells how many it has.
+/// Writes out the counted invoke at the start of these lexemes, and returns how many lexemes it has.
 pub(crate) fn write_invocation(
     alloc: Global,
     text: &[u8],

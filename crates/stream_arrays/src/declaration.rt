@@ -19,8 +19,8 @@ use std::alloc::Global;
 use tapa_parse_expression::text_of;
 use tapa_syntax::{Lexeme, Terminal};
 
-/// A declaration of arrays that stands in front of some lexemes: the words of its type, its count, its depth, its names, and how
-/// many lexemes are left behind it.
+/// A declaration of arrays at the start of some lexemes: the words of its type, its count, its depth, its names, and how many
+/// lexemes are left after it.
 #[derive(Drop)]
 pub(crate) struct Declaration<'a> {
     element: &'a [Lexeme],
@@ -30,7 +30,7 @@ pub(crate) struct Declaration<'a> {
     left: usize,
 }
 
-/// The lexemes behind a name and the string in parentheses that may stand there.
+/// The lexemes after a name and its optional string in parentheses.
 fn behind_label<'a>(text: &[u8], lexemes: &'a [Lexeme]) -> &'a [Lexeme]
     ensures { result.now ≡ drop (spec.label_size text.now lexemes.now) lexemes.now }
 {
@@ -45,7 +45,7 @@ fn behind_label<'a>(text: &[u8], lexemes: &'a [Lexeme]) -> &'a [Lexeme]
     }
 }
 
-/// Names up to the semicolon, and how many lexemes are left behind it.
+/// Names up to the semicolon, and how many lexemes are left after it.
 fn names(
     alloc: Global,
     text: &[u8],
@@ -164,7 +164,7 @@ fn begins_declaration(text: &[u8], lexemes: &[Lexeme]) -> bool
     stand(text, &head, lexemes) && first_word(text, behind(lexemes, 2)) == b"streams".as_slice()
 }
 
-/// The declaration of arrays that stands in front, if one does.
+/// The declaration of arrays at the start, if there is one.
 pub(crate) fn find_declaration<'a>(
     alloc: Global,
     text: &[u8],
@@ -192,7 +192,7 @@ fn without_array(text: &[u8], arrays: &Table, depth: &Option<Lexeme>) -> Result<
     }
 }
 
-/// Each name becomes an array of so many elements; one that is an array already is refused with A3.
+/// Each name becomes an array of `count` elements; one that is an array already is refused with A3.
 fn with_arrays(
     alloc: Global,
     text: &[u8],
@@ -284,7 +284,7 @@ fn write_head(
     Ok(())
 }
 
-/// Writes a declaration out that stands in front of these lexemes.
+/// Writes out the declaration at the start of these lexemes.
 pub(crate) fn write_declaration(
     alloc: Global,
     text: &[u8],

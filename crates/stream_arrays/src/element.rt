@@ -27,7 +27,7 @@ fn index_of(text: &[u8], scope: &Scope, index: &Lexeme) -> Option<u64>
     }
 }
 
-/// The length and the index, where the name of an array stands in front with a number in brackets.
+/// The length and the index, where the lexemes begin with the name of an array and a number in brackets.
 pub(crate) fn element_in(text: &[u8], scope: &Scope, lexemes: &[Lexeme]) -> Option<(u64, u64)>
     ensures { result ≡ spec.element_in text.now (known scope.now) lexemes.now }
 {
@@ -72,7 +72,7 @@ fn in_invoke(opened: &[bool]) -> bool
     }
 }
 
-/// An argument of an invoke begins behind these lexemes.
+/// An argument of an invoke begins after these lexemes.
 fn begins_argument(text: &[u8], scope: &Scope, before: &[Lexeme]) -> bool
     ensures { result ≡ spec.begins_argument text.now (known scope.now) before.now }
 {
@@ -88,7 +88,7 @@ fn ends_argument(text: &[u8], lexemes: &[Lexeme]) -> bool
     stand(text, &[Terminal::Comma], lexemes) || stand(text, &[Terminal::RightParen], lexemes)
 }
 
-/// The length and the index of an element of an array that stands in front as an argument of an invoke.
+/// The length and the index of the element of an array at the start, where it is an argument of an invoke.
 pub(crate) fn argument_element(
     text: &[u8],
     scope: &Scope,
@@ -120,7 +120,7 @@ fn write_name(
     Ok(())
 }
 
-/// Writes an element out that stands in front of these lexemes, and tells how many it has.
+/// Writes out the element at the start of these lexemes, and returns how many lexemes it has.
 pub(crate) fn write_element(
     text: &[u8],
     lexemes: &[Lexeme],

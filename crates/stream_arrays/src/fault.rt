@@ -13,7 +13,7 @@ pub enum ArrayCode {
     A1,
     /// An array that is an argument of a counted invoke has another length than the invoke's count.
     A2,
-    /// The name of an array stands where no array may, or an index is not below the array's length.
+    /// The name of an array where no array may be, or an index that is not below the array's length.
     A3,
     /// The text that is written out has more than 4,194,304 bytes.
     A4,

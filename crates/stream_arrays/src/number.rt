@@ -28,7 +28,7 @@ fn are_digits(word: &[u8]) -> bool
     word.iter().all(|byte| is_digit(*byte))
 }
 
-/// Decimal digits without a suffix, `0` or none in front.
+/// Decimal digits without a suffix: `0`, or no 0 as the first digit.
 fn is_decimal(word: &[u8]) -> bool
     ensures { result ≡ spec.is_decimal word.now }
 {

@@ -1,4 +1,4 @@
-//! Texts in which no form stands.
+//! Texts that have no form.
 
 ghost use Rattle.std.specs.Prelude.{◌≡◌, ◌&&◌};
 ghost use Rattle.stream_arrays.specs.Plain as spec;
@@ -8,14 +8,14 @@ use crate::standing::stand;
 use tapa_parse_expression::text_of;
 use tapa_syntax::{Lexeme, Terminal};
 
-/// Whether a mode stands before a comma, as before the count of an invoke.
+/// Whether a mode is followed by a comma, as before the count of an invoke.
 fn is_counted(text: &[u8], lexeme: &Lexeme, behind: &[Lexeme]) -> bool
     ensures { result ≡ spec.is_counted text.now lexeme.now behind.now }
 {
     is_mode(text_of(text, lexeme)) && stand(text, &[Terminal::Comma], behind)
 }
 
-/// Whether no lexeme is `streams`, and no mode stands before a comma.
+/// Whether no lexeme is `streams`, and no mode is followed by a comma.
 fn is_plain(text: &[u8], lexemes: &[Lexeme]) -> bool
     ensures { result ≡ spec.is_plain text.now lexemes.now }
 {
@@ -29,7 +29,7 @@ fn is_plain(text: &[u8], lexemes: &[Lexeme]) -> bool
     true
 }
 
-/// Whether the slices of lexemes are those of the text, one behind another.
+/// Whether the slices of the lexemes are in the order of the text and don't overlap.
 fn is_in_order(text: &[u8], lexemes: &[Lexeme]) -> bool
     ensures { result ≡ spec.is_in_order text.now 0 lexemes.now }
 {
@@ -46,7 +46,7 @@ fn is_in_order(text: &[u8], lexemes: &[Lexeme]) -> bool
     at <= text.len()
 }
 
-/// Whether it is seen at once that no form stands in a text.
+/// Whether a cheap test shows that a text has no form.
 pub(crate) fn has_no_form(text: &[u8], lexemes: &[Lexeme]) -> bool
     ensures { result ≡ (spec.is_plain text.now lexemes.now && spec.is_in_order text.now 0 lexemes.now) }
 {

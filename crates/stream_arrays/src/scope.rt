@@ -1,4 +1,4 @@
-//! What is known at a place of a text.
+//! What is known before a lexeme of a text.
 
 ghost use Rattle.std.specs.Prelude.{◌≡◌, [], ◌+◌, ◌<◌, ◌≤◌, ◌^◌, OnOk, IfErr};
 ghost use Rattle.stream_arrays.specs.Answers.{Gives};
@@ -15,8 +15,8 @@ use std::alloc::Global;
 use tapa_parse_expression::text_of;
 use tapa_syntax::{Lexeme, Terminal};
 
-/// The constants of the file before a place; the arrays, with how many elements each has; how many braces are open; and of each
-/// open parenthesis, the innermost last, whether it is that of an invoke.
+/// The constants of the file so far; the arrays, with how many elements each has; how many braces are open; and of each open
+/// parenthesis, the innermost last, whether it is that of an invoke.
 #[derive(Drop)]
 pub(crate) struct Scope {
     pub(crate) constants: Table,
@@ -25,7 +25,7 @@ pub(crate) struct Scope {
     pub(crate) opened: Vec<bool>,
 }
 
-/// A word right behind `.` or `tapa::` is no name of an array.
+/// A word directly after `.` or `tapa::` is no name of an array.
 fn is_selected(text: &[u8], before: &[Lexeme]) -> bool
     ensures { result ≡ spec.is_selected text.now before.now }
 {
@@ -33,7 +33,7 @@ fn is_selected(text: &[u8], before: &[Lexeme]) -> bool
         || stand_last(text, &[Terminal::Tapa, Terminal::Scope], before)
 }
 
-/// How many elements the array has whose name a lexeme is, behind others.
+/// How many elements the array has whose name a lexeme is, given the lexemes before it.
 pub(crate) fn array_at(
     text: &[u8],
     arrays: &Table,
@@ -49,7 +49,7 @@ pub(crate) fn array_at(
     }
 }
 
-/// No name of an array stands among these lexemes; the first one is refused with A3.
+/// None of these lexemes is the name of an array; the first one that is, is refused with A3.
 pub(crate) fn without_arrays(
     text: &[u8],
     arrays: &Table,
@@ -74,7 +74,7 @@ pub(crate) fn count_in(text: &[u8], scope: &Scope, count: &Lexeme) -> Result<u64
     count_of(text, &scope.constants, count)
 }
 
-/// These lexemes end with what stands before the parenthesis of an invoke, with a mode or without.
+/// These lexemes end with all that comes before the parenthesis of an invoke, with a mode or without.
 fn ends_invoke(text: &[u8], before: &[Lexeme]) -> bool
     ensures { result ≡ spec.ends_invoke text.now before.now }
 {
@@ -156,7 +156,7 @@ impl Scope {
         Ok(())
     }
 
-    /// Passes a lexeme of no form, between those before it and behind it.
+    /// Passes a lexeme of no form, given those before it and after it.
     pub(crate) fn pass(
         &mut self,
         alloc: Global,

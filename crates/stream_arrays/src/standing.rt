@@ -1,4 +1,4 @@
-//! What stands at a place among the lexemes of a text.
+//! Tests of the lexemes at a position of a text.
 
 ghost use Rattle.std.specs.Prelude.{◌≡◌, Ok, take, drop, slice_range};
 ghost use Rattle.stream_arrays.specs.Answers.{Gives};
@@ -25,7 +25,7 @@ pub(crate) fn is_named(text: &[u8], lexeme: &Lexeme) -> bool
     is_name(terminal_of(text, lexeme))
 }
 
-/// Whether these terminals stand in front.
+/// Whether the lexemes begin with these terminals.
 pub(crate) fn stand(text: &[u8], terminals: &[Terminal], lexemes: &[Lexeme]) -> bool
     ensures { result ≡ spec.stand text.now terminals.now lexemes.now }
 {
@@ -43,7 +43,7 @@ pub(crate) fn stand(text: &[u8], terminals: &[Terminal], lexemes: &[Lexeme]) -> 
     true
 }
 
-/// Whether these terminals stand last.
+/// Whether the lexemes end with these terminals.
 pub(crate) fn stand_last(text: &[u8], terminals: &[Terminal], lexemes: &[Lexeme]) -> bool
     ensures { result ≡ spec.stand_last text.now terminals.now lexemes.now }
 {
@@ -61,7 +61,7 @@ pub(crate) fn first_word<'a>(text: &'a [u8], lexemes: &[Lexeme]) -> &'a [u8]
     }
 }
 
-/// The lexemes behind so many.
+/// The lexemes after the first `count`.
 pub(crate) fn behind(lexemes: &[Lexeme], count: usize) -> &[Lexeme]
     ensures { result.now ≡ drop count lexemes.now }
 {
@@ -72,7 +72,7 @@ pub(crate) fn behind(lexemes: &[Lexeme], count: usize) -> &[Lexeme]
     }
 }
 
-/// The first lexemes, at most so many.
+/// The first lexemes, at most `count`.
 pub(crate) fn front(lexemes: &[Lexeme], count: usize) -> &[Lexeme]
     ensures { result.now ≡ take count lexemes.now }
 {
@@ -83,7 +83,7 @@ pub(crate) fn front(lexemes: &[Lexeme], count: usize) -> &[Lexeme]
     }
 }
 
-/// How many lexemes the type has that stands in front, in its longest reading.
+/// How many lexemes the type at the start has, in its longest reading.
 pub(crate) fn type_size(
     alloc: Global,
     text: &[u8],
@@ -99,7 +99,7 @@ pub(crate) fn type_size(
     }
 }
 
-/// The bytes from one place of the text to another.
+/// The bytes from one index of the text to another.
 pub(crate) fn slice(text: &[u8], from: usize, to: usize) -> &[u8]
     ensures { result.now ≡ slice_range text.now from to }
 {
@@ -107,7 +107,7 @@ pub(crate) fn slice(text: &[u8], from: usize, to: usize) -> &[u8]
     if from <= to { &text[from..to] } else { &[] }
 }
 
-/// The bytes from one place of the text on.
+/// The bytes from an index of the text on.
 pub(crate) fn text_behind(text: &[u8], from: usize) -> &[u8]
     ensures { result.now ≡ drop from text.now }
 {
@@ -118,7 +118,7 @@ pub(crate) fn text_behind(text: &[u8], from: usize) -> &[u8]
     }
 }
 
-/// Where the last of some lexemes ends, or this place where there is none.
+/// The index where the last of some lexemes ends, or `at` where there is none.
 pub(crate) fn end_of(at: usize, lexemes: &[Lexeme]) -> usize
     ensures { result ≡ words.end_of at lexemes.now }
 {

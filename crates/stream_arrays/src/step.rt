@@ -39,8 +39,8 @@ fn write_other(
     Ok(1)
 }
 
-/// Writes the form out that stands in front behind others, and tells how many lexemes it has. `closing` tells how many lexemes stand
-/// before the parenthesis that closes what is open behind the tenth.
+/// Writes out the form at the start of `lexemes`, which follow those of `before`, and returns how many lexemes it has. `closing` is the
+/// number of lexemes from the eleventh on before the parenthesis that closes the innermost open one.
 pub(crate) fn write_form(
     alloc: Global,
     text: &[u8],

@@ -1,4 +1,4 @@
-//! Names that stand for numbers.
+//! Names that denote numbers.
 
 ghost use Rattle.std.specs.Prelude.{◌≡◌, [], OnOk, IfErr};
 ghost use Rattle.stream_arrays.specs.Numbers.{found, numbered};

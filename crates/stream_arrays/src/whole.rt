@@ -20,7 +20,7 @@ use std::alloc::Global;
 use tapa_base::Place;
 use tapa_syntax::Lexeme;
 
-/// How many lexemes stand before the parenthesis that closes what is open behind the tenth from here.
+/// How many lexemes from the eleventh on, counted from index `at`, come before the parenthesis that closes the innermost open one.
 fn closing_behind(closings: &[Option<usize>], at: usize) -> Option<usize>
     requires { at < 2 ^ 63 }
     ensures { (text : Bytes) (lexemes : List Lexeme) → AreClosings text lexemes closings.now → result ≡ inside_size text 0 (drop 10 (drop at lexemes)) }
@@ -28,7 +28,7 @@ fn closing_behind(closings: &[Option<usize>], at: usize) -> Option<usize>
     next_closing(closings, at + 10)
 }
 
-/// Writes all lexemes of a text, one form behind another.
+/// Writes all lexemes of a text, one form after another.
 fn write_forms(
     alloc: Global,
     text: &[u8],

@@ -36,7 +36,7 @@ impl Writer {
         }
     }
 
-    /// Bytes behind those so far. Past the limit nothing is kept any more.
+    /// Appends bytes to the text so far. Past the limit nothing is kept any more.
     pub(crate) fn put(&mut self, bytes: &[u8]) -> Result<(), AllocError>
         ensures { OnOk result (writing self.new ≡ spec.put (writing self.old) bytes.now) }
     {

@@ -1,7 +1,7 @@
 -- Parts that are added in turn.
 use Rattle.std.proofs.Common.{◌≡◌, ◌+◌, ℕ, suc, List, [], ◌∷◌, ◌++◌, length, refl, sym, ap, subst, ◌∙◌, append_assoc, length-append, arith}
 use Rattle.std.specs.Prelude.{Err, Result, nat_le}
-use Rattle.check_scope.specs.Answers.{Answers}
+use Rattle.check_scope.specs.Answers.{ScopeAnswers}
 use Rattle.check_scope.specs.declared.fault.Broken.{Broken}
 use Rattle.check_scope.specs.declared.fault.CheckFault.{CheckFault}
 use Rattle.check_scope.specs.Faults.{over, where_so}
@@ -65,9 +65,9 @@ parts_go f g p more k =
     ∙ ap (λ (x : Flat). with_parts x (more (length g.streams))) (sym k)
 
 -- parts of which one passes a limit, and more behind them
-pub parts_stop : {B D : Type 0} (e : CheckFault) (f : Flat) (p : List Part) (more : ℕ → List Part) (all : List Broken) (m : B) (n : D) → Answers {A = Unit {0}} (λ x. m) (Err e) (flat_faults f p) m → all ≡ flat_faults f (followed (length f.streams) p more) → Answers {A = Unit {0}} (λ x. n) (Err e) all n
+pub parts_stop : {B D : Type 0} (e : CheckFault) (f : Flat) (p : List Part) (more : ℕ → List Part) (all : List Broken) (m : B) (n : D) → ScopeAnswers {A = Unit {0}} (λ x. m) (Err e) (flat_faults f p) m → all ≡ flat_faults f (followed (length f.streams) p more) → ScopeAnswers {A = Unit {0}} (λ x. n) (Err e) all n
 parts_stop e f p more all m n h k = refuses e all (flat_faults f p) _ m n h (k ∙ faults_both (length f.streams) (length f.instances) p (more (length f.streams + length (streams_in p))))
 
 -- what is added to parts that were added is added to those before them
-pub adds_on : {A : Type 0} (view : A → Flat) (r : Result A CheckFault) (f g : Flat) (p q : List Part) → flat_faults f p ≡ flat_faults g q → with_parts f p ≡ with_parts g q → Answers view r (flat_faults g q) (with_parts g q) → Answers view r (flat_faults f p) (with_parts f p)
-adds_on view r f g p q h k a = subst (λ (l : List Broken). Answers view r l (with_parts f p)) (sym h) (subst (λ m. Answers view r (flat_faults g q) m) (sym k) a)
+pub adds_on : {A : Type 0} (view : A → Flat) (r : Result A CheckFault) (f g : Flat) (p q : List Part) → flat_faults f p ≡ flat_faults g q → with_parts f p ≡ with_parts g q → ScopeAnswers view r (flat_faults g q) (with_parts g q) → ScopeAnswers view r (flat_faults f p) (with_parts f p)
+adds_on view r f g p q h k a = subst (λ (l : List Broken). ScopeAnswers view r l (with_parts f p)) (sym h) (subst (λ m. ScopeAnswers view r (flat_faults g q) m) (sym k) a)

@@ -6,6 +6,6 @@ use Rattle.tapa_syntax.specs.Flat.{flat_program}
 use Rattle.tapa_syntax.specs.WellFormed.{IsWellFormed}
 use Rattle.stream_check.specs.Programs.{program_faults, program_of}
 
--- each name is bound, each stream has its two ends, each memory its one instance, and each value its kind
+-- each name is bound, each stream has its writer and its reader, each memory its one instance, and each value its kind
 abbrev pub LegalProgramsAreWellFormed : Type 0
 LegalProgramsAreWellFormed = (items : List ItemTree) (top : List ℕ) (program : Program) → program_faults items top ≡ [] → flat_program program ≡ program_of items top → IsWellFormed program

@@ -101,7 +101,7 @@ own_parts label (c ∷ rest) = own (labelled label c) ∷ own_parts label rest
 abbrev pub Expands : Type 0
 Expands = Place → FlatInstance → ℕ → List Part
 
--- some parts, and then more behind their streams
+-- some parts, and then more, which are numbered after the streams of the first
 abbrev pub followed : ℕ → List Part → (ℕ → List Part) → List Part
 followed n here more = here ++ more (n + length (streams_in here))
 
@@ -125,7 +125,7 @@ deepest_parts at x None = []
 deepest_parts at x (Some (leaf_body l)) = instance at x ∷ []
 deepest_parts at x (Some (upper_body channels invocations)) = too_deep at ∷ []
 
--- the parts of an instance, where upper-level tasks may nest so many levels deep
+-- the parts of an instance, where upper-level tasks may nest at most this number of levels deep
 abbrev pub parts_of : ℕ → List Task → Expands
 parts_of zero tasks at x n = deepest_parts at x (body_of (slice_get tasks x.body))
 parts_of (suc levels) tasks at x n = body_parts (parts_of levels tasks) tasks at x n (body_of (slice_get tasks x.body))

@@ -73,13 +73,13 @@ most_levels = 8
 unfoldable pub all_levels : ℕ
 all_levels = most_levels
 
--- of the top task of this number, where upper-level tasks may nest so many levels deep
+-- the parts of the top task of number n, where upper-level tasks may nest at most `levels` deep
 abbrev pub top_parts : ℕ → List Task → ℕ → TaskTree → List Part
 top_parts levels tasks n top = parts_of levels tasks top.name.place (top_instance n top.parameters) 0
 
 -- ---- limits, in the order of the parts
 
--- C11: at most 1,024 streams, 512 leaf instances and 8 levels; with how many streams and instances stand before
+-- C11: at most 1,024 streams, 512 leaf instances and 8 levels; s streams and i instances come before these parts
 abbrev pub limit_faults : ℕ → ℕ → List Part → List Broken
 limit_faults s i [] = []
 limit_faults s i (own c ∷ rest) = where_so (nat_le 1024 s) (over 1024 c.place) ++ limit_faults (s + 1) i rest

@@ -4,7 +4,7 @@ use Rattle.std.specs.Prelude.{ℕ, zero, suc, List, [], ◌∷◌, ◌++◌, map
 use Rattle.tapa_syntax.specs.Flat.{FlatInstance, flat_instance}
 use Rattle.check_scope.specs.declared.fault.Broken.{Broken}
 use Rattle.check_scope.specs.declared.fault.CheckFault.{CheckFault}
-use Rattle.check_scope.specs.Answers.{Answers}
+use Rattle.check_scope.specs.Answers.{ScopeAnswers}
 use Rattle.check_scope.specs.Scopes.{Block}
 use Rattle.tapa_base.specs.declared.text.Place.{Place}
 use Rattle.check_upper.specs.declared.task.Body.{Body}
@@ -49,9 +49,9 @@ flat_faults f parts = limit_faults (length f.streams) (length f.instances) parts
 
 -- these parts are added, and the first that passes a limit is refused
 abbrev pub AddsParts : Result (Unit {0}) CheckFault → Parts → Parts → List Part → Type 0
-AddsParts result before after parts = Answers (λ x. flat_of after) result (flat_faults (flat_of before) parts) (with_parts (flat_of before) parts)
+AddsParts result before after parts = ScopeAnswers (λ x. flat_of after) result (flat_faults (flat_of before) parts) (with_parts (flat_of before) parts)
 
--- the same of an upper-level instance
+-- the parts of an upper-level instance, where tasks may nest at most this number of levels deep
 abbrev pub upper_parts : ℕ → List Task → Place → FlatInstance → ℕ → List Channel → List Invocation → List Part
 upper_parts zero tasks at x n channels invocations = too_deep at ∷ []
 upper_parts (suc levels) tasks at x n channels invocations = followed n (own_parts x.label channels) (λ m. chain_parts (parts_of levels tasks) tasks x n 0 m invocations)

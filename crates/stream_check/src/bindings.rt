@@ -1,7 +1,7 @@
-//! Which instance each stream and each memory is bound to, found in one pass over the instances.
+//! Which instance each stream and each memory is bound to, computed in one pass over the instances.
 ghost use Rattle.std.specs.Prelude.{◌≡◌, ◌<◌, ◌+◌, ◌++◌, [], ℕ, IfOk, length, map, get_or, slice_get, if◌then◌else◌, ◌==◌, List, true, false};
 ghost use Rattle.tapa_syntax.specs.Flat.{FlatInstance, flat_instance};
-ghost use Rattle.check_scope.specs.Answers.{Answers};
+ghost use Rattle.check_scope.specs.Answers.{ScopeAnswers};
 ghost use Rattle.check_upper.specs.Tasks as table;
 ghost use Rattle.check_upper.specs.Views.{task_view};
 ghost use Rattle.check_scope.specs.Users.{users_of, with_user, with_users};
@@ -74,15 +74,15 @@ impl StreamUsers {
     }
 }
 
-/// The instances that write and read each of so many streams.
+/// The instances that write and read each of `count` streams.
 fn stream_users(
     alloc: Global,
     tasks: &[Task],
     instances: &[Instance],
     count: usize,
 ) -> Result<StreamUsers, CheckFault>
-    ensures written { Answers (λ users. length users.writers.rows.items) result [] count }
-    ensures read { Answers (λ users. length users.readers.rows.items) result [] count }
+    ensures written { ScopeAnswers (λ users. length users.writers.rows.items) result [] count }
+    ensures read { ScopeAnswers (λ users. length users.readers.rows.items) result [] count }
     ensures users { IfOk result (λ users. (s : ℕ) (d : Among) → s < count
         → (get_or users.writers.rows.items s d ≡ users_of (program.instances_at (map task_view tasks.now) s true 0 (map flat_instance instances.now)))
         × (get_or users.readers.rows.items s d ≡ users_of (program.instances_at (map task_view tasks.now) s false 0 (map flat_instance instances.now)))) }
@@ -108,7 +108,7 @@ fn stream(
     ensures { (tasks : List table.Task) (instances : List FlatInstance) (number : ℕ)
         → writers ≡ users_of (program.instances_at tasks number true 0 instances)
         → readers ≡ users_of (program.instances_at tasks number false 0 instances)
-        → Answers (λ s. s) result (program.stream_faults tasks instances number channel.now) (program.stream_of tasks instances number channel.now) }
+        → ScopeAnswers (λ s. s) result (program.stream_faults tasks instances number channel.now) (program.stream_of tasks instances number channel.now) }
 {
     let producer = writers.only(CheckCode::C4, channel.place)?;
     let consumer = readers.only(CheckCode::C5, channel.place)?;
@@ -128,7 +128,7 @@ pub(crate) fn streams(
     instances: &[Instance],
     channels: &[Channel],
 ) -> Result<Vec<Stream>, CheckFault>
-    ensures { Answers (λ made. made.items) result (program.streams_faults (map task_view tasks.now) (map flat_instance instances.now) 0 channels.now)
+    ensures { ScopeAnswers (λ made. made.items) result (program.streams_faults (map task_view tasks.now) (map flat_instance instances.now) 0 channels.now)
         (program.streams_of (map task_view tasks.now) (map flat_instance instances.now) 0 channels.now) }
 {
     let users = stream_users(alloc, tasks, instances, channels.len())?;
@@ -152,13 +152,13 @@ fn add_memories(instance: u32, memories: &[u32], owners: &mut UserTable)
     }
 }
 
-/// The instances that each of so many memories of the top task is bound to.
+/// The instances that each of `count` memories of the top task is bound to.
 fn memory_owners(
     alloc: Global,
     instances: &[Instance],
     count: usize,
 ) -> Result<UserTable, CheckFault>
-    ensures count { Answers (λ owners. length owners.rows.items) result [] count }
+    ensures count { ScopeAnswers (λ owners. length owners.rows.items) result [] count }
     ensures owned { IfOk result (λ owners. (m : ℕ) (d : Among) → m < count → get_or owners.rows.items m d ≡ users_of (program.instances_with m 0 (map flat_instance instances.now))) }
 {
     let mut owners = UserTable::new(alloc, count)?;
@@ -177,7 +177,7 @@ fn memory(
 ) -> Result<(), CheckFault>
     ensures { (instances : List FlatInstance)
         → owners ≡ users_of (program.instances_with (length memories.old.items) 0 instances)
-        → Answers (λ x. memories.new.items) result (program.memory_faults instances (length memories.old.items) parameter.now)
+        → ScopeAnswers (λ x. memories.new.items) result (program.memory_faults instances (length memories.old.items) parameter.now)
         (memories.old.items ++ program.memory_of instances (length memories.old.items) parameter.now) }
 {
     let Parameter::Memory {
@@ -227,7 +227,7 @@ fn check_writer(
     parameter: &Parameter,
 ) -> Result<u32, CheckFault>
     ensures { owners ≡ users_of (program.instances_with number 0 (map flat_instance instances.now))
-        → Answers (λ next. next) result (program.writer_faults (map flat_instance instances.now) number parameter.now)
+        → ScopeAnswers (λ next. next) result (program.writer_faults (map flat_instance instances.now) number parameter.now)
         (number + length (program.memory_of (map flat_instance instances.now) number parameter.now)) }
 {
     let Parameter::Memory { constant, name, .. } = parameter else {
@@ -248,7 +248,7 @@ fn check_writers(
 ) -> Result<(), CheckFault>
     requires count { length owners.now.rows.items ≡ length parameters.now }
     requires owned { (m : ℕ) (d : Among) → m < length parameters.now → get_or owners.now.rows.items m d ≡ users_of (program.instances_with m 0 (map flat_instance instances.now)) }
-    ensures { Answers (λ x. x) result (program.writers_faults (map flat_instance instances.now) 0 parameters.now) tt }
+    ensures { ScopeAnswers (λ x. x) result (program.writers_faults (map flat_instance instances.now) 0 parameters.now) tt }
 {
     let mut number = 0;
     for parameter in parameters {
@@ -265,7 +265,7 @@ pub(crate) fn memories(
     instances: &[Instance],
     parameters: &[Parameter],
 ) -> Result<Vec<Memory>, CheckFault>
-    ensures { Answers (λ made. made.items) result (program.memories_faults (map flat_instance instances.now) 0 parameters.now ++ program.writers_faults
+    ensures { ScopeAnswers (λ made. made.items) result (program.memories_faults (map flat_instance instances.now) 0 parameters.now ++ program.writers_faults
         (map flat_instance instances.now) 0 parameters.now) (program.memories_of (map flat_instance instances.now) 0 parameters.now) }
 {
     let owners = memory_owners(alloc, instances, parameters.len())?;

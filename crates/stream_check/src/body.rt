@@ -1,6 +1,7 @@
+// The leaf tasks that the instances of a program have, in the order of the file, and the index of its leaf for each instance.
 ghost use Rattle.std.specs.Prelude.{◌≡◌, ◌++◌, [], map};
 ghost use Rattle.tapa_syntax.specs.Flat.{flat_instance, flat_leaf};
-ghost use Rattle.check_scope.specs.Answers.{Answers};
+ghost use Rattle.check_scope.specs.Answers.{ScopeAnswers};
 ghost use Rattle.check_upper.specs.Views.{body_view, task_view};
 ghost use Rattle.stream_check.specs.Programs as program;
 
@@ -26,7 +27,7 @@ pub(crate) fn body_numbers(
     instances: &[Instance],
     tasks: &[Task],
 ) -> Result<Vec<u32>, CheckFault>
-    ensures { Answers (λ numbers. numbers.items) result [] (program.body_numbers (map flat_instance instances.now) 0 (map task_view tasks.now)) }
+    ensures { ScopeAnswers (λ numbers. numbers.items) result [] (program.body_numbers (map flat_instance instances.now) 0 (map task_view tasks.now)) }
 {
     let mut numbers = Vec::new(alloc);
     for (position, _) in tasks.iter().enumerate() {
@@ -51,7 +52,7 @@ fn is_among(number: u32, numbers: &[u32]) -> bool
 
 /// Adds the leaf of a leaf task.
 fn add_leaf(body: Body, leaves: &mut Vec<Leaf>) -> Result<(), CheckFault>
-    ensures { Answers (λ x. map flat_leaf leaves.new.items) result [] (map flat_leaf leaves.old.items ++ program.leaf_in (body_view body)) }
+    ensures { ScopeAnswers (λ x. map flat_leaf leaves.new.items) result [] (map flat_leaf leaves.old.items ++ program.leaf_in (body_view body)) }
 {
     if let Body::Leaf(leaf) = body {
         leaves.push(leaf)?;
@@ -65,7 +66,7 @@ pub(crate) fn bodies(
     numbers: &[u32],
     tasks: Vec<Task>,
 ) -> Result<Vec<Leaf>, CheckFault>
-    ensures { Answers (λ leaves. map flat_leaf leaves.items) result [] (program.bodies_of numbers.now 0 (map task_view tasks.entry.items)) }
+    ensures { ScopeAnswers (λ leaves. map flat_leaf leaves.items) result [] (program.bodies_of numbers.now 0 (map task_view tasks.entry.items)) }
 {
     let mut leaves = Vec::new(alloc);
     let mut number = 0;
@@ -95,7 +96,7 @@ pub(crate) fn instances_with_bodies(
     numbers: &[u32],
     instances: Vec<Instance>,
 ) -> Result<Vec<Instance>, CheckFault>
-    ensures { Answers (λ made. map flat_instance made.items) result [] (map (program.with_body numbers.now) (map flat_instance instances.items)) }
+    ensures { ScopeAnswers (λ made. map flat_instance made.items) result [] (map (program.with_body numbers.now) (map flat_instance instances.items)) }
 {
     let mut made = Vec::new(alloc);
     for instance in instances {

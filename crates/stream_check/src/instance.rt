@@ -1,7 +1,8 @@
+// The instance that an invocation makes: its label, and the streams, memories and scalars that its parameters are bound to.
 ghost use Rattle.std.specs.Prelude.{◌≡◌, ◌||◌, ◌+◌, [], map, slice_get};
 ghost use Rattle.std.specs.Str.{IsAscii};
 ghost use Rattle.tapa_syntax.specs.Flat.{flat_bound, flat_instance};
-ghost use Rattle.check_scope.specs.Answers.{Answers};
+ghost use Rattle.check_scope.specs.Answers.{ScopeAnswers};
 ghost use Rattle.check_upper.specs.Views.{invocation_view, task_view};
 ghost use Rattle.stream_check.specs.Parts as parts;
 
@@ -15,7 +16,7 @@ use tapa_syntax::{Bound, Instance};
 
 /// A value that is bound, converted from the first kind to the second.
 fn passed(alloc: Global, from: Kind, to: Kind, bound: &Bound) -> Result<Bound, CheckFault>
-    ensures { Answers flat_bound result [] (parts.passed from to (flat_bound bound.now)) }
+    ensures { ScopeAnswers flat_bound result [] (parts.passed from to (flat_bound bound.now)) }
 {
     match bound {
         Bound::Number(number) => Ok(Bound::Number(convert(from, to, from.low(*number)))),
@@ -40,7 +41,7 @@ fn scalar_at(
     scalars: &[Bound],
     number: u32,
 ) -> Result<Bound, CheckFault>
-    ensures { Answers flat_bound result [] (parts.passed from to (parts.bound_or_zero (slice_get (map flat_bound scalars.now) number))) }
+    ensures { ScopeAnswers flat_bound result [] (parts.passed from to (parts.bound_or_zero (slice_get (map flat_bound scalars.now) number))) }
 {
     match scalars.get(number as usize) {
         Some(bound) => passed(alloc, from, to, bound),
@@ -50,7 +51,7 @@ fn scalar_at(
 
 /// The number of a stream of an instance's own task.
 fn own_stream(first: u32, number: u32) -> Result<u32, CheckFault>
-    ensures { Answers (λ n. n) result [] (first + number) }
+    ensures { ScopeAnswers (λ n. n) result [] (first + number) }
 {
     if number > u32::MAX - first {
         Err(CheckFault::OutOfMemory)
@@ -67,7 +68,7 @@ fn bind(
     binding: Binding,
     made: &mut Instance,
 ) -> Result<(), CheckFault>
-    ensures { Answers (λ x. flat_instance made.new) result [] (parts.bind (flat_instance outer.now) first (flat_instance made.old) binding) }
+    ensures { ScopeAnswers (λ x. flat_instance made.new) result [] (parts.bind (flat_instance outer.now) first (flat_instance made.old) binding) }
 {
     match binding {
         Binding::OwnStream(number) => made.streams.push(own_stream(first, number)?)?,
@@ -93,7 +94,7 @@ fn bind_all(
     bindings: &[Binding],
     made: &mut Instance,
 ) -> Result<(), CheckFault>
-    ensures { Answers (λ x. flat_instance made.new) result [] (parts.bind_all (flat_instance outer.now) first (flat_instance made.old) bindings.now) }
+    ensures { ScopeAnswers (λ x. flat_instance made.new) result [] (parts.bind_all (flat_instance outer.now) first (flat_instance made.old) bindings.now) }
 {
     for binding in bindings {
         bind(alloc, outer, first, *binding, made)?;
@@ -127,7 +128,7 @@ pub(crate) fn invoked(
     position: usize,
     invocation: &Invoked,
 ) -> Result<Instance, CheckFault>
-    ensures { Answers flat_instance result [] (parts.invoked (map task_view tasks.now) (flat_instance outer.now) first position (invocation_view invocation.now)) }
+    ensures { ScopeAnswers flat_instance result [] (parts.invoked (map task_view tasks.now) (flat_instance outer.now) first position (invocation_view invocation.now)) }
 {
     let name = instance_name(alloc, name_at(tasks, invocation.task), position)?;
     let mut made = Instance {

@@ -1,7 +1,7 @@
 //! The items of a file.
 ghost use Rattle.std.specs.Prelude.{◌≡◌, map};
 ghost use Rattle.tapa_syntax.specs.Trees as tree;
-ghost use Rattle.check_scope.specs.Answers.{Answers};
+ghost use Rattle.check_scope.specs.Answers.{ScopeAnswers};
 ghost use Rattle.stream_check.specs.Items as items;
 ghost use Rattle.check_upper.specs.Views.{body_view, task_view};
 ghost use Rattle.stream_check.specs.Views.{items_view};
@@ -19,7 +19,7 @@ fn check_body(
     tasks: &[Task],
     task: &TaskDeclaration,
 ) -> Result<Body, CheckFault>
-    ensures { Answers body_view result
+    ensures { ScopeAnswers body_view result
         (items.body_faults file.now (map task_view tasks.now) (tree.task_of task.now) (tree.body_of task.now.body))
         (items.body_of file.now (map task_view tasks.now) (tree.task_of task.now) (tree.body_of task.now.body)) }
 {
@@ -39,7 +39,7 @@ fn check_task<'a>(
     tasks: &mut Vec<Task<'a>>,
     task: &'a TaskDeclaration,
 ) -> Result<(), CheckFault>
-    ensures { Answers (λ x. items_view file.new tasks.new.items) result (items.task_faults (items_view file.old tasks.old.items) (tree.task_of task.now))
+    ensures { ScopeAnswers (λ x. items_view file.new tasks.new.items) result (items.task_faults (items_view file.old tasks.old.items) (tree.task_of task.now))
         (items.after_task (items_view file.old tasks.old.items) (tree.task_of task.now)) }
 {
     let number = number_of(tasks.len())?;
@@ -58,7 +58,7 @@ fn check_item<'a>(
     tasks: &mut Vec<Task<'a>>,
     item: &'a FileItem,
 ) -> Result<(), CheckFault>
-    ensures { Answers (λ x. items_view file.new tasks.new.items) result (items.item_faults (items_view file.old tasks.old.items) (tree.item_of item.now))
+    ensures { ScopeAnswers (λ x. items_view file.new tasks.new.items) result (items.item_faults (items_view file.old tasks.old.items) (tree.item_of item.now))
         (items.after_item (items_view file.old tasks.old.items) (tree.item_of item.now)) }
 {
     match item {
@@ -77,7 +77,7 @@ fn check_item<'a>(
 
 /// The tasks of a file, or the first rule of its items that is broken.
 pub(crate) fn check_items(alloc: Global, file: &[FileItem]) -> Result<Vec<Task<'_>>, CheckFault>
-    ensures { Answers (λ tasks. map task_view tasks.items) result (items.items_faults items.no_items (map tree.item_of file.now)) (items.tasks_of (map tree.item_of file.now)) }
+    ensures { ScopeAnswers (λ tasks. map task_view tasks.items) result (items.items_faults items.no_items (map tree.item_of file.now)) (items.tasks_of (map tree.item_of file.now)) }
 {
     let mut names = Names::new(alloc);
     let mut tasks = Vec::new(alloc);

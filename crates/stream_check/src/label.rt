@@ -1,6 +1,7 @@
+// The labels of streams and instances: a name below the label of an instance, and the name of an instance by task and position.
 ghost use Rattle.std.specs.Prelude.{◌≡◌, []};
 ghost use Rattle.std.specs.Str.{IsAscii};
-ghost use Rattle.check_scope.specs.Answers.{Answers};
+ghost use Rattle.check_scope.specs.Answers.{ScopeAnswers};
 ghost use Rattle.stream_check.specs.Parts as parts;
 
 use check_scope::{CheckFault, copied};
@@ -10,7 +11,7 @@ use tapa_base::Text;
 
 /// A name below an instance: `LABEL$NAME`, and the name alone in the top task, which has no label.
 pub(crate) fn below(alloc: Global, label: &Text, name: &Text) -> Result<Text, CheckFault>
-    ensures { Answers (λ text. text) result [] (parts.below label.now name.now) }
+    ensures { ScopeAnswers (λ text. text) result [] (parts.below label.now name.now) }
 {
     if label.bytes().is_empty() {
         return copied(alloc, name);
@@ -25,7 +26,7 @@ pub(crate) fn below(alloc: Global, label: &Text, name: &Text) -> Result<Text, Ch
 /// `Task$k`.
 pub(crate) fn instance_name(alloc: Global, task: &[u8], position: usize) -> Result<Text, CheckFault>
     requires { IsAscii task.now }
-    ensures { Answers (λ text. text) result [] (parts.instance_name task.now position) }
+    ensures { ScopeAnswers (λ text. text) result [] (parts.instance_name task.now position) }
 {
     let mut buffer = Buffer::new();
     let mut bytes = Vec::new(alloc);

@@ -1,3 +1,4 @@
+// The streams and leaf instances that a hierarchy of upper-level tasks means, within the limits of their number and of its depth.
 ghost use Rattle.std.specs.Prelude.{◌≡◌, ◌∷◌, [], length, map, slice_get};
 ghost use Rattle.tapa_syntax.specs.Flat.{flat_instance};
 ghost use Rattle.check_upper.specs.Views.{invocation_view, task_view};
@@ -79,7 +80,7 @@ fn body_at<'t>(tasks: &'t [Task], number: u32) -> Option<&'t Body>
     }
 }
 
-/// The parts of an instance whose task is named at a place, where upper-level tasks may nest so many levels deep.
+/// The parts of an instance whose task is named at a place, where upper-level tasks may nest at most `levels` deep.
 #[cycle(hierarchy)]
 pub(crate) fn expand(
     alloc: Global,

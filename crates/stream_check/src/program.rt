@@ -1,9 +1,10 @@
+// The rules of a whole file for its top task, and the flat program that it means.
 ghost use Rattle.std.specs.Prelude.{◌≡◌, map, slice_get, IfOk};
 ghost use Rattle.tapa_syntax.specs.Flat.{flat_instance, flat_program};
 ghost use Rattle.tapa_syntax.specs.WellFormed.{IsWellFormed};
 ghost use Rattle.tapa_syntax.specs.Trees as tree;
 ghost use Rattle.tapa_syntax.specs.Trees.{file_of};
-ghost use Rattle.check_scope.specs.Answers.{Answers};
+ghost use Rattle.check_scope.specs.Answers.{ScopeAnswers};
 ghost use Rattle.check_upper.specs.Views.{task_view};
 ghost use Rattle.stream_check.specs.Programs as spec;
 ghost use Rattle.stream_check.specs.Views.{flat_of, flat_parts, task_found};
@@ -26,7 +27,7 @@ fn parts_of(
     number: usize,
     top: &TaskDeclaration,
 ) -> Result<Parts, CheckFault>
-    ensures { Answers flat_of result (spec.limit_faults 0 0 (spec.top_parts levels (map task_view tasks.now) number (tree.task_of top.now)))
+    ensures { ScopeAnswers flat_of result (spec.limit_faults 0 0 (spec.top_parts levels (map task_view tasks.now) number (tree.task_of top.now)))
         (flat_parts (spec.top_parts levels (map task_view tasks.now) number (tree.task_of top.now))) }
 {
     let mut parts = Parts {
@@ -45,7 +46,7 @@ fn program_with(
     top: &TaskDeclaration,
     parts: Parts,
 ) -> Result<Program, CheckFault>
-    ensures { Answers flat_program result
+    ensures { ScopeAnswers flat_program result
         (spec.bindings_faults (map task_view tasks.entry.items) (tree.task_of top.now) (map flat_instance parts.instances.items) parts.streams.items)
         (spec.program_made (map task_view tasks.entry.items) (tree.task_of top.now) (map flat_instance parts.instances.items) parts.streams.items) }
 {
@@ -72,14 +73,14 @@ fn task_at<'t, 'a>(tasks: &'t [Task<'a>], number: usize) -> Option<&'t Task<'a>>
     tasks.get(number)
 }
 
-/// The program of the task of this number among the tasks of a file, where upper-level tasks may nest so many levels deep.
+/// The program of the task of this number among the tasks of a file, where upper-level tasks may nest at most `levels` deep.
 fn program(
     alloc: Global,
     tasks: Vec<Task>,
     levels: u32,
     number: usize,
 ) -> Result<Program, CheckFault>
-    ensures { Answers flat_program result (spec.whole_faults levels (map task_view tasks.entry.items) number) (spec.whole_program levels (map task_view tasks.entry.items) number) }
+    ensures { ScopeAnswers flat_program result (spec.whole_faults levels (map task_view tasks.entry.items) number) (spec.whole_program levels (map task_view tasks.entry.items) number) }
 {
     let Some(task) = task_at(&tasks, number) else {
         return Err(refused(CheckCode::C1, FIRST_PLACE));
@@ -99,7 +100,7 @@ fn all_levels() -> u32
 
 // The flat program of a file and the name of its top task, by its parts.
 fn checked(alloc: Global, file: &File, top: &str) -> Result<Program, CheckFault>
-    ensures { Answers flat_program result (spec.program_faults (file_of file.now) top.now) (spec.program_of (file_of file.now) top.now) }
+    ensures { ScopeAnswers flat_program result (spec.program_faults (file_of file.now) top.now) (spec.program_of (file_of file.now) top.now) }
 {
     let tasks = check_items(alloc, &file.items)?;
     let number = task_position(&tasks, top);
@@ -108,7 +109,7 @@ fn checked(alloc: Global, file: &File, top: &str) -> Result<Program, CheckFault>
 
 /// The flat program of a file and the name of its top task, which is well formed, or the first rule that is broken.
 pub fn check(alloc: Global, file: &File, top: &str) -> Result<Program, CheckFault>
-    ensures means { Answers flat_program result (spec.program_faults (file_of file.now) top.now) (spec.program_of (file_of file.now) top.now) }
+    ensures means { ScopeAnswers flat_program result (spec.program_faults (file_of file.now) top.now) (spec.program_of (file_of file.now) top.now) }
     ensures well_formed { IfOk result IsWellFormed }
 {
     checked(alloc, file, top)

@@ -1,7 +1,8 @@
+// The top task: its position among the tasks of a file, its rules, its instance, and its scalar parameters.
 ghost use Rattle.std.specs.Prelude.{◌≡◌, ◌++◌, [], length, map};
 ghost use Rattle.std.specs.List.{list_any};
 ghost use Rattle.tapa_syntax.specs.Flat.{flat_bound, flat_instance};
-ghost use Rattle.check_scope.specs.Answers.{Answers};
+ghost use Rattle.check_scope.specs.Answers.{ScopeAnswers};
 ghost use Rattle.check_upper.specs.Tasks as table;
 ghost use Rattle.check_upper.specs.Views.{body_view, task_view};
 ghost use Rattle.stream_check.specs.Programs as program;
@@ -12,7 +13,7 @@ use std::alloc::Global;
 use tapa_base::{Place, Text};
 use tapa_syntax::{Bound, Instance, Parameter, Scalar};
 
-/// Where a top task that is not there is told.
+/// The place that is reported where there is no top task of that name.
 pub(crate) const FIRST_PLACE: Place = Place { line: 1, col: 1 };
 
 /// The number of the task of a name, and of no task where there is none.
@@ -60,7 +61,7 @@ fn is_upper(body: &Body) -> bool
 
 /// The top task is an upper-level task without stream parameters.
 pub(crate) fn check_top(task: &Task) -> Result<(), CheckFault>
-    ensures { Answers (λ x. x) result (program.top_faults (task_view task.now)) tt }
+    ensures { ScopeAnswers (λ x. x) result (program.top_faults (task_view task.now)) tt }
 {
     if is_upper(&task.body) && !has_stream(&task.declared.parameters) {
         Ok(())
@@ -74,7 +75,7 @@ fn add_scalar(
     scalars: &mut Vec<Bound>,
     alloc: Global,
 ) -> Result<(), CheckFault>
-    ensures { Answers (λ x. map flat_bound scalars.new.items) result [] (map flat_bound scalars.old.items ++ program.top_scalar_at (length scalars.old.items) parameter.now) }
+    ensures { ScopeAnswers (λ x. map flat_bound scalars.new.items) result [] (map flat_bound scalars.old.items ++ program.top_scalar_at (length scalars.old.items) parameter.now) }
 {
     if let Parameter::Scalar { .. } = parameter {
         let scalar = number_of(scalars.len())?;
@@ -88,7 +89,7 @@ fn add_scalar(
 
 /// The scalars of the top task, which are bound to themselves.
 fn top_scalars(alloc: Global, parameters: &[Parameter]) -> Result<Vec<Bound>, CheckFault>
-    ensures { Answers (λ scalars. map flat_bound scalars.items) result [] (program.top_scalars 0 parameters.now) }
+    ensures { ScopeAnswers (λ scalars. map flat_bound scalars.items) result [] (program.top_scalars 0 parameters.now) }
 {
     let mut scalars = Vec::new(alloc);
     for parameter in parameters {
@@ -98,7 +99,7 @@ fn top_scalars(alloc: Global, parameters: &[Parameter]) -> Result<Vec<Bound>, Ch
 }
 
 fn add_memory(parameter: &Parameter, memories: &mut Vec<u32>) -> Result<(), CheckFault>
-    ensures { Answers (λ x. memories.new.items) result [] (memories.old.items ++ program.top_memory_at (length memories.old.items) parameter.now) }
+    ensures { ScopeAnswers (λ x. memories.new.items) result [] (memories.old.items ++ program.top_memory_at (length memories.old.items) parameter.now) }
 {
     if let Parameter::Memory { .. } = parameter {
         let memory = number_of(memories.len())?;
@@ -109,7 +110,7 @@ fn add_memory(parameter: &Parameter, memories: &mut Vec<u32>) -> Result<(), Chec
 
 /// The memories of the top task, which are bound to themselves.
 fn top_memories(alloc: Global, parameters: &[Parameter]) -> Result<Vec<u32>, CheckFault>
-    ensures { Answers (λ memories. memories.items) result [] (program.top_memories 0 parameters.now) }
+    ensures { ScopeAnswers (λ memories. memories.items) result [] (program.top_memories 0 parameters.now) }
 {
     let mut memories = Vec::new(alloc);
     for parameter in parameters {
@@ -124,7 +125,7 @@ pub(crate) fn top_instance(
     number: usize,
     parameters: &[Parameter],
 ) -> Result<Instance, CheckFault>
-    ensures { Answers flat_instance result [] (program.top_instance number parameters.now) }
+    ensures { ScopeAnswers flat_instance result [] (program.top_instance number parameters.now) }
 {
     Ok(Instance {
         label: Text::new(Vec::new(alloc)),
@@ -141,7 +142,7 @@ fn add_scalar_parameter(
     parameter: &Parameter,
     scalars: &mut Vec<Scalar>,
 ) -> Result<(), CheckFault>
-    ensures { Answers (λ x. scalars.new.items) result [] (scalars.old.items ++ program.scalar_of parameter.now) }
+    ensures { ScopeAnswers (λ x. scalars.new.items) result [] (scalars.old.items ++ program.scalar_of parameter.now) }
 {
     if let Parameter::Scalar { kind, name, .. } = parameter {
         scalars.push(Scalar {
@@ -154,7 +155,7 @@ fn add_scalar_parameter(
 
 /// The scalar parameters of the top task.
 pub(crate) fn scalars(alloc: Global, parameters: &[Parameter]) -> Result<Vec<Scalar>, CheckFault>
-    ensures { Answers (λ scalars. scalars.items) result [] (program.scalars_of parameters.now) }
+    ensures { ScopeAnswers (λ scalars. scalars.items) result [] (program.scalars_of parameters.now) }
 {
     let mut scalars = Vec::new(alloc);
     for parameter in parameters {

@@ -31,7 +31,7 @@ EndsLine rest = begins is_in_line rest ≡ false
 abbrev pub IsLineComment : Bytes → Bytes → Type 0
 IsLineComment bytes rest = (body : Bytes) × (bytes ≡ 47 ∷ 47 ∷ body) × (list_all is_in_line body ≡ true) × EndsLine rest
 
--- `*/` stands somewhere in these bytes
+-- `*/` occurs in these bytes
 unfoldable pub has_close : Bytes → Bool
 has_close [] = false
 has_close (b ∷ z) = (b == 42 && slice_index z 0 == 47) || has_close z

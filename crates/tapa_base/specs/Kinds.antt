@@ -46,11 +46,11 @@ joined j k = met (promoted j) (promoted k)
 abbrev pub values_of : Kind → ℕ
 values_of k = 2 ^ bits_of k
 
--- the whole number that the bits of a value stand for, by two's complement
+-- the whole number that the bits of a value denote, by two's complement
 abbrev pub number : Kind → ℕ → ℤ
 number k n = if is_signed k && nat_le (2 ^ (bits_of k - 1)) n then pos n -ℤ pos (values_of k) else pos n
 
--- what is left of a whole number modulo m
+-- the residue of a whole number modulo m, from 0 to m - 1
 abbrev pub residue : ℕ → ℤ → ℕ
 residue m (pos n) = n % m
 residue m (negsuc n) = m - 1 - n % m

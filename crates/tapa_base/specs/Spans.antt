@@ -1,4 +1,4 @@
--- Parts of a list of symbols, of which a grammar is made: what each says of what is left before it and behind it.
+-- Parts of a grammar over a list of symbols: each relates the symbols from its start on to those after it.
 use Rattle.std.specs.Prelude.{◌≡◌, ◌⊎◌, Bool, true, false, List, [], ◌∷◌, Option, Some, None}
 
 abbrev pub Span : Type 0 → Type 1
@@ -20,15 +20,15 @@ infixr 8 ◌∣◌
 abbrev pub ◌∣◌ : {S : Type 0} → Span S → Span S → Span S
 (P ∣ Q) i j = P i j ⊎ Q i j
 
--- one symbol of which this holds
+-- one symbol with a property
 abbrev pub Is : {S : Type 0} → (S → Type 0) → Span S
 Is {S} P i j = (x : S) × P x × (i ≡ x ∷ j)
 
--- a part, where this holds besides
+-- a part, under a condition
 abbrev pub Given : {S : Type 0} → Type 0 → Span S → Span S
 Given C P i j = C × P i j
 
--- a part that stands there if there is a tree of it
+-- an optional part: the span of the tree if there is one, and no symbols if there is none
 abbrev pub Maybe : {S A : Type 0} → (A → Span S) → Option A → Span S
 Maybe P None = Nothing
 Maybe P (Some x) = P x
@@ -42,17 +42,17 @@ abbrev pub Each : {S A : Type 0} → (A → Span S) → List A → Span S
 Each P [] = Nothing
 Each P (x ∷ xs) = P x ⨾ Each P xs
 
--- the same, at least one
+-- the parts of a list of at least one, one after another
 abbrev pub EachOfSome : {S A : Type 0} → (A → Span S) → List A → Span S
 EachOfSome P [] = Never
 EachOfSome P (x ∷ xs) = P x ⨾ Each P xs
 
--- at least one, with this between each two
+-- the parts of a list of at least one, with this part between each two
 abbrev pub Separated : {S A : Type 0} → Span S → (A → Span S) → List A → Span S
 Separated between P [] = Never
 Separated between P (x ∷ xs) = P x ⨾ Each (λ y. between ⨾ P y) xs
 
--- the same, or none
+-- the parts of a list, which may be empty, with this part between each two
 abbrev pub SeparatedOrNone : {S A : Type 0} → Span S → (A → Span S) → List A → Span S
 SeparatedOrNone between P [] = Nothing
 SeparatedOrNone between P (x ∷ xs) = Separated between P (x ∷ xs)

@@ -1,4 +1,4 @@
-//! What every layer of the compiler stands on: values of the integer kinds, tokens, places and texts, the shapes of data,
+//! What every layer of the compiler depends on: values of the integer kinds, tokens, places and texts, the shapes of data,
 //! and want of memory.
 #![tactic(auto)]
 

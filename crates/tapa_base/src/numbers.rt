@@ -3,7 +3,7 @@ ghost use Rattle.std.specs.Prelude.{◌≡◌, ◌<◌, ◌≢◌, ◌+◌, ℕ,
 
 use std::alloc::AllocError;
 
-/// Narrows a count to 32 bits. Nothing that is held in memory has a larger one, so a larger one is want of memory.
+/// Narrows a count to 32 bits. No data structure in memory has a larger one, so a larger one is want of memory.
 pub fn narrow(n: usize) -> Result<u32, AllocError>
     ensures { IfOk result (λ r. r ≡ n) }
 {
@@ -14,7 +14,7 @@ pub fn narrow(n: usize) -> Result<u32, AllocError>
     }
 }
 
-/// The sum of two counts of 32 bits. Nothing that is held in memory has a larger one, so a larger one is want of memory.
+/// The sum of two counts of 32 bits. No data structure in memory has a larger one, so a larger one is want of memory.
 pub fn plus(a: u32, b: u32) -> Result<u32, AllocError>
     ensures { IfOk result (λ r. r ≡ a + b) }
 {
@@ -44,7 +44,7 @@ pub fn value_at(values: &[u64], position: u32) -> u64
     }
 }
 
-/// The first position at which a number stands.
+/// The index of the first entry that is this number; none where no entry is.
 pub fn position_of(numbers: &[u32], number: u32) -> Option<usize>
     ensures { MatchOption result ((i : ℕ) → slice_get numbers.now i ≢ Some number)
         (λ p. (slice_get numbers.now p ≡ Some number) × ((i : ℕ) → i < p → slice_get numbers.now i ≢ Some number)) }

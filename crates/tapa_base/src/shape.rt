@@ -1,3 +1,4 @@
+// The shape of the data of a design: its named scalars and memories with their widths in bits.
 use crate::Text;
 
 /// A named input or output, and how many bits it has.

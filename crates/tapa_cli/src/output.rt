@@ -1,4 +1,4 @@
-// Standard output behind a buffer, and standard error behind what that buffer holds.
+// Standard output through a buffer, and standard error after what that buffer holds.
 ghost use Rattle.std.specs.Prelude.{◌≡◌, ◌≢◌, [], OnOk, OnErr};
 ghost use Rattle.std.specs.Io.{WritesAtMost};
 ghost use Rattle.std.specs.Io.Buffered.{writer_buffer, writer_contents};
@@ -13,20 +13,20 @@ use std::io::{BufWriter, Error, ErrorKind, Result, Write};
 pub enum Writes {
     /// None has failed.
     Good,
-    /// What was held could not be written, and no caller that wrote was told.
+    /// Buffered bytes could not be written, and no call of `write` has returned the error.
     Lost,
-    /// One failed, and its caller was told.
+    /// A write failed, and its call returned the error.
     Told,
 }
 
-/// A writer behind a buffer. Once a write has failed nothing more is written, not even what is held when it is dropped.
+/// A writer with a buffer. Once a write has failed nothing more is written, not even the buffered bytes when it is dropped.
 pub struct Output<W: Write + Drop> {
     writer: BufWriter<W>,
     writes: Writes,
 }
 
 impl<W: Write + Copy + Drop> Output<W> {
-    /// A writer behind a buffer of so many bytes, or behind none where there is no memory for it.
+    /// A writer with a buffer of `size` bytes, or with none where there is no memory for it.
     pub fn new(alloc: Global, size: usize, inner: W) -> Self
         ensures bytes { writer_contents W.contents result.writer ≡ W.contents inner }
         ensures good { result.writes ≡ Writes.Good }
@@ -48,7 +48,7 @@ impl<W: Write + Copy + Drop> Output<W> {
 }
 
 impl<W: Write + Drop> Write for Output<W> {
-    // What the writer behind holds, and what the buffer holds.
+    // What the inner writer holds, and what the buffer holds.
     ghost contents = { λ output. writer_contents W.contents output.writer };
 
     fn write(&mut self, bytes: &[u8]) -> Result<usize>
@@ -67,7 +67,7 @@ impl<W: Write + Drop> Write for Output<W> {
         written
     }
 
-    /// Writes what is held, and fails where that could not be written and no caller that wrote was told.
+    /// Writes the buffered bytes, and fails where they could not be written and no call of `write` has returned the error.
     fn flush(&mut self) -> Result<()>
         ensures bytes { Keeps (writer_contents W.contents self.old.writer) (writer_contents W.contents self.new.writer) }
         ensures whole { OnOk result (self.old.writes ≡ Writes.Good → writer_buffer self.new.writer ≡ []) }
@@ -95,7 +95,7 @@ impl<W: Write + Drop> Drop for Output<W> {
     }
 }
 
-/// Writes what a shared output holds, and fails where that could not be written and no caller that wrote was told.
+/// Writes the buffered bytes of a shared output, and fails where they could not be written and no call of `write` has returned the error.
 pub fn flush<W: Write + Drop>(output: &RefCell<Output<W>>) -> Result<()> {
     match output.try_borrow_mut() {
         Ok(mut output) => output.flush(),
@@ -129,7 +129,7 @@ impl<W: Write + Drop> Write for OutputWriter<'_, W> {
     }
 }
 
-/// Where messages are written: another writer than that of the output, and behind all that the output holds. Nothing is
+/// Where messages are written: another writer than that of the output, after all that the output has buffered. Nothing is
 /// written where that could not be.
 #[derive(Drop)]
 pub struct MessageWriter<'a, W: Write + Drop, E> {
@@ -138,7 +138,7 @@ pub struct MessageWriter<'a, W: Write + Drop, E> {
 }
 
 impl<'a, W: Write + Drop, E: Write> MessageWriter<'a, W, E> {
-    /// A writer behind this output.
+    /// A writer of messages after this output.
     pub fn new(output: &'a RefCell<Output<W>>, inner: E) -> Self {
         MessageWriter { output, inner }
     }

@@ -13,7 +13,7 @@ use Rattle.command_source.proofs.OfFiles.{of_file_also}
 use Rattle.command_plans.specs.Built.{IsCircuitText, HasCircuit}
 use Rattle.command_plans.specs.Unwritten.{IsUnwritten}
 use Rattle.command_plans.proofs.Put.{WritesWhole}
-use Rattle.tapa_drive.specs.Answer.{HasFrontOf, IsDone, ReadsAsked}
+use Rattle.tapa_drive.specs.Answer.{HasFrontOf, DidItsWork, ReadsAsked}
 use Rattle.tapa_drive.specs.Carried.{IsCarriedOut}
 use Rattle.tapa_drive.proofs.Carried as carried
 use Rattle.tapa_drive.proofs.Put.{carried_out}
@@ -34,7 +34,7 @@ module _ (words : List (List ℕ)) (files : Option Files) (source top : List ℕ
   of_text R l is r =
       of_file_also files source_limit source (λ text. IsProgramOf text top program) (λ text. (circuit : List ℕ) × HasCircuit text top circuit × R circuit) (λ text p. (l, record { program = program; means = p; is = is }, r)) means
 
-  built : (l : List ℕ) → IsCircuitText program [] l → Appends old.bytes new.bytes l → IsDone words before after
+  built : (l : List ℕ) → IsCircuitText program [] l → Appends old.bytes new.bytes l → DidItsWork words before after
   built l is shown = inr (inr (inr (inl (Build source top, asked, of_text (λ l. Appends old.bytes new.bytes l) l is shown))))
 
   has_front : (l : List ℕ) → IsCircuitText program [] l → AppendsPart old.bytes new.bytes l → HasFrontOf words before after

@@ -17,7 +17,7 @@ use Rattle.command_source.specs.Told.{IsTold, IsToldAs}
 use Rattle.command_source.specs.declared.status.Status.{Status}
 use Rattle.command_source.specs.declared.status.Status.TheVariants as status
 use Rattle.command_plans.specs.Built.{HasCircuit}
-use Rattle.tapa_drive.specs.Answer.{OfRun, OfBuild, OfPlan, OfCosim, IsFirst, most_in, IsTaken, IsRefusedIn, IsFaultyIn, IsReached, IsTooLong, IsDone, HasCause, Leaves, IsAnswer}
+use Rattle.tapa_drive.specs.Answer.{OfRun, OfBuild, OfPlan, OfCosim, IsReadFirst, most_in, IsTaken, IsRefusedIn, IsFaultyIn, IsReached, IsTooLong, DidItsWork, HasCause, Leaves, IsAnswer}
 use Rattle.tapa_drive.specs.BuildDecided.{TellsBuildOf, TellsBuild}
 use Rattle.tapa_drive.specs.Decided.{IsRefusedWith, NothingFails}
 use Rattle.tapa_drive.specs.Vcds.{OfVcd}
@@ -86,7 +86,7 @@ module _ (words : List (List ℕ)) (files : Files) (reads : List ℕ → ℕ) (o
         (λ (w : (None ≡ Some file) × (most ≡ data_limit) × IsLongerThan (Some files) file data_limit × OfFile (Some files) source_limit source (IsTaken (Build source top))). let none : None ≡ Some file = w.0 in absurd cc)
         c
     of_reason (Source file place code) h leaves told =
-        let c = asked_of words (Build source top) asked (λ a. IsFirst a file × OfFile (Some files) (most_in a) file (λ t. IsRefusedIn a t place code)) h in
+        let c = asked_of words (Build source top) asked (λ a. IsReadFirst a file × OfFile (Some files) (most_in a) file (λ t. IsRefusedIn a t place code)) h in
         let t = of_told_source files source (λ t. IsRefusedSource t top place code) (subst (λ (f : List ℕ). OfSource (Some files) f (λ t. IsRefusedSource t top place code)) (sym c.0) c.1) in
         inl (inr (inl (t.0, (place, code, t.1, refused_so (Source file place code) (Source source place code) result (ap (λ (f : List ℕ). Source f place code) (sym c.0)) told leaves))))
     of_reason (Data file fault) h leaves told = absurd (not_run h)
@@ -98,7 +98,7 @@ module _ (words : List (List ℕ)) (files : Files) (reads : List ℕ → ℕ) (o
     of_reason (NoRoom label) h leaves told = absurd (not_planned h)
     of_reason (NoHalving level) h leaves told = absurd (not_planned h)
     of_reason (Verilog file fault) h leaves told =
-        let c = asked_of words (Build source top) asked (λ a. IsFirst a file × OfFile (Some files) (most_in a) file (λ t. IsFaultyIn a t fault)) h in
+        let c = asked_of words (Build source top) asked (λ a. IsReadFirst a file × OfFile (Some files) (most_in a) file (λ t. IsFaultyIn a t fault)) h in
         absurd (of_told_source files file (λ t. ⊥) c.1).1
     of_reason (DesignData file fault) h leaves told = absurd (not_cosim h)
     of_reason (Undone most) h leaves told = absurd (not_cosim h)
@@ -108,7 +108,7 @@ module _ (words : List (List ℕ)) (files : Files) (reads : List ℕ → ℕ) (o
     of_told : (why : Refusal) → IsToldAs why result errors after.err → HasCause words before after why → Leaves words before after why → Meets
     of_told why told h leaves = elim told [ inl t ↦ of_reason why h leaves t | inr w ↦ absurd (still.writes.told w.1) ]
 
-    of_ok : IsDone words before after → result ≡ status.Ok → after.err.bytes ≡ errors.bytes → Meets
+    of_ok : DidItsWork words before after → result ≡ status.Ok → after.err.bytes ≡ errors.bytes → Meets
     of_ok (inl r) is same = absurd (not_run r)
     of_ok (inr (inl p)) is same = absurd (not_planned p)
     of_ok (inr (inr (inl s))) is same = absurd (not_cosim s)

@@ -10,7 +10,7 @@ use Rattle.tapa_syntax.specs.declared.program.Memory.{Memory}
 use Rattle.tapa_syntax.specs.declared.program.Program.{Program}
 use Rattle.tapa_syntax.specs.declared.program.Stream.{Stream}
 use Rattle.vlog_tree.specs.Cycle.{Cycle, Path}
-use Rattle.vlog_tree.specs.Environment.{Environment, FitsShape, RunsIn, IsDone, shape_of, tokens, cells_at}
+use Rattle.vlog_tree.specs.Environment.{Environment, FitsShape, RunsIn, RaisesDone, shape_of, tokens, cells_at}
 use Rattle.vlog_tree.specs.Form.{ModuleTree}
 use Rattle.vlog_tree.specs.Spelling.{spelling}
 use Rattle.vlog_lex.specs.Grammar.{HasTree}
@@ -121,7 +121,7 @@ module _ (program : Program) (added : List ℕ) (design : DesignTree) (circuit :
   abbrev IsDoneSo : Option ℕ → Type 0
   IsDoneSo o = IsDoneAt run limit o
 
-  done_in : (n : ℕ) → at ≡ Some n → IsDone run n
+  done_in : (n : ℕ) → at ≡ Some n → RaisesDone run n
   done_in n e = (subst IsDoneSo e done).1
 
   last_is : (n : ℕ) → at ≡ Some n → last ≡ n
@@ -129,7 +129,7 @@ module _ (program : Program) (added : List ℕ) (design : DesignTree) (circuit :
 
   ended : (n : ℕ) → at ≡ Some n → HaveJoinedEnded net (counts program added env n)
   ended n e = by_cycle n (done_in n e) where
-    by_cycle : (n : ℕ) → IsDone run n → HaveJoinedEnded net (counts program added env n)
+    by_cycle : (n : ℕ) → RaisesDone run n → HaveJoinedEnded net (counts program added env n)
     by_cycle zero d = (let low : 1 ≤ 0 = d.0 in absurd (omega arith))
     by_cycle (suc n) d = (k.done n).0 d
 
@@ -142,8 +142,14 @@ module _ (program : Program) (added : List ℕ) (design : DesignTree) (circuit :
   as_run : (bound : ℕ) (c : ℕ → ℕ) → EndsWithin net bound c → (n s : ℕ) (q : Stream) → at ≡ Some n → slice_get program.streams.items s ≡ Some q → IsJoined net q.producer → written_to program added env n s ≡ shown net c s
   as_run bound c ends n s q e got joined = sym (seen n s q got) ∙ k.shows bound c ends s n n q got (done_in n e) (omega arith) joined
 
+  leaves :
+      (bound : ℕ) (c : ℕ → ℕ) → EndsWithin net bound c → (n m : ℕ) (o : Memory) → at ≡ Some n → slice_get program.memories.items m ≡ Some o → IsJoined net o.owner
+      → held m ≡ cells_of program env.scalars env.memories c m
+  leaves bound c ends n m o e got joined =
+      held_is m o got ∙ ap (λ z. cells_at run o.name (slice_index_or env.memories m []) z) (last_is n e) ∙ k.leaves bound c ends m n n o got joined (done_in n e) (omega arith)
+
   -- the first cycle in which it is done is no later than another
-  first_done : (o : Option ℕ) → at ≡ o → (m : ℕ) → IsDone run m → m ≤ limit → (n : ℕ) × (at ≡ Some n) × (n ≤ m)
+  first_done : (o : Option ℕ) → at ≡ o → (m : ℕ) → RaisesDone run m → m ≤ limit → (n : ℕ) × (at ≡ Some n) × (n ≤ m)
   first_done None e m d le = absurd ((subst IsDoneSo e done) m le d)
   first_done (Some n) e m d le =
       ⊎_elim {C = (n : ℕ) × (at ≡ Some n) × (n ≤ m)}
@@ -205,6 +211,7 @@ module _ (program : Program) (added told bytes : List ℕ) (limit : ℕ) (at : O
         ended = ended program added design circuit env fits is.nets runs limit at is.done;
         whole = whole program added design circuit env fits is.nets runs limit at is.done;
         as_run = as_run program added design circuit env fits is.nets runs limit at is.done;
+        leaves = leaves program added design circuit env fits is.nets runs limit at is.done;
         in_time = in_time program added design circuit env fits is.nets runs limit at is.done;
       }
 

@@ -12,7 +12,7 @@ use Rattle.command_source.specs.Refusal.{Refusal, Usage, Read, Write, TooLong, S
 use Rattle.command_source.specs.Source.{IsProgramOf}
 use Rattle.command_source.specs.declared.refusal.Refusal.{Refusal as CodeRefusal}
 use Rattle.command_source.proofs.OfFiles.{of_file_also}
-use Rattle.tapa_drive.specs.Answer.{IsFirst, most_in, OfFirst, HasProgram, IsTaken, IsRefusedIn, IsFaultyIn, IsReached, HasCause, Leaves, ReadsAsked}
+use Rattle.tapa_drive.specs.Answer.{IsReadFirst, most_in, OfFirst, HasProgram, IsTaken, IsRefusedIn, IsFaultyIn, IsReached, HasCause, Leaves, ReadsAsked}
 use Rattle.tapa_drive.specs.Carried.{IsCarriedOut}
 use Rattle.tapa_drive.proofs.Counts.{one_name}
 
@@ -26,7 +26,7 @@ module _ (words : List (List ℕ)) (files : Option Files) (reads : List ℕ → 
   unread = record { same_files = refl; asked = λ name. inl refl }
 
 -- a command that reads this file first
-module _ (words : List (List ℕ)) (files : Option Files) (command : Command) (asked : Asks words command) (source : List ℕ) (first : (file : List ℕ) → source ≡ file → IsFirst command file) (reads_old : List ℕ → ℕ) (old errors told : Written) where
+module _ (words : List (List ℕ)) (files : Option Files) (command : Command) (asked : Asks words command) (source : List ℕ) (first : (file : List ℕ) → source ≡ file → IsReadFirst command file) (reads_old : List ℕ → ℕ) (old errors told : Written) where
   abbrev named : Option (List ℕ)
   named = file_in command
 

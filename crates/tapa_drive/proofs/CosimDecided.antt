@@ -13,7 +13,7 @@ use Rattle.command_source.specs.Refusal.{Refusal, Usage, Read, Write, TooLong, S
 use Rattle.command_source.specs.Told.{IsTold, IsToldAs}
 use Rattle.command_source.specs.declared.status.Status.{Status}
 use Rattle.command_source.specs.declared.status.Status.TheVariants as status
-use Rattle.tapa_drive.specs.Answer.{OfRun, OfBuild, OfPlan, OfCosim, OfDesignTexts, IsFirst, most_in, IsTaken, IsRefusedIn, IsFaultyIn, IsReached, IsTooLong, IsDone, HasCause, Leaves, IsAnswer}
+use Rattle.tapa_drive.specs.Answer.{OfRun, OfBuild, OfPlan, OfCosim, OfDesignTexts, IsReadFirst, most_in, IsTaken, IsRefusedIn, IsFaultyIn, IsReached, IsTooLong, DidItsWork, HasCause, Leaves, IsAnswer}
 use Rattle.tapa_drive.specs.CosimDecided.{DoneIn, StillRunning, Misgiven, Overlong, Refused, Lengthy, TellsCosimOf, TellsCosim}
 use Rattle.tapa_drive.specs.Decided.{Bytes, TooMany, IsGiven, IsRefusedWith, NothingFails}
 use Rattle.tapa_drive.specs.Designs.{HasDesign, IsRefusedText, HasBadDesignData, HasCosimmed, HasUndone}
@@ -102,7 +102,7 @@ module _ (words : List (List ℕ)) (files : Files) (reads : List ℕ → ℕ) (o
         ))
         c
     of_reason (Source file place code) h leaves told =
-        let c = asked_of words command asked (λ a. IsFirst a file × OfFile (Some files) (most_in a) file (λ text. IsRefusedIn a text place code)) h in
+        let c = asked_of words command asked (λ a. IsReadFirst a file × OfFile (Some files) (most_in a) file (λ text. IsRefusedIn a text place code)) h in
         absurd (of_told_file files file (λ text. ⊥) c.1).1
     of_reason (Data file fault) h leaves told = absurd (not_run h)
     of_reason (Ticks most) h leaves told = absurd (not_run h)
@@ -113,7 +113,7 @@ module _ (words : List (List ℕ)) (files : Files) (reads : List ℕ → ℕ) (o
     of_reason (NoRoom label) h leaves told = absurd (not_planned h)
     of_reason (NoHalving level) h leaves told = absurd (not_planned h)
     of_reason (Verilog file fault) h leaves told =
-        let c = asked_of words command asked (λ a. IsFirst a file × OfFile (Some files) (most_in a) file (λ text. IsFaultyIn a text fault)) h in
+        let c = asked_of words command asked (λ a. IsReadFirst a file × OfFile (Some files) (most_in a) file (λ text. IsFaultyIn a text fault)) h in
         let t = of_told_file files name (λ text. IsRefusedText text fault) (subst (λ (f : List ℕ). OfFile (Some files) verilog_limit f (λ text. IsRefusedText text fault)) (sym c.0) c.1) in
         inl (Refused fault, t, refused_so (Verilog file fault) (Verilog name fault) result (ap (λ (f : List ℕ). Verilog f fault) (sym c.0)) told leaves)
     of_reason (DesignData file fault) h leaves told =
@@ -130,7 +130,7 @@ module _ (words : List (List ℕ)) (files : Files) (reads : List ℕ → ℕ) (o
     of_told : (why : Refusal) → IsToldAs why result errors after.err → HasCause words before after why → Leaves words before after why → Meets
     of_told why told h leaves = elim told [ inl t ↦ of_reason why h leaves t | inr w ↦ absurd (still.writes.told w.1) ]
 
-    of_ok : IsDone words before after → result ≡ status.Ok → after.err.bytes ≡ errors.bytes → Meets
+    of_ok : DidItsWork words before after → result ≡ status.Ok → after.err.bytes ≡ errors.bytes → Meets
     of_ok (inl r) is same = absurd (not_run r)
     of_ok (inr (inl p)) is same = absurd (not_planned p)
     of_ok (inr (inr (inr (inl b)))) is same = absurd (not_built b)

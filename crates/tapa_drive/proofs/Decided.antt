@@ -17,7 +17,7 @@ use Rattle.command_source.specs.Told.{IsTold, IsToldAs}
 use Rattle.command_source.specs.declared.status.Status.{Status}
 use Rattle.command_source.specs.declared.status.Status.TheVariants as status
 use Rattle.tapa_drive.specs.Vcds.{OfVcd}
-use Rattle.tapa_drive.specs.Answer.{OfRun, OfBuild, OfPlan, OfTexts, OfCosim, IsFirst, most_in, HasProgram, IsRefusedIn, IsFaultyIn, HasBadData, HasDone, HasStopped, HasLimit, IsReached, IsTooLong, IsDone, HasCause, Leaves, IsAnswer}
+use Rattle.tapa_drive.specs.Answer.{OfRun, OfBuild, OfPlan, OfTexts, OfCosim, IsReadFirst, most_in, HasProgram, IsRefusedIn, IsFaultyIn, HasBadData, HasDone, HasStopped, HasLimit, IsReached, IsTooLong, DidItsWork, HasCause, Leaves, IsAnswer}
 use Rattle.tapa_drive.specs.Decided.{SourceMeaning, Ran, Misgiven, Overlong, Refused, Given, Bytes, TooMany, IsGiven, Means, IsRefusedWith, Tells, WritesAll, NothingFails, Expects, IsLengthy}
 use Rattle.tapa_drive.proofs.OneMeaning.{means_one}
 
@@ -79,7 +79,7 @@ module _ (words : List (List ℕ)) (files : Files) (reads : List ℕ → ℕ) (o
   -- no Verilog text was read
   not_faulty : (file : List ℕ) (fault : VerilogFault) → HasCause words before after (Verilog file fault) → ⊥
   not_faulty file fault h =
-      let c = asked_of words command asked (λ a. IsFirst a file × OfFile (Some files) (most_in a) file (λ text. IsFaultyIn a text fault)) h in
+      let c = asked_of words command asked (λ a. IsReadFirst a file × OfFile (Some files) (most_in a) file (λ text. IsFaultyIn a text fault)) h in
       let w : OfSource (Some files) file (λ text. ⊥) = c.1 in
       w.3
 
@@ -130,7 +130,7 @@ module _ (words : List (List ℕ)) (files : Files) (reads : List ℕ → ℕ) (o
         (refused_so (TooLong file most) (TooLong (shown_name named) data_limit) result (ap (λ n. TooLong file n) w.1 ∙ ap (λ (f : List ℕ). TooLong f data_limit) (sym (ap shown_name w.0))) told leaves))
         c
     of_reason (Source file place code) h leaves told =
-        let c = asked_of words command asked (λ a. IsFirst a file × OfFile (Some files) (most_in a) file (λ text. IsRefusedIn a text place code)) h in
+        let c = asked_of words command asked (λ a. IsReadFirst a file × OfFile (Some files) (most_in a) file (λ text. IsRefusedIn a text place code)) h in
         told_by (Refused place code) (subst (λ (f : List ℕ). IsRefusedSource (file_bytes files f) top place code) (sym c.0) (of_source files file (λ (t : List ℕ). IsRefusedSource t top place code) c.1))
         (refused_so (Source file place code) (Source source place code) result (ap (λ (f : List ℕ). Source f place code) (sym c.0)) told leaves)
     of_reason (Data file fault) h leaves told =
@@ -159,7 +159,7 @@ module _ (words : List (List ℕ)) (files : Files) (reads : List ℕ → ℕ) (o
     of_told : (why : Refusal) → IsToldAs why result errors after.err → HasCause words before after why → Leaves words before after why → Meets expected
     of_told why told h leaves = elim told [ inl t ↦ of_reason why h leaves t | inr w ↦ absurd (still.writes.told w.1) ]
 
-    of_ok : IsDone words before after → result ≡ status.Ok → after.err.bytes ≡ errors.bytes → Meets expected
+    of_ok : DidItsWork words before after → result ≡ status.Ok → after.err.bytes ≡ errors.bytes → Meets expected
     of_ok (inr (inl p)) is same = absurd (not_planned p)
     of_ok (inr (inr (inl p))) is same = absurd (not_cosim p)
     of_ok (inr (inr (inr (inl b)))) is same = absurd (not_built b)
@@ -190,7 +190,7 @@ module _ (words : List (List ℕ)) (files : Files) (reads : List ℕ → ℕ) (o
         (λ (w : (named ≡ Some file) × (most ≡ data_limit) × IsLongerThan (Some files) file data_limit × OfSource (Some files) source (λ (t : List ℕ). HasProgram t top)). absurd (not_few w.3))
         c
     too_long result (Source file place code) h leaves told =
-        let c = asked_of words command asked (λ a. IsFirst a file × OfFile (Some files) (most_in a) file (λ text. IsRefusedIn a text place code)) h in
+        let c = asked_of words command asked (λ a. IsReadFirst a file × OfFile (Some files) (most_in a) file (λ text. IsRefusedIn a text place code)) h in
         absurd (not_few (subst (λ (f : List ℕ). OfSource (Some files) f (λ (t : List ℕ). IsRefusedSource t top place code)) (sym c.0) c.1))
     too_long result (Data file fault) h leaves told = absurd (not_few (asked_run words source top named workers limit asked (λ s t d n. (shown_name d ≡ file) × OfTexts (Some files) s d (λ text bytes. HasBadData text t bytes fault)) h).1)
     too_long result (Ticks most) h leaves told = absurd (not_few (asked_run words source top named workers limit asked (λ s t d n. (most ≡ n) × OfTexts (Some files) s d (λ text bytes. HasLimit text t bytes n)) h).1)
@@ -209,7 +209,7 @@ module _ (words : List (List ℕ)) (files : Files) (reads : List ℕ → ℕ) (o
     of_long : (result : Status) (why : Refusal) → IsToldAs why result errors after.err → HasCause words before after why → Leaves words before after why → IsLong result
     of_long result why told h leaves = elim told [ inl t ↦ too_long result why h leaves t | inr w ↦ absurd (still.writes.told w.1) ]
 
-    no_run : IsDone words before after → ⊥
+    no_run : DidItsWork words before after → ⊥
     no_run (inr (inl p)) = not_planned p
     no_run (inr (inr (inl p))) = not_cosim p
     no_run (inr (inr (inr (inl b)))) = not_built b
@@ -229,7 +229,7 @@ module _ (words : List (List ℕ)) (before after : Outside) (none : AskNothing w
   not_command : {P : Command → Type 0} → OfCommand words P → ⊥
   not_command h = none h.0 h.1
 
-  not_done : IsDone words before after → ⊥
+  not_done : DidItsWork words before after → ⊥
   not_done (inl h) = not_command h
   not_done (inr (inl h)) = not_command h
   not_done (inr (inr (inl h))) = not_command h

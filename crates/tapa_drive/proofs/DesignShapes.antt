@@ -25,7 +25,7 @@ use Rattle.vlog_run_laws.proofs.runs.Settled.{IsTopTree, top_tree}
 use Rattle.vlog_run_laws.proofs.runs.Sizes.{declared_bits, has_port as port_in}
 use Rattle.vlog_run_laws.proofs.runs.Sound.{both_true}
 use Rattle.vlog_run_laws.proofs.runs.TopPorts.{five_rdata}
-use Rattle.run_data.specs.Answer.{bits_of_ports, IsDataOf, IsCause}
+use Rattle.run_data.specs.Answer.{bits_of_ports, IsDataOf, IsDataCause}
 use Rattle.run_data.specs.declared.data.Data.{Data}
 use Rattle.run_data.specs.declared.data.DataFault.{DataFault}
 use Rattle.run_data.specs.declared.data.DataFault.TheVariants.{J1, J2, J3, J4, OutOfMemory}
@@ -132,7 +132,7 @@ module _ (design : DesignTree) (shape : Shape) (is : IsShapeIn design shape) whe
   }
 
   -- the fault of a text for the shape of a design is one for the design
-  pub unfit_design : (text : List ℕ) (fault : DataFault) → IsCause text shape fault → IsUnfitFor design text fault
+  pub unfit_design : (text : List ℕ) (fault : DataFault) → IsDataCause text shape fault → IsUnfitFor design text fault
   unfit_design text J1 h = h
   unfit_design text (J2 key) h = (shape, is, h)
   unfit_design text (J3 key) h = (shape, is, h)

@@ -10,7 +10,7 @@ use Rattle.command_source.specs.declared.refusal.Refusal.{Refusal as CodeRefusal
 use Rattle.command_source.specs.declared.status.Status.{Status}
 use Rattle.command_source.specs.declared.status.Status.TheVariants as status
 use Rattle.command_network.specs.Network.{IsNotPut}
-use Rattle.tapa_drive.specs.Generated.{OfGen, ReadsNothing, IsSummed, IsNetworkCarried, IsCarried, IsNetworkAnswer, IsAnswered}
+use Rattle.tapa_drive.specs.Generated.{OfGen, ReadsNothing, IsSummed, IsNetworkCarried, IsCarriedBy, IsNetworkAnswer, IsAnswered}
 use Rattle.tapa_drive.proofs.Answered.{done, refused}
 
 on_gen : (P Q : ℕ → Type 0) → ((layers : ℕ) → P layers → Q layers) → (c : Command) → OnGen P c → OnGen Q c
@@ -45,11 +45,11 @@ module _ (layers : ℕ) (before after : Outside) where
 
 -- the answer of a step that carries a command out, of files or of a network
 module _ (words : List (List ℕ)) (before after : Outside) where
-  pub answered_done : {A : Type 0} (x : A) → IsCarried {A = A} words before after (Ok x) → IsAnswered words before after status.Ok
+  pub answered_done : {A : Type 0} (x : A) → IsCarriedBy {A = A} words before after (Ok x) → IsAnswered words before after status.Ok
   answered_done x (inl h) = inl (done words before after x h)
   answered_done {A} x (inr w) = inr (gen_also words (λ n. IsNetworkCarried {A = A} n before after (Ok x)) (λ n. IsNetworkAnswer n before after status.Ok) (λ n h. network_done n before after x h) w)
 
-  pub answered_refused : {A : Type 0} (result : Status) (r : CodeRefusal) → IsCarried {A = A} words before after (Err r) → IsToldAs (refusal_of r) result before.err after.err ⊎ IsToldAs Memory result before.err after.err → (IsFixed (refusal_of r) → IsToldAs (refusal_of r) result before.err after.err) → IsAnswered words before after result
+  pub answered_refused : {A : Type 0} (result : Status) (r : CodeRefusal) → IsCarriedBy {A = A} words before after (Err r) → IsToldAs (refusal_of r) result before.err after.err ⊎ IsToldAs Memory result before.err after.err → (IsFixed (refusal_of r) → IsToldAs (refusal_of r) result before.err after.err) → IsAnswered words before after result
   answered_refused result r (inl h) told fixed = inl (refused words before after result r h told fixed)
   answered_refused {A} result r (inr w) told fixed =
       inr (gen_also words (λ n. IsNetworkCarried {A = A} n before after (Err r)) (λ n. IsNetworkAnswer n before after result) (λ n h. network_refused n before after result r h told fixed) w)

@@ -12,7 +12,7 @@ use Rattle.command_source.specs.Refusal.{Refusal, Usage, Read, Write, TooLong, S
 use Rattle.command_source.specs.Told.{IsToldAs}
 use Rattle.command_source.specs.declared.status.Status.{Status}
 use Rattle.command_source.specs.declared.status.Status.TheVariants as status
-use Rattle.tapa_drive.specs.Answer.{OfRun, OfBuild, OfPlan, OfCosim, IsFirst, most_in, IsRefusedIn, IsFaultyIn, IsReached, IsTooLong, IsDone, HasCause, IsAnswer}
+use Rattle.tapa_drive.specs.Answer.{OfRun, OfBuild, OfPlan, OfCosim, IsReadFirst, most_in, IsRefusedIn, IsFaultyIn, IsReached, IsTooLong, DidItsWork, HasCause, IsAnswer}
 use Rattle.tapa_drive.specs.Decided.{WritesAll}
 use Rattle.tapa_drive.specs.Generated.{IsNetworkAnswer, IsAnswered, TellsNetwork}
 use Rattle.tapa_drive.specs.Vcds.{OfVcd}
@@ -38,7 +38,7 @@ module _ (words : List (List ℕ)) (before after : Outside) (layers workers : �
   not_shown : {P : List ℕ → List ℕ → Type 0} → OfVcd words P → ⊥
   not_shown {P = P} h = asked_of words command asked (OnVcd P) h
 
-  not_done : IsDone words before after → ⊥
+  not_done : DidItsWork words before after → ⊥
   not_done (inl h) = not_run h
   not_done (inr (inl h)) = not_planned h
   not_done (inr (inr (inl h))) = not_cosim h
@@ -56,7 +56,7 @@ module _ (words : List (List ℕ)) (before after : Outside) (layers workers : �
       let c = asked_of words command asked (λ a. IsTooLong before.files a file most) h in
       absurd (elim c [ inl w ↦ w.0 | inr w ↦ (let none : None ≡ Some file = w.0 in cc) ])
   not_caused (Source file place code) h =
-      absurd (asked_of words command asked (λ a. IsFirst a file × OfFile before.files (most_in a) file (λ text. IsRefusedIn a text place code)) h).0
+      absurd (asked_of words command asked (λ a. IsReadFirst a file × OfFile before.files (most_in a) file (λ text. IsRefusedIn a text place code)) h).0
   not_caused (Data file fault) h = absurd (not_run h)
   not_caused (Ticks most) h = absurd (not_run h)
   not_caused (Stopped lines) h = absurd (not_run h)
@@ -66,7 +66,7 @@ module _ (words : List (List ℕ)) (before after : Outside) (layers workers : �
   not_caused (NoRoom label) h = absurd (not_planned h)
   not_caused (NoHalving level) h = absurd (not_planned h)
   not_caused (Verilog file fault) h =
-      absurd (asked_of words command asked (λ a. IsFirst a file × OfFile before.files (most_in a) file (λ text. IsFaultyIn a text fault)) h).0
+      absurd (asked_of words command asked (λ a. IsReadFirst a file × OfFile before.files (most_in a) file (λ text. IsFaultyIn a text fault)) h).0
   not_caused (DesignData file fault) h = absurd (not_cosim h)
   not_caused (Undone most) h = absurd (not_cosim h)
   not_caused (Dump file fault) h = absurd (not_shown h)

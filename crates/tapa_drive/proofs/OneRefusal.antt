@@ -18,13 +18,13 @@ use Rattle.stream_arrays.specs.declared.fault.ArrayCode.{ArrayCode}
 use Rattle.stream_arrays.specs.declared.fault.ArrayCode.TheVariants as arrays
 use Rattle.stream_arrays.specs.declared.fault.ArrayFault.{ArrayFault}
 use Rattle.stream_arrays.specs.Written.{written_out}
-use Rattle.check_scope.specs.Answers.{IsFirst}
+use Rattle.check_scope.specs.Answers.{IsFirstBroken}
 use Rattle.check_scope.specs.declared.fault.Broken.{Broken}
 use Rattle.stream_check.specs.Programs.{program_faults}
 use Rattle.command_source.specs.declared.source.SourceCode.{SourceCode}
 use Rattle.command_source.specs.declared.source.SourceCode.TheVariants.{L1, L2, L3, L4, A1, A2, A3, A4, P1, P2, Rule}
 use Rattle.command_source.specs.Codes.{lex_code, array_code, parse_code}
-use Rattle.command_source.specs.Source.{HasNoTree, BreaksFirst, IsRefusedText, HasArrayFault, IsUnwritten}
+use Rattle.command_source.specs.Source.{HasNoTree, BreaksFirst, IsRefusedWrittenOut, HasArrayFault, IsUnwritten}
 use Rattle.command_source.proofs.Sourced.{one_tree, no_tree, one_written, unwritten}
 use Rattle.tapa_drive.specs.OneMeaning.{SourcesHaveOneRefusal}
 
@@ -40,7 +40,7 @@ ByRule text top place code = (b : Broken) × BreaksFirst text top b × (place �
 abbrev Refusal : List ℕ → List ℕ → Place → SourceCode → Type 0
 Refusal text top place code = ByLexer text place code ⊎ (ByParser text place code ⊎ ByRule text top place code)
 
-refusal : (text top : List ℕ) (place : Place) (code : SourceCode) → IsRefusedText text top place code → Refusal text top place code
+refusal : (text top : List ℕ) (place : Place) (code : SourceCode) → IsRefusedWrittenOut text top place code → Refusal text top place code
 refusal text top place L1 h = inl (lex.L1, h, refl)
 refusal text top place L2 h = inl (lex.L2, h, refl)
 refusal text top place L3 h = inl (lex.L3, h, refl)
@@ -53,7 +53,7 @@ refusal text top place P1 h = inr (inl (parse.P1, h, refl))
 refusal text top place P2 h = inr (inl (parse.P2, h, refl))
 refusal text top place (Rule code limit) h = inr (inr (record { code = code; place = place; limit = limit }, h, refl, refl))
 
-first_once : (faults : List Broken) (a b : Broken) → IsFirst faults a → IsFirst faults b → a ≡ b
+first_once : (faults : List Broken) (a b : Broken) → IsFirstBroken faults a → IsFirstBroken faults b → a ≡ b
 first_once [] a b h k = absurd h
 first_once (x ∷ rest) a b h k = sym h ∙ k
 
@@ -66,7 +66,7 @@ module _ (text top : List ℕ) (place there : Place) (code other : SourceCode) w
 
   by_one_rule : ByRule text top place code → ByRule text top there other → (place ≡ there) × (code ≡ other)
   by_one_rule (a, h, p, e) (b, k, q, f) =
-      let same = first_once (program_faults (file_of k.file) top) a b (subst (λ (items : List ItemTree). IsFirst (program_faults items top) a) (one_tree text h.file k.file h.tree k.tree) h.first) k.first in
+      let same = first_once (program_faults (file_of k.file) top) a b (subst (λ (items : List ItemTree). IsFirstBroken (program_faults items top) a) (one_tree text h.file k.file h.tree k.tree) h.first) k.first in
       (p ∙ ap (λ (x : Broken). x.place) same ∙ sym q, e ∙ ap (λ (x : Broken). Rule x.code x.limit) same ∙ sym f)
 
   one_way : Refusal text top place code → Refusal text top there other → (place ≡ there) × (code ≡ other)
@@ -123,4 +123,4 @@ one_refusal text top place there code other (inl h) (inr (out, w, k)) = absurd (
 one_refusal text top place there code other (inr (out, w, h)) (inl k) = absurd (unwritten text out there other k w)
 one_refusal text top place there code other (inr (out, w, h)) (inr (next, v, k)) =
     let same = one_written text out next w v in
-    one_way next top place there code other (refusal next top place code (subst (λ (t : List ℕ). IsRefusedText t top place code) same h)) (refusal next top there other k)
+    one_way next top place there code other (refusal next top place code (subst (λ (t : List ℕ). IsRefusedWrittenOut t top place code) same h)) (refusal next top there other k)

@@ -21,7 +21,7 @@ use Rattle.command_plans.specs.Unwritten.{IsUnwritten}
 use Rattle.command_plans.specs.Found.{IsNoDevice}
 use Rattle.command_plans.specs.Planned.{IsFound, IsToldBy, IsUnplanned, HasDeviceFault, IsAskedOn, HasBadDevice, HasNoPlan, HasPlan}
 use Rattle.command_plans.proofs.Put.{WritesWhole}
-use Rattle.tapa_drive.specs.Answer.{OfTexts, HasProgram, HasCause, HasFrontOf, IsDone, Leaves, ReadsAsked}
+use Rattle.tapa_drive.specs.Answer.{OfTexts, HasProgram, HasCause, HasFrontOf, DidItsWork, Leaves, ReadsAsked}
 use Rattle.tapa_drive.specs.Carried.{IsCarriedOut}
 use Rattle.tapa_drive.proofs.Carried as carried
 use Rattle.tapa_drive.proofs.Counts.{rose_since, later_all}
@@ -168,7 +168,7 @@ module _ (words : List (List ℕ)) (files : Option Files) (source top name : Lis
           of_asked (λ text bytes. (by_plan : List ℕ) × HasPlan text top bytes mode aim by_plan × R by_plan)
           (λ text bytes a. (l, record { program = program; graph = graph; device = device; asked = a; plan = plan; found = found; is = is }, r))
 
-      planned : (l : List ℕ) → IsText l → Appends old.bytes new.bytes l → IsDone words before after
+      planned : (l : List ℕ) → IsText l → Appends old.bytes new.bytes l → DidItsWork words before after
       planned l is shown = inr (inl (command, asked, of_text (λ l. Appends old.bytes new.bytes l) l is shown))
 
       has_front : (l : List ℕ) → IsText l → AppendsPart old.bytes new.bytes l → HasFrontOf words before after

@@ -16,7 +16,7 @@ use Rattle.command_source.specs.Told.{IsTold, IsToldAs}
 use Rattle.command_source.specs.declared.status.Status.{Status}
 use Rattle.command_source.specs.declared.status.Status.TheVariants as status
 use Rattle.command_plans.specs.Planned.{HasBadDevice, HasNoPlan, HasPlan}
-use Rattle.tapa_drive.specs.Answer.{OfRun, OfBuild, OfPlan, OfTexts, OfCosim, IsFirst, most_in, HasProgram, IsRefusedIn, IsFaultyIn, IsReached, IsTooLong, IsDone, HasCause, Leaves, IsAnswer}
+use Rattle.tapa_drive.specs.Answer.{OfRun, OfBuild, OfPlan, OfTexts, OfCosim, IsReadFirst, most_in, HasProgram, IsRefusedIn, IsFaultyIn, IsReached, IsTooLong, DidItsWork, HasCause, Leaves, IsAnswer}
 use Rattle.tapa_drive.specs.Decided.{Bytes, TooMany, IsGiven, IsRefusedWith, NothingFails}
 use Rattle.tapa_drive.specs.PlanDecided.{TellsPlanOf, TellsPlan}
 use Rattle.tapa_drive.specs.PlanDecided as meaning
@@ -54,7 +54,7 @@ module _ (words : List (List ℕ)) (files : Files) (reads : List ℕ → ℕ) (o
   -- no Verilog text was read
   not_faulty : (file : List ℕ) (fault : VerilogFault) → HasCause words before after (Verilog file fault) → ⊥
   not_faulty file fault h =
-      let c = asked_of words command asked (λ a. IsFirst a file × OfFile (Some files) (most_in a) file (λ text. IsFaultyIn a text fault)) h in
+      let c = asked_of words command asked (λ a. IsReadFirst a file × OfFile (Some files) (most_in a) file (λ text. IsFaultyIn a text fault)) h in
       let w : OfSource (Some files) file (λ text. ⊥) = c.1 in
       w.3
 
@@ -113,7 +113,7 @@ module _ (words : List (List ℕ)) (files : Files) (reads : List ℕ → ℕ) (o
         ))
         c
     of_reason (Source file place code) h leaves told =
-        let c = asked_of words command asked (λ a. IsFirst a file × OfFile (Some files) (most_in a) file (λ text. IsRefusedIn a text place code)) h in
+        let c = asked_of words command asked (λ a. IsReadFirst a file × OfFile (Some files) (most_in a) file (λ text. IsRefusedIn a text place code)) h in
         let t = of_told_source files source (λ (t : List ℕ). IsRefusedSource t top place code) (subst (λ (f : List ℕ). OfSource (Some files) f (λ t. IsRefusedSource t top place code)) (sym c.0) c.1) in
         inl (meaning.Refused place code, t, refused_so (Source file place code) (Source source place code) result (ap (λ (f : List ℕ). Source f place code) (sym c.0)) told leaves)
     of_reason (Data file fault) h leaves told = absurd (not_run h)
@@ -140,7 +140,7 @@ module _ (words : List (List ℕ)) (files : Files) (reads : List ℕ → ℕ) (o
     of_told : (why : Refusal) → IsToldAs why result errors after.err → HasCause words before after why → Leaves words before after why → Meets
     of_told why told h leaves = elim told [ inl t ↦ of_reason why h leaves t | inr w ↦ absurd (still.writes.told w.1) ]
 
-    of_ok : IsDone words before after → result ≡ status.Ok → after.err.bytes ≡ errors.bytes → Meets
+    of_ok : DidItsWork words before after → result ≡ status.Ok → after.err.bytes ≡ errors.bytes → Meets
     of_ok (inl r) is same = absurd (not_run r)
     of_ok (inr (inr (inl p))) is same = absurd (not_cosim p)
     of_ok (inr (inr (inr (inl b)))) is same = absurd (not_built b)

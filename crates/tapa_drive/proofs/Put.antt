@@ -8,11 +8,11 @@ use Rattle.command_source.specs.Refusal.{Refusal, Usage, Read, Write, TooLong, S
 use Rattle.command_source.specs.declared.refusal.Refusal.{Refusal as CodeRefusal}
 use Rattle.command_plans.specs.Unwritten.{IsUnwritten}
 use Rattle.command_plans.proofs.Put.{WritesWhole}
-use Rattle.tapa_drive.specs.Answer.{HasCause, HasFrontOf, IsDone, Leaves, ReadsAsked}
+use Rattle.tapa_drive.specs.Answer.{HasCause, HasFrontOf, DidItsWork, Leaves, ReadsAsked}
 use Rattle.tapa_drive.specs.Carried.{IsCarriedOut}
 
 -- a command whose text was written whole did what it is for, and else a front part of the text stands
-module _ (words : List (List ℕ)) (before after : Outside) (P : List ℕ → Type 0) (done : (told : List ℕ) → P told → Appends before.out.bytes after.out.bytes told → IsDone words before after) (front : (told : List ℕ) → P told → AppendsPart before.out.bytes after.out.bytes told → HasFrontOf words before after) (reads : ReadsAsked words before after) where
+module _ (words : List (List ℕ)) (before after : Outside) (P : List ℕ → Type 0) (done : (told : List ℕ) → P told → Appends before.out.bytes after.out.bytes told → DidItsWork words before after) (front : (told : List ℕ) → P told → AppendsPart before.out.bytes after.out.bytes told → HasFrontOf words before after) (reads : ReadsAsked words before after) where
   unwritten_cause : (r : Refusal) → IsUnwritten before.out after.out P r → HasCause words before after r
   unwritten_cause Usage h = absurd h
   unwritten_cause (Read file) h = absurd h

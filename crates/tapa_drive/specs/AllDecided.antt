@@ -16,7 +16,7 @@ use Rattle.tapa_drive.specs.Generated.{TellsNetwork}
 use Rattle.tapa_drive.specs.PlanDecided.{TellsPlan}
 use Rattle.tapa_drive.specs.VcdDecided.{TellsVcd}
 
--- where nothing outside fails, the answer tells what was asked for, or memory ran out
+-- where nothing outside fails, the answer is what was asked for, or memory ran out
 pub record IsDecided (words : List (List ℕ)) (before after : Outside) (status : Status) : Type 0 where
   -- what the source means with its data
   pub run : (source top : List ℕ) (named : Option (List ℕ)) (workers limit : ℕ) → Asks words (Run source top named workers limit) →

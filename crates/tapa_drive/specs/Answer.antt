@@ -1,4 +1,4 @@
--- What has come to pass in a call of the program, and what stands after it.
+-- What has happened in a call of the program, and the state after it.
 use Rattle.std.specs.Prelude.{◌≡◌, ◌≢◌, ◌⊎◌, ℕ, List, Option, Some, ⊤}
 use Rattle.std.specs.Io.KnownBytes.{Appends}
 use Rattle.tapa_base.specs.declared.text.Place.{Place}
@@ -39,14 +39,14 @@ abbrev pub most_in : Command → ℕ
 most_in c = most_of (reading_of c)
 
 -- the file is the one that a command reads first
-abbrev pub IsFirstOf : Reading → List ℕ → Type 0
-IsFirstOf (FromSource source top) file = source ≡ file
-IsFirstOf (FromText text) file = text ≡ file
-IsFirstOf (FromDump dump) file = dump ≡ file
-IsFirstOf FromNothing file = ⊥
+abbrev pub IsFileReadFirst : Reading → List ℕ → Type 0
+IsFileReadFirst (FromSource source top) file = source ≡ file
+IsFileReadFirst (FromText text) file = text ≡ file
+IsFileReadFirst (FromDump dump) file = dump ≡ file
+IsFileReadFirst FromNothing file = ⊥
 
-abbrev pub IsFirst : Command → List ℕ → Type 0
-IsFirst c file = IsFirstOf (reading_of c) file
+abbrev pub IsReadFirst : Command → List ℕ → Type 0
+IsReadFirst c file = IsFileReadFirst (reading_of c) file
 
 -- the words ask for a run of a source and a task, with a file of data where one is named, and with a limit on its ticks,
 -- of which this holds
@@ -66,11 +66,11 @@ OfBuild words P = OfCommand words (OnBuild P)
 abbrev pub OfPlan : List (List ℕ) → (List ℕ → List ℕ → List ℕ → PlanMode → PlanAim → Type 0) → Type 0
 OfPlan words P = OfCommand words (OnPlan P)
 
--- this holds of the bytes of the source and of the data: of those that are told, and else of some
+-- this holds of the bytes of the source and of the data: of those that are known, and else of some
 abbrev pub OfTexts : Option Files → List ℕ → Option (List ℕ) → (List ℕ → List ℕ → Type 0) → Type 0
 OfTexts files source given P = OfSource files source (λ text. OfData files given (λ bytes. P text bytes))
 
--- the same of the bytes of a Verilog text and of the data
+-- this holds of the bytes of a Verilog text and of the data: of those that are known, and else of some
 abbrev pub OfDesignTexts : Option Files → List ℕ → Option (List ℕ) → (List ℕ → List ℕ → Type 0) → Type 0
 OfDesignTexts files name given P = OfFile files verilog_limit name (λ text. OfData files given (λ bytes. P text bytes))
 
@@ -106,7 +106,7 @@ pub record HasDone (text top bytes : List ℕ) (limit : ℕ) (old new : Option (
   pub done : DoneRun program values limit report
   pub shown : Appends old new report
 
--- the source's program stops, its report was written, and each line tells what an instance waits for
+-- the source's program stops, its report was written, and each line says what an instance waits for
 pub record HasStopped (text top bytes : List ℕ) (limit : ℕ) (lines : List (List ℕ)) (old new : Option (List ℕ)) : Type 0 where
   pub program : Program
   pub values : Values
@@ -164,22 +164,23 @@ OfFirst files c P = OfFirstBy files (reading_of c) P
 
 -- the file is the source, the text or the dump, or the further file of one that is taken
 abbrev pub IsReached : Option Files → Command → List ℕ → Type 0
-IsReached files c file = IsFirst c file ⊎ ((file_in c ≡ Some file) × OfFirst files c (IsTaken c))
+IsReached files c file = IsReadFirst c file ⊎ ((file_in c ≡ Some file) × OfFirst files c (IsTaken c))
 
 -- the source, the text or the dump has more bytes than it may; or the further file of one that is taken has
 abbrev pub IsTooLong : Option Files → Command → List ℕ → ℕ → Type 0
 IsTooLong files c file most =
-    (IsFirst c file × (most ≡ most_in c) × IsLongerThan files file (most_in c))
+    (IsReadFirst c file × (most ≡ most_in c) × IsLongerThan files file (most_in c))
     ⊎ ((file_in c ≡ Some file) × (most ≡ data_limit) × IsLongerThan files file data_limit × OfFirst files c (IsTaken c))
 
--- what has come to pass in a call that tells this refusal
+-- what has happened in a call that reports this refusal
 abbrev pub HasCause : List (List ℕ) → Outside → Outside → Refusal → Type 0
 HasCause words before after Usage = AskNothing words
 HasCause words before after (Read file) = OfCommand words (λ c. IsReached before.files c file × Rose (before.failed_reads file) (after.failed_reads file))
 HasCause words before after Write = Rose before.out.failed after.out.failed
 HasCause words before after (TooLong file most) = OfCommand words (λ c. IsTooLong before.files c file most)
-HasCause words before after (Source file place code) = OfCommand words (λ c. IsFirst c file × OfFile before.files (most_in c) file (λ text. IsRefusedIn c text place code))
-HasCause words before after (Data file fault) = OfRun words (λ source top given limit. (shown_name given ≡ file) × OfTexts before.files source given (λ text bytes. HasBadData text top bytes fault))
+HasCause words before after (Source file place code) = OfCommand words (λ c. IsReadFirst c file × OfFile before.files (most_in c) file (λ text. IsRefusedIn c text place code))
+HasCause words before after (Data file fault) =
+    OfRun words (λ source top given limit. (shown_name given ≡ file) × OfTexts before.files source given (λ text bytes. HasBadData text top bytes fault))
 HasCause words before after (Ticks most) = OfRun words (λ source top given limit. (most ≡ limit) × OfTexts before.files source given (λ text bytes. HasLimit text top bytes limit))
 HasCause words before after (Stopped lines) = OfRun words
     (λ source top given limit. OfTexts before.files source given (λ text bytes. HasStopped text top bytes limit lines before.out.bytes after.out.bytes))
@@ -190,7 +191,7 @@ HasCause words before after (TooManyPlans slots free) = OfPlan words
 HasCause words before after NoPlan = OfPlan words (λ source top device mode aim. OfTexts before.files source (Some device) (λ text bytes. HasNoPlan text top bytes mode NoPlan))
 HasCause words before after (NoRoom label) = OfPlan words (λ source top device mode aim. OfTexts before.files source (Some device) (λ text bytes. HasNoPlan text top bytes mode (NoRoom label)))
 HasCause words before after (NoHalving level) = OfPlan words (λ source top device mode aim. OfTexts before.files source (Some device) (λ text bytes. HasNoPlan text top bytes mode (NoHalving level)))
-HasCause words before after (Verilog file fault) = OfCommand words (λ c. IsFirst c file × OfFile before.files (most_in c) file (λ text. IsFaultyIn c text fault))
+HasCause words before after (Verilog file fault) = OfCommand words (λ c. IsReadFirst c file × OfFile before.files (most_in c) file (λ text. IsFaultyIn c text fault))
 HasCause words before after (DesignData file fault) = OfCosim words
     (λ name given limit aim. (shown_name given ≡ file) × OfDesignTexts before.files name given (λ text bytes. HasBadDesignData text bytes fault))
 HasCause words before after (Undone most) = OfCosim words
@@ -202,7 +203,7 @@ HasCause words before after Memory = ⊤
 abbrev pub IsRun : List (List ℕ) → Outside → Outside → Type 0
 IsRun words before after = OfRun words (λ source top given limit. OfTexts before.files source given (λ text bytes. HasDone text top bytes limit before.out.bytes after.out.bytes))
 
--- what is told by a plan of the source's program was written: its lines, or the text of a circuit
+-- the output of a plan of the source's program was written: its lines, or the text of a circuit
 abbrev pub IsPlanned : List (List ℕ) → Outside → Outside → Type 0
 IsPlanned words before after =
     OfPlan words (λ source top device mode aim. OfTexts before.files source (Some device)
@@ -217,11 +218,11 @@ abbrev pub IsBuilt : List (List ℕ) → Outside → Outside → Type 0
 IsBuilt words before after = OfBuild words (λ source top. OfSource before.files source (λ text. (told : List ℕ) × HasCircuit text top told × Appends before.out.bytes after.out.bytes told))
 
 -- the command did what it is for
-abbrev pub IsDone : List (List ℕ) → Outside → Outside → Type 0
-IsDone words before after = IsRun words before after ⊎ (IsPlanned words before after ⊎ (IsCosimmed words before after ⊎ (IsBuilt words before after ⊎ IsVcdShown words before after)))
+abbrev pub DidItsWork : List (List ℕ) → Outside → Outside → Type 0
+DidItsWork words before after = IsRun words before after ⊎ (IsPlanned words before after ⊎ (IsCosimmed words before after ⊎ (IsBuilt words before after ⊎ IsVcdShown words before after)))
 
--- a front part was written of a report of the source, of a plan, of a report or a dump of the Verilog text, of a circuit, or of the lines of a net, or of it
--- nothing yet: there is such a text, so no step before the writing refuses
+-- a prefix was written of a report of the source, of a plan, of a report or a dump of the Verilog text, of a circuit, or of the lines
+-- of a net, or nothing yet: there is such a text, so no step before the writing refuses
 abbrev pub HasFrontOf : List (List ℕ) → Outside → Outside → Type 0
 HasFrontOf words before after =
     OfRun words (λ source top given limit. OfTexts before.files source given
@@ -233,11 +234,11 @@ HasFrontOf words before after =
     ⊎ (OfBuild words (λ source top. OfSource before.files source (λ text. (told : List ℕ) × HasCircuit text top told × AppendsPart before.out.bytes after.out.bytes told))
     ⊎ IsVcdBegun words before after)))
 
--- nothing was written, or a front part of such a text
+-- nothing was written, or a prefix of such a text
 abbrev pub HasPartOf : List (List ℕ) → Outside → Outside → Type 0
 HasPartOf words before after = (after.out.bytes ≡ before.out.bytes) ⊎ HasFrontOf words before after
 
--- what stands in the output after a call that tells this refusal
+-- what the output holds after a call that reports this refusal
 abbrev pub Leaves : List (List ℕ) → Outside → Outside → Refusal → Type 0
 Leaves words before after Usage = after.out.bytes ≡ before.out.bytes
 Leaves words before after (Read file) = after.out.bytes ≡ before.out.bytes
@@ -265,8 +266,8 @@ pub record ReadsAsked (words : List (List ℕ)) (before after : Outside) : Type 
   pub asked : (name : List ℕ) → (after.failed_reads name ≡ before.failed_reads name) ⊎ OfCommand words (λ c. IsReached before.files c name)
 
 -- the status of a call: that of done work, where the program of the source was run to its end or planned; or that of a
--- refusal, which is told, has its cause and leaves the output so
+-- refusal, which is reported, has its cause and leaves the output so
 pub record IsAnswer (words : List (List ℕ)) (before after : Outside) (status : Status) : Type 0 where
-  pub ok : status ≡ Ok → IsDone words before after
+  pub ok : status ≡ Ok → DidItsWork words before after
   pub told : status ≢ Ok → (why : Refusal) × IsToldAs why status before.err after.err × HasCause words before after why × Leaves words before after why
   pub reads : ReadsAsked words before after

@@ -13,7 +13,7 @@ use Rattle.command_source.specs.declared.status.Status.TheVariants.{Ok}
 use Rattle.command_plans.specs.Built.{HasCircuit}
 use Rattle.tapa_drive.specs.Decided.{IsRefusedWith}
 
--- the text of the circuit of the source's program is written whole; or it is told which rule refuses the source, and where;
+-- the text of the circuit of the source's program is written whole; or it is reported which rule refuses the source, and where;
 -- or that it has more bytes than it may
 abbrev pub TellsBuildOf : List ℕ → List ℕ → List ℕ → Status → Outside → Outside → Type 0
 TellsBuildOf source text top status before after =
@@ -21,7 +21,7 @@ TellsBuildOf source text top status before after =
     ⊎ (((length text ≤ source_limit) × ((place : Place) × (code : SourceCode) × IsRefusedSource text top place code × IsRefusedWith (Source source place code) status before after))
     ⊎ ((source_limit < length text) × IsRefusedWith (TooLong source source_limit) status before after))
 
--- the same where the files are told
+-- what a build answers, where the files are known
 abbrev pub TellsBuild : Option Files → List ℕ → List ℕ → Status → Outside → Outside → Type 0
 TellsBuild None source top status before after = Unit {0}
 TellsBuild (Some files) source top status before after = TellsBuildOf source (file_bytes files source) top status before after

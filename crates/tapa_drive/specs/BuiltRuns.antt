@@ -38,7 +38,7 @@ network_in program env = network_of program env.scalars env.memories
 abbrev pub written_to : Program → List ℕ → Environment → ℕ → ℕ → List Token
 written_to program added env n s = written (network_in program env) (counts program added env (suc n)) s
 
--- A report of so many cycles at most shows a program on the data, in whose environment its circuit was.
+-- A report of at most `limit` cycles shows a program on the data, in whose environment its circuit was.
 pub record ShowsProgram (program : Program) (added bytes : List ℕ) (limit : ℕ) (at : Option ℕ) (report : List ℕ) : Type 0 where
   pub env : Environment
   pub gives : GivesValues program bytes (values_in env)
@@ -48,7 +48,8 @@ pub record ShowsProgram (program : Program) (added bytes : List ℕ) (limit : �
       report ≡ (stream_lines (written_to program added env (last_cycle limit at)) (stream_ports program) ++ memory_lines cells (memory_ports program)) ++ last_line (last_of limit at)
   -- a memory has the cells of the timed counts before that cycle
   pub holds :
-      (m n : ℕ) (o : Memory) → slice_get program.memories.items m ≡ Some o → last_cycle limit at ≡ suc n → cells m ≡ cells_at program env.scalars env.memories (counts program added env (suc n)) m
+      (m n : ℕ) (o : Memory) → slice_get program.memories.items m ≡ Some o → last_cycle limit at ≡ suc n
+      → cells m ≡ cells_at program env.scalars env.memories (counts program added env (suc n)) m
   -- where the circuit is done in a cycle, every instance that is waited for has ended there
   pub ended : (n : ℕ) → at ≡ Some n → HaveJoinedEnded (network_in program env) (counts program added env n)
   -- and what is shown of a stream whose writer is waited for is its whole Kahn stream
@@ -60,10 +61,16 @@ pub record ShowsProgram (program : Program) (added bytes : List ℕ) (limit : �
       (bound : ℕ) (k : ℕ → ℕ) → EndsWithin (network_in program env) bound k → (n s : ℕ) (q : Stream) → at ≡ Some n → slice_get program.streams.items s ≡ Some q
       → IsJoined (network_in program env) q.producer
       → written_to program added env n s ≡ shown (network_in program env) k s
+  -- and a memory whose owner is waited for has the cells that such a run leaves
+  pub leaves :
+      (bound : ℕ) (k : ℕ → ℕ) → EndsWithin (network_in program env) bound k → (n m : ℕ) (o : Memory) → at ≡ Some n → slice_get program.memories.items m ≡ Some o
+      → IsJoined (network_in program env) o.owner
+      → cells m ≡ cells_at program env.scalars env.memories k m
   -- by the greatest added latency, and the cycles in which some memory does not answer, the circuit is done in time where a run
   -- within some bound is done
   pub in_time :
-      (most waits : ℕ) → ((s : ℕ) → slice_index added s ≤ most) → ((n : ℕ) → lost (all_answer env) n ≤ waits) → (bound : ℕ) (k : ℕ → ℕ) → EndsWithin (network_in program env) bound k
+      (most waits : ℕ) → ((s : ℕ) → slice_index added s ≤ most) → ((n : ℕ) → lost (all_answer env) n ≤ waits) → (bound : ℕ) (k : ℕ → ℕ)
+      → EndsWithin (network_in program env) bound k
       → (a : ℕ) × IsLeastToEnd (network_in program env) a × ((a + 2) * (2 * most + 4) + waits ≤ limit → (n : ℕ) × (at ≡ Some n) × (n ≤ (a + 2) * (2 * most + 4) + waits))
 
 -- of the text of a circuit of a program, whatever latencies are added, each report is one
@@ -90,4 +97,5 @@ abbrev pub LatencyChangesNoReport : Type 0
 LatencyChangesNoReport =
     (program : Program) (added more bytes : List ℕ) (limit most m n : ℕ) (report other : List ℕ) (a : ShowsProgram program added bytes limit (Some m) report)
     (b : ShowsProgram program more bytes most (Some n) other)
-    → (s : ℕ) (q : Stream) → slice_get program.streams.items s ≡ Some q → IsJoined (network_in program a.env) q.producer → written_to program added a.env m s ≡ written_to program more b.env n s
+    → (s : ℕ) (q : Stream) → slice_get program.streams.items s ≡ Some q → IsJoined (network_in program a.env) q.producer
+    → written_to program added a.env m s ≡ written_to program more b.env n s

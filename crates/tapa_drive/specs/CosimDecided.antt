@@ -37,7 +37,7 @@ MeansText aim files name named limit (Refused fault) = (length (file_bytes files
 MeansText aim files name named limit meaning =
     (length (file_bytes files name) ≤ verilog_limit) × ((given : Given) × IsGiven files named given × MeansWithin aim (file_bytes files name) given limit meaning)
 
--- the status and the lines that tell it
+-- the status of a text's meaning, and the lines that report it
 abbrev pub TellsText : List ℕ → Option (List ℕ) → ℕ → TextMeaning → Status → Outside → Outside → Type 0
 TellsText name named limit (DoneIn cycle report) status before after = (status ≡ Ok) × Appends before.out.bytes after.out.bytes report × (after.err.bytes ≡ before.err.bytes)
 TellsText name named limit (StillRunning report) status before after = IsTold (Undone limit) status before.err after.err × Appends before.out.bytes after.out.bytes report
@@ -46,7 +46,7 @@ TellsText name named limit Overlong status before after = IsRefusedWith (TooLong
 TellsText name named limit (Refused fault) status before after = IsRefusedWith (Verilog name fault) status before after
 TellsText name named limit Lengthy status before after = IsRefusedWith (TooLong name verilog_limit) status before after
 
--- where the files are told, the answer tells what the text means with its data
+-- where the files are known, the answer reports what the text means with its data
 abbrev pub TellsCosimOf : Option Files → List ℕ → Option (List ℕ) → ℕ → CosimAim → Status → Outside → Outside → Type 0
 TellsCosimOf None name named limit aim status before after = Unit {0}
 TellsCosimOf (Some files) name named limit aim status before after = (meaning : TextMeaning) × MeansText aim files name named limit meaning × TellsText name named limit meaning status before after

@@ -51,18 +51,18 @@ Means text top (Bytes bytes) limit Overlong = ⊥
 Means text top TooMany limit Overlong = OfProgram text top (λ program. ⊤)
 Means text top given limit (Refused place code) = IsRefusedSource text top place code
 
--- a refusal is told whole, and nothing is written to the output
+-- a refusal is reported whole, and nothing is written to the output
 pub record IsRefusedWith (why : refusal.Refusal) (status : Status) (before after : Outside) : Type 0 where
   pub told : IsTold why status before.err after.err
   pub quiet : after.out.bytes ≡ before.out.bytes
 
--- how a run goes under a limit on its ticks is told: a report is written whole, and so are the lines of a stop
+-- what is written of a run under a limit on its ticks: a whole report, and the whole lines of a stop
 abbrev pub TellsRun : ℕ → RunMeaning → Status → Outside → Outside → Type 0
 TellsRun limit (Done report) status before after = (status ≡ Ok) × Appends before.out.bytes after.out.bytes report × (after.err.bytes ≡ before.err.bytes)
 TellsRun limit (Stopped report lines) status before after = IsTold (refusal.Stopped lines) status before.err after.err × Appends before.out.bytes after.out.bytes report
 TellsRun limit Limit status before after = IsRefusedWith (Ticks limit) status before after
 
--- the status and the lines that tell a meaning of a source with its data
+-- the status and the lines that report a meaning of a source with its data
 abbrev pub Tells : List ℕ → Option (List ℕ) → ℕ → SourceMeaning → Status → Outside → Outside → Type 0
 Tells source named limit (Ran how) status before after = TellsRun limit how status before after
 Tells source named limit (Misgiven fault) status before after = IsRefusedWith (Data (shown_name named) fault) status before after
@@ -87,12 +87,12 @@ pub record ExpectsOf (files : Files) (source top : List ℕ) (named : Option (Li
   pub within : length (file_bytes files source) ≤ source_limit
   pub means : Means (file_bytes files source) top given limit meaning
 
--- the same where the files are told
+-- what a source means with its data, where the files are known
 abbrev pub Expects : Option Files → List ℕ → List ℕ → Option (List ℕ) → ℕ → SourceMeaning → Type 0
 Expects None source top named limit meaning = ⊥
 Expects (Some files) source top named limit meaning = ExpectsOf files source top named limit meaning
 
--- the files are told, and the source has more bytes than it may
+-- the files are known, and the source has more bytes than it may
 abbrev pub IsLengthy : Option Files → List ℕ → Type 0
 IsLengthy None source = ⊥
 IsLengthy (Some files) source = source_limit < length (file_bytes files source)

@@ -96,7 +96,7 @@ pub record HasSimulated (aim : CosimAim) (text bytes : List ℕ) (limit : ℕ) (
   pub gives : GivesEnvironment design bytes env
   pub is : IsToldFor aim design env limit done_at report
 
--- a report or a dump of so many cycles at most was written: of a design that is done, or of one that is not
+-- a report or a dump of at most `limit` cycles was written: of a design that is done, or of one that is not
 pub record HasCosimmed (aim : CosimAim) (text bytes : List ℕ) (limit : ℕ) (old new : Option (List ℕ)) : Type 0 where
   pub at : ℕ
   pub report : List ℕ

@@ -14,7 +14,7 @@ use Rattle.tapa_drive.specs.Answer.{IsAnswer}
 use Rattle.tapa_drive.specs.Carried.{IsCarriedOut}
 use Rattle.tapa_drive.specs.Decided.{IsRefusedWith}
 
--- the words ask for the generated network of so many layers, of which this holds
+-- the words ask for a generated network, of whose number of layers this holds
 abbrev pub OfGen : List (List ℕ) → (ℕ → Type 0) → Type 0
 OfGen words P = OfCommand words (OnGen P)
 
@@ -34,11 +34,11 @@ pub record IsNetworkCarried {A : Type 0} (layers : ℕ) (before after : Outside)
   pub reads : ReadsNothing before after
 
 -- a step that carries a command out: one of files, or that of a generated network
-abbrev pub IsCarried : {A : Type 0} → List (List ℕ) → Outside → Outside → Result A CodeRefusal → Type 0
-IsCarried words before after result = IsCarriedOut words before after result ⊎ OfGen words (λ layers. IsNetworkCarried layers before after result)
+abbrev pub IsCarriedBy : {A : Type 0} → List (List ℕ) → Outside → Outside → Result A CodeRefusal → Type 0
+IsCarriedBy words before after result = IsCarriedOut words before after result ⊎ OfGen words (λ layers. IsNetworkCarried layers before after result)
 
--- the status of a call that generates a network: that of done work, where the summary was written; or that of a refusal, which is told
--- and has its cause
+-- the status of a call that generates a network: that of done work, where the summary was written; or that of a refusal, which is
+-- reported and has its cause
 pub record IsNetworkAnswer (layers : ℕ) (before after : Outside) (status : Status) : Type 0 where
   pub says : ((status ≡ Ok) × IsSummed layers before after) ⊎ ((why : Refusal) × IsToldAs why status before.err after.err × IsNotPut layers before.out after.out why)
   pub reads : ReadsNothing before after

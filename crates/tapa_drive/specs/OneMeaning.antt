@@ -23,7 +23,8 @@ SourcesHaveOneInput = (text top bytes : List ℕ) (p q : Program) (v w : Values)
 -- and have one fault for them, if they have any
 abbrev pub SourcesHaveOneDataFault : Type 0
 SourcesHaveOneDataFault =
-    (text top bytes : List ℕ) (p q : Program) (fault other : DataFault) → IsProgramOf text top p → IsProgramOf text top q → HasDataFault p bytes fault → HasDataFault q bytes other → fault ≡ other
+    (text top bytes : List ℕ) (p q : Program) (fault other : DataFault) → IsProgramOf text top p → IsProgramOf text top q → HasDataFault p bytes fault → HasDataFault q bytes other
+    → fault ≡ other
 
 -- with data and under a limit on ticks a source has at most one meaning
 abbrev pub SourcesMeanOneThing : Type 0

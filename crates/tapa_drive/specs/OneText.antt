@@ -11,7 +11,8 @@ use Rattle.tapa_drive.specs.Designs.{IsDesignOf, GivesEnvironment, HasSimulated,
 -- the files, with a limit on cycles, mean at most one thing
 abbrev pub TextsMeanOneThing : Type 0
 TextsMeanOneThing =
-    (aim : CosimAim) (files : Files) (name : List ℕ) (named : Option (List ℕ)) (limit : ℕ) (m n : TextMeaning) → MeansText aim files name named limit m → MeansText aim files name named limit n → m ≡ n
+    (aim : CosimAim) (files : Files) (name : List ℕ) (named : Option (List ℕ)) (limit : ℕ) (m n : TextMeaning) → MeansText aim files name named limit m
+    → MeansText aim files name named limit n → m ≡ n
 
 -- a design to which data give an environment has a report, and a dump
 abbrev pub TextsMeanSomething : Type 0

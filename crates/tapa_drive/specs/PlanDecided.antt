@@ -16,7 +16,7 @@ use Rattle.command_plans.specs.Planned.{HasBadDevice, HasNoPlan, HasPlan}
 use Rattle.tapa_drive.specs.Answer.{HasProgram}
 use Rattle.tapa_drive.specs.Decided.{Given, Bytes, TooMany, IsGiven, IsRefusedWith}
 
--- what a source means with a device file: what is told by a plan, its lines or a circuit; that there is no plan, and why; a
+-- what a source means with a device file: the output of a plan, its lines or a circuit; that there is no plan, and why; a
 -- device file that has this fault, or is too long; no program, since a rule refuses the source at a place; or more bytes than
 -- a source may have
 pub data PlanMeaning : Type 0 where
@@ -42,7 +42,7 @@ MeansPlan files source top device mode aim (Refused place code) = (length (file_
 MeansPlan files source top device mode aim meaning =
     (length (file_bytes files source) ≤ source_limit) × ((given : Given) × IsGiven files (Some device) given × MeansOn (file_bytes files source) top given mode aim meaning)
 
--- the status and the lines that tell it; what is told by a plan is written whole
+-- the status and the lines that report it; the output of a plan is written whole
 abbrev pub TellsMeaning : List ℕ → List ℕ → PlanMeaning → Status → Outside → Outside → Type 0
 TellsMeaning source device (Planned told) status before after = (status ≡ Ok) × Appends before.out.bytes after.out.bytes told × (after.err.bytes ≡ before.err.bytes)
 TellsMeaning source device (NoPlan why) status before after = IsRefusedWith why status before after
@@ -51,7 +51,7 @@ TellsMeaning source device Overlong status before after = IsRefusedWith (TooLong
 TellsMeaning source device (Refused place code) status before after = IsRefusedWith (Source source place code) status before after
 TellsMeaning source device Lengthy status before after = IsRefusedWith (TooLong source source_limit) status before after
 
--- where the files are told, the answer tells what the source means with the device file
+-- where the files are known, the answer reports what the source means with the device file
 abbrev pub TellsPlanOf : Option Files → List ℕ → List ℕ → List ℕ → PlanMode → PlanAim → Status → Outside → Outside → Type 0
 TellsPlanOf None source top device mode aim status before after = Unit {0}
 TellsPlanOf (Some files) source top device mode aim status before after =

@@ -11,7 +11,7 @@ use Rattle.command_source.specs.declared.status.Status.TheVariants.{Ok}
 use Rattle.tapa_drive.specs.Decided.{IsRefusedWith}
 use Rattle.tapa_drive.specs.Vcds.{IsWrongDump}
 
--- the lines of the net are written whole; or it is told where the text is no dump, or that its dump has no such net; or that it
+-- the lines of the net are written whole; or it is reported where the text is no dump, or that its dump has no such net; or that it
 -- has more bytes than it may
 abbrev pub TellsVcdOf : List ℕ → List ℕ → List ℕ → Status → Outside → Outside → Type 0
 TellsVcdOf file text net status before after =
@@ -19,7 +19,7 @@ TellsVcdOf file text net status before after =
     ⊎ (((length text ≤ data_limit) × ((fault : DumpFault) × IsWrongDump text net fault × IsRefusedWith (Dump file fault) status before after))
     ⊎ ((data_limit < length text) × IsRefusedWith (TooLong file data_limit) status before after))
 
--- the same where the files are told
+-- what `vcd` answers, where the files are known
 abbrev pub TellsVcd : Option Files → List ℕ → List ℕ → Status → Outside → Outside → Type 0
 TellsVcd None file net status before after = Unit {0}
 TellsVcd (Some files) file net status before after = TellsVcdOf file (file_bytes files file) net status before after

@@ -41,6 +41,7 @@ HasWrongDump words files file fault = OfVcd words (λ name net. (name ≡ file) 
 abbrev pub IsVcdShown : List (List ℕ) → Outside → Outside → Type 0
 IsVcdShown words before after = OfVcd words (λ name net. OfFile before.files data_limit name (λ text. (told : List ℕ) × IsNetShown text net told × Appends before.out.bytes after.out.bytes told))
 
--- or a front part of them
+-- or a prefix of them
 abbrev pub IsVcdBegun : List (List ℕ) → Outside → Outside → Type 0
-IsVcdBegun words before after = OfVcd words (λ name net. OfFile before.files data_limit name (λ text. (told : List ℕ) × IsNetShown text net told × AppendsPart before.out.bytes after.out.bytes told))
+IsVcdBegun words before after =
+    OfVcd words (λ name net. OfFile before.files data_limit name (λ text. (told : List ℕ) × IsNetShown text net told × AppendsPart before.out.bytes after.out.bytes told))

@@ -1,8 +1,9 @@
+// The top call: does what the words of a command ask for with the given files, outputs and threads, and answers the status.
 ghost use Rattle.std.specs.Prelude.{◌≡◌};
 ghost use Rattle.tapa_words.specs.Words.{texts};
 ghost use Rattle.command_source.specs.Outside.{Written, written, outside};
 ghost use Rattle.tapa_drive.specs.AllDecided.{IsDecided};
-ghost use Rattle.tapa_drive.specs.Generated.{IsAnswered, IsCarried};
+ghost use Rattle.tapa_drive.specs.Generated.{IsAnswered, IsCarriedBy};
 
 use crate::cosim::cosim_text;
 use crate::sources::{build_source, plan_source, run_source};
@@ -26,7 +27,7 @@ fn carry_out<'a, R: Threads + Wait + Sync, S: Shelf, O: Sink, G: Gate>(
     gate: &G,
 ) -> Result<(), Refusal<'a>>
     ensures { (errors told : Written) →
-        IsCarried (texts words.now) (outside (S.files shelf.old) (S.faults shelf.old) (written (O.contents out.old) (O.faults out.old)) errors)
+        IsCarriedBy (texts words.now) (outside (S.files shelf.old) (S.faults shelf.old) (written (O.contents out.old) (O.faults out.old)) errors)
         (outside (S.files shelf.new) (S.faults shelf.new) (written (O.contents out.new) (O.faults out.new)) told) result }
 {
     match read_words(alloc, words) {
@@ -101,16 +102,17 @@ pub fn tapa<R: Threads + Wait + Sync, S: Shelf, O: Sink, E: Sink, G: Gate>(
     err: &mut E,
     gate: &G,
 ) -> Status
-    // Done work: every joined instance of the source's program has ended on its data, and the report of its streams, whole Kahn
-    // streams where their producers are joined, and of the last cells is written; or the lines of a plan of the source's program on the device are; or the
-    // text of its circuit is, with the latencies of such a plan where a device is named, whose streams carry prefixes of Kahn streams in every cycle, and all of them once its done is raised; or
-    // the design of the Verilog text was done, and the report of its cycles is; or the summary of a generated network, of its run and of its
-    // circuit is. Each other status tells a refusal, which has its cause and leaves the output so. No other file is read than the source or the text and, where it has a
+    // Done work: every instance of the source's program that is waited for has ended on its data, and the report of its streams, whole
+    // Kahn streams where their producers are waited for, and of the last cells is written; or the lines of a plan of the source's program
+    // on the device are; or the text of its circuit is, with the latencies of such a plan where a device is named, whose streams carry
+    // prefixes of Kahn streams in every cycle, and all of them once its done is raised; or the design of the Verilog text was done, and
+    // the report of its cycles is; or the summary of a generated network, of its run and of its circuit is. Each other status reports a
+    // refusal, which has its cause and leaves the output so. No other file is read than the source or the text and, where it has a
     // program or a design, the data or the device file.
     ensures answer { IsAnswered (texts words.now) (outside (S.files shelf.old) (S.faults shelf.old) (written (O.contents out.old) (O.faults out.old)) (written (E.contents err.old) (E.faults err.old)))
         (outside (S.files shelf.new) (S.faults shelf.new) (written (O.contents out.new) (O.faults out.new)) (written (E.contents err.new) (E.faults err.new))) result }
     ensures ok_err { result ≡ Status.Ok → err.new ≡ err.old }
-    // Where the files are told and nothing outside fails, the answer tells what the source means with its data or its device
+    // Where the files are known and nothing outside fails, the answer reports what the source means with its data or its device
     // file, what the Verilog text means with its data, or what the generated network does, and a report, a plan's lines, a circuit
     // or a summary is written whole: or memory ran out.
     ensures decided { IsDecided (texts words.now) (outside (S.files shelf.old) (S.faults shelf.old) (written (O.contents out.old) (O.faults out.old)) (written (E.contents err.old) (E.faults err.old)))

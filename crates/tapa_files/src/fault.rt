@@ -1,3 +1,4 @@
+// The faults of shelves, of sinks, of files that are read and of texts that are printed, and conversions between them.
 ghost use Rattle.std.specs.Prelude.{◌≡◌};
 ghost use Rattle.tapa_files.specs.declared.fault.TakeFault.TheVariants as take_fault;
 ghost use Rattle.tapa_files.specs.declared.fault.PrintFault.TheVariants as print_fault;

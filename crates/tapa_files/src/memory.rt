@@ -8,7 +8,7 @@ use crate::{Shelf, ShelfFault, Sink, WriteFailed};
 use std::alloc::{AllocError, Global};
 use tapa_base::OutOfMemory;
 
-/// A shelf that tells its files. The calls whose numbers are listed fail, and so does a read of a name that is not there.
+/// A shelf whose files are known. The calls whose numbers are listed fail, and so does a read of a name that is not there.
 #[derive(Drop)]
 pub struct MemShelf {
     alloc: Global,
@@ -47,7 +47,7 @@ pub(crate) fn find<'a>(files: &'a [(String, Vec<u8>)], name: &str) -> Option<&'a
     None
 }
 
-/// Copies bytes from an offset on to the front of `buf`, as many as there are and have room.
+/// Copies bytes from an offset on to the start of `buf`, up to the end of either, and returns their number.
 pub(crate) fn copy_piece(bytes: &[u8], from: u64, buf: &mut [u8]) -> usize
     ensures bound { result ≤ length buf.new }
     ensures piece { IsPieceAt bytes.now from result buf.new }
@@ -88,7 +88,7 @@ impl Shelf for MemShelf {
     }
 }
 
-/// A sink that tells its bytes. Room is reserved at the start; the calls whose numbers are listed fail, and so does
+/// A sink whose bytes are known. Room is reserved at the start; the calls whose numbers are listed fail, and so does
 /// a piece that does not fit.
 #[derive(Drop)]
 pub struct MemSink {
@@ -100,7 +100,7 @@ pub struct MemSink {
 }
 
 impl MemSink {
-    /// An empty sink with room for so many bytes, of whose writes those with these numbers fail, counted from 0.
+    /// An empty sink with room for `room` bytes. The calls of `write` whose numbers are listed fail, counted from 0.
     pub fn new(alloc: Global, room: usize, fails: Vec<u64>) -> Result<Self, OutOfMemory>
         ensures empty { IfOk result (λ sink. ⟦<MemSink as Sink>⟧.contents sink ≡ Some []) }
         ensures calm { IfOk result (λ sink. ⟦<MemSink as Sink>⟧.faults sink ≡ 0) }

@@ -7,13 +7,13 @@ use crate::ShelfFault;
 
 /// Where files are read by their names: the real folder, or files in memory for tests. It counts, for each name, the reads that failed.
 pub trait Shelf {
-    /// The files, where the shelf tells them.
+    /// The contents of the files, where they are known.
     ghost files: { Self → Option Files };
 
     /// How often a read of this name has failed.
     ghost faults: { Self → List ℕ → ℕ };
 
-    /// Puts bytes of the named file, from an offset on, at the front of `buf`, and says how many.
+    /// Puts bytes of the named file, from an offset on, at the start of `buf`, and returns their number.
     fn read(&mut self, name: &str, from: u64, buf: &mut [u8]) -> Result<usize, ShelfFault>
         requires { from ≤ 33554432 }
         ensures bound { ReadsAtMost result buf.new }

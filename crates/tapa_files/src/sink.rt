@@ -8,13 +8,13 @@ use crate::WriteFailed;
 
 /// Where bytes are written: standard output or error, or memory for tests. It counts the writes that failed.
 pub trait Sink {
-    /// The bytes that it holds, where the sink tells them.
+    /// The bytes that it has taken, where they are known.
     ghost contents: { Self → Option (List ℕ) };
 
     /// How often a write has failed.
     ghost faults: { Self → ℕ };
 
-    /// Takes a front part of `bytes`, and says how many.
+    /// Takes a prefix of `bytes`, and returns its length.
     fn write(&mut self, bytes: &[u8]) -> Result<usize, WriteFailed>
         ensures bound { WritesAtMost result bytes.now }
         ensures appends { WriteAppends (contents self.old) (contents self.new) result bytes.now }

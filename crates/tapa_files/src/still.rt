@@ -7,7 +7,7 @@ ghost use Rattle.tapa_files.specs.Memory.{files_of};
 use crate::memory::{copy_piece, find};
 use crate::{Shelf, ShelfFault, Sink, WriteFailed};
 
-/// A shelf that tells its files. A name that is not there reads as an empty file.
+/// A shelf whose files are known. A name that is not there reads as an empty file.
 #[derive(Drop)]
 pub struct StillShelf {
     files: Vec<(String, Vec<u8>)>,
@@ -40,12 +40,12 @@ impl Shelf for StillShelf {
     }
 }
 
-/// A sink that takes all and tells nothing.
+/// A sink that takes all bytes, and of which no bytes are known.
 #[derive(Clone, Copy, Debug)]
 pub struct StillSink;
 
 impl StillSink {
-    /// A sink that takes every byte and tells none.
+    /// A sink that takes every byte, and of which none are known.
     pub fn new() -> Self {
         StillSink
     }

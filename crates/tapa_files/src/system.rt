@@ -1,4 +1,4 @@
-// The edge: real files, and standard output and error. Nothing is claimed of what they hold.
+// The edge: real files, and standard output and error. Nothing is claimed of their contents.
 ghost use Rattle.std.specs.Prelude.{◌≡◌, ℕ, List, None};
 ghost use Rattle.std.specs.Io.{ReadsAtMost};
 ghost use Rattle.tapa_files.specs.Memory.{times};
@@ -43,7 +43,7 @@ impl<'a, R: Files<File = File>> DirShelf<'a, R> {
     }
 }
 
-// Opens a file at its front.
+// Opens a file at its first byte.
 fn open_file<R: Files<File = File>>(
     rt: &R,
     alloc: Global,

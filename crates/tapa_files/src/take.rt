@@ -1,3 +1,4 @@
+// Reads all bytes of a file from a shelf in pieces, up to a limit.
 ghost use Rattle.std.specs.Prelude.{◌≡◌, ◌<◌, ◌≤◌, ℕ, List, IfOk, OnOk, OnErr, IsErrOf, length};
 ghost use Rattle.tapa_files.specs.Outside.{AsksFor, Rose};
 ghost use Rattle.tapa_files.specs.Take.{IsFileOf, IsLongerThan};
@@ -8,7 +9,7 @@ use std::alloc::{AllocError, Global};
 // A file is read in pieces of this many bytes.
 const CHUNK: usize = 65536;
 
-// A buffer of so many bytes.
+// A buffer of `size` bytes, all 0.
 fn zeros(alloc: Global, size: usize) -> Result<Vec<u8>, AllocError>
     ensures { IfOk result (λ buffer. length buffer.items ≡ size) }
 {
@@ -43,7 +44,7 @@ fn take_pieces<S: Shelf>(
     Err(TakeFault::TooLong { limit })
 }
 
-/// Takes all bytes of a file, of which there may be as many as the limit. `TooLong` comes where the file has more, and
+/// Takes all bytes of a file, at most the limit. `TooLong` comes where the file has more, and
 /// `ReadFault` where the shelf failed to read it; the bytes read so far are let go then.
 pub fn take_file<S: Shelf>(
     alloc: Global,

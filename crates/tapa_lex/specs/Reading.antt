@@ -1,4 +1,4 @@
--- What the lexer finds in front of a text.
+-- What the lexer computes at the start of a text.
 use Rattle.std.specs.Prelude.{ℕ, ◌+◌, Bool, ◌&&◌, ◌||◌, if◌then◌else◌, ◌==◌, List, [], take, drop, slice_index, Option, Some, None, Result, Ok, Err, codes}
 use Rattle.std.specs.Str.{bytes_eq}
 use Rattle.tapa_base.specs.declared.kind.Kind.{Kind}
@@ -52,7 +52,7 @@ is_triple b c d = b == c && d == 61 && is_among shifts b
 unfoldable pub sign_length : ℕ → ℕ → ℕ → ℕ
 sign_length b c d = if is_triple b c d then 3 else (if is_pair b c then 2 else (if is_single b then 1 else 0))
 
--- a piece and its length, or why none stands
+-- a piece and its length, or why the text begins with none
 abbrev pub Cut : Type 0
 Cut = Result (Option LexKind × ℕ) LexCode
 
@@ -101,6 +101,6 @@ cut_word opens z =
     else (if is_digit (slice_index z 0) then cut_literal (run is_word_byte z) (literal_of (take (run is_word_byte z) z))
     else cut_quoted opens z)
 
--- the piece that comes first; `opens` tells whether only blanks stand before it in its line
+-- the piece that comes first; `opens` says whether only blanks are before it in its line
 unfoldable pub cut : Bool → Bytes → Cut
 cut opens z = if is_blank (slice_index z 0) then Ok (None, 1) else cut_word opens z

@@ -11,7 +11,7 @@ use Rattle.tapa_lex.specs.declared.fault.LexCode.TheVariants.{L1, L2, L3, L4}
 use Rattle.tapa_lex.specs.declared.fault.LexFault.{LexFault}
 use Rattle.tapa_lex.specs.declared.fault.LexFault.TheVariants.{At, OutOfMemory}
 
--- what was begun where nothing stands: a number, a string or a comment, a line with `#`, or nothing
+-- what was begun where there is no piece: a number, a string or a comment, a line with `#`, or nothing
 abbrev pub code_at : Bool → Bytes → LexCode
 code_at opens behind =
     let b = slice_index behind 0 in
@@ -20,7 +20,7 @@ code_at opens behind =
     else (if b == 35 && opens then L4
     else (if b == 47 && slice_index behind 1 == 42 then L2 else L1)))
 
--- pieces stand in turn up to a place, and behind it, where more is to come, no piece stands
+-- the text is pieces up to a place, and then a rest that is not empty and begins with no piece
 pub record IsRefused (text : Bytes) (code : LexCode) (place : Place) : Type 0 where
   pub pieces : List Piece
   pub behind : Bytes
@@ -31,15 +31,15 @@ pub record IsRefused (text : Bytes) (code : LexCode) (place : Place) : Type 0 wh
   pub told : code ≡ code_at (opens_line (text_of pieces [])) behind
   pub at : place ≡ place_of (text_of pieces [])
 
--- a fault tells where the text is refused, unless memory ran out
-abbrev pub IsCause : Bytes → LexFault → Type 0
-IsCause text (At code place) = IsRefused text code place
-IsCause text OutOfMemory = ⊤
+-- a fault reports where the text is refused, unless memory ran out
+abbrev pub IsLexCause : Bytes → LexFault → Type 0
+IsLexCause text (At code place) = IsRefused text code place
+IsLexCause text OutOfMemory = ⊤
 
 -- these lexemes are answered, unless memory ran out
-abbrev pub Answers : Result (Vec Lexeme Global) LexFault → List Lexeme → Type 0
-Answers (Ok v) lexemes = v.items ≡ lexemes
-Answers (Err fault) lexemes = fault ≡ OutOfMemory
+abbrev pub LexerAnswers : Result (Vec Lexeme Global) LexFault → List Lexeme → Type 0
+LexerAnswers (Ok v) lexemes = v.items ≡ lexemes
+LexerAnswers (Err fault) lexemes = fault ≡ OutOfMemory
 
 -- this refusal is answered, unless memory ran out
 abbrev pub Refuses : Result (Vec Lexeme Global) LexFault → LexCode → Place → Type 0
@@ -50,6 +50,6 @@ Refuses (Err fault) code place = (fault ≡ At code place) ⊎ (fault ≡ OutOfM
 abbrev pub HasOneRefusal : Type 0
 HasOneRefusal = (text : Bytes) (code other : LexCode) (place there : Place) → IsRefused text code place → IsRefused text other there → (code ≡ other) × (place ≡ there)
 
--- and then it has no lexemes
+-- a text that is refused has no lexemes
 abbrev pub HasLexemesOrRefusal : Type 0
 HasLexemesOrRefusal = (text : Bytes) (lexemes : List Lexeme) (code : LexCode) (place : Place) → HasLexemes text lexemes → IsRefused text code place → ⊥

@@ -16,7 +16,7 @@ pub enum Class {
     InLine,
     /// Blanks that end no line.
     InnerBlank,
-    /// What stands between the quotes of a string.
+    /// A byte that may be between the quotes of a string.
     Plain,
     /// The digits of a base.
     DigitOf(u64),
@@ -65,7 +65,7 @@ pub fn worth(b: u8) -> u64
     }
 }
 
-/// How many bytes of a class stand in front.
+/// The number of leading bytes of a class.
 #[tactic(auto, unfolding(tapa_syntax::specs::Characters::run))]
 pub fn run(class: Class, text: &[u8]) -> usize
     ensures value { result ≡ characters.run (is_in class) text.now }

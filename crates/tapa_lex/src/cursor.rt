@@ -1,4 +1,4 @@
-//! Where the lexer stands in a text.
+//! A position of the lexer in a text.
 
 ghost use Rattle.std.specs.Prelude.{◌≡◌, ◌+◌, ◌<◌, ◌≤◌, ◌^◌, ◌++◌, ◌&&◌, [], ◌∷◌, length};
 ghost use Rattle.tapa_base.specs.Gaps.{Bytes};
@@ -7,7 +7,7 @@ ghost use Rattle.tapa_lex.specs.Standing.{IsBehind};
 use tapa_base::Place;
 use tapa_syntax::is_blank;
 
-/// An index of a text, its place, and whether only blanks stand before it in its line.
+/// An index of a text, its place, and whether only blanks are before it in its line.
 #[derive(Clone, Copy)]
 pub struct Cursor {
     pub at: u32,
@@ -27,7 +27,7 @@ impl Cursor {
         }
     }
 
-    /// Where one stands behind one more byte.
+    /// The position one byte later, where that byte is `b`.
     fn past(self, b: u8) -> Self
         requires at { self.at + 1 < 2 ^ 32 }
         requires line { self.place.line + 1 < 2 ^ 32 }

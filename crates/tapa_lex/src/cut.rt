@@ -12,7 +12,7 @@ use tapa_syntax::{LexKind, byte, closing, is_blank};
 /// The kind of a lexeme, or none for a gap, and how many bytes it has.
 type Piece = (Option<LexKind>, usize);
 
-/// The piece that comes first, where `opens` tells whether only blanks stand before it in its line.
+/// The piece that comes first, where `opens` says whether only blanks are before it in its line.
 #[tactic(auto, unfolding(crate::specs::Reading::cut))]
 pub fn cut(opens: bool, text: &[u8]) -> Result<Piece, LexCode>
     requires { 0 < length text.now }

@@ -8,7 +8,7 @@ pub fn one_list_of_lexemes()
     ensures { HasOneListOfLexemes }
 {}
 
-/// Each lexeme has a slice of the text that stands there as its kind, its place, and a value of its kind.
+/// Each lexeme has a slice of the text that is of its kind, its place, and a value of its kind.
 pub fn lexemes_are_slices()
     ensures { AreSlices }
 {}

@@ -5,7 +5,7 @@ ghost use Rattle.std.specs.List.{AllByRecursion};
 ghost use Rattle.tapa_base.specs.declared.text.Place.{Place};
 ghost use Rattle.tapa_syntax.specs.declared.lexeme.Lexeme.{Lexeme};
 ghost use Rattle.tapa_syntax.specs.Lexemes.{HasLexemes, IsSliceOf, InOrder};
-ghost use Rattle.tapa_lex.specs.Refusals.{IsCause, IsRefused, Answers, Refuses};
+ghost use Rattle.tapa_lex.specs.Refusals.{IsLexCause, IsRefused, LexerAnswers, Refuses};
 ghost use Rattle.tapa_lex.specs.Standing.{spanned};
 ghost use Rattle.tapa_lex.specs.declared.fault.LexCode.{LexCode};
 
@@ -19,14 +19,14 @@ use tapa_syntax::{LexKind, Lexeme};
 /// grows with the length of the text.
 pub fn lex(alloc: Global, text: &[u8]) -> Result<Vec<Lexeme>, LexFault>
     requires { length text.now < 2 ^ 32 - 1 }
-    // What is answered are the lexemes of the text, each with its slice, its place and a value of its kind.
+    // The result is the lexemes of the text, each with its slice, its place and a value of its kind.
     ensures found { IfOk result (λ v. HasLexemes text.now v.items) }
     ensures slices { IfOk result (λ v. AllByRecursion (IsSliceOf text.now) v.items) }
     ensures in_order { IfOk result (λ v. InOrder 0 v.items) }
-    // A refusal tells the first place at which the text has no piece, and what was begun there.
-    ensures refused { IfErr result (IsCause text.now) }
-    // A text that has lexemes gets them, and one that is refused is told so, unless memory runs out.
-    ensures only { (lexemes : List Lexeme) → HasLexemes text.now lexemes → Answers result lexemes }
+    // A refusal reports the first place at which the text has no piece, and what was begun there.
+    ensures refused { IfErr result (IsLexCause text.now) }
+    // A text that has lexemes gets them, and one that is refused is reported as such, unless memory runs out.
+    ensures only { (lexemes : List Lexeme) → HasLexemes text.now lexemes → LexerAnswers result lexemes }
     ensures always { (code : LexCode) (place : Place) → IsRefused text.now code place → Refuses result code place }
 {
     let mut found = Vec::new(alloc);
@@ -47,7 +47,7 @@ pub fn lex(alloc: Global, text: &[u8]) -> Result<Vec<Lexeme>, LexFault>
     Ok(found)
 }
 
-/// Puts the lexeme between two places at the end. A gap is none.
+/// Appends the lexeme between two cursors. A gap is none.
 fn put(
     found: &mut Vec<Lexeme>,
     sort: Option<LexKind>,

@@ -44,7 +44,7 @@ fn base_of(word: &[u8]) -> u64
     }
 }
 
-/// What stands behind `0x` or `0b`.
+/// The digits and the suffix, without `0x` or `0b`.
 fn behind_mark(word: &[u8], base: u64) -> &[u8]
     requires { base ≡ literals.base_of word.now }
     ensures { result.now ≡ literals.behind_mark word.now }
@@ -72,7 +72,7 @@ fn value_of(base: u64, digits: &[u8]) -> Option<u64>
     Some(value)
 }
 
-/// The value with one more digit behind it.
+/// The value with one more digit after it.
 fn with_digit(value: u64, base: u64, digit: u64) -> Option<u64>
     ensures { SomeIff result (value * base + digit < 2 ^ 64) (value * base + digit) }
 {

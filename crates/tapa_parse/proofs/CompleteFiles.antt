@@ -11,7 +11,7 @@ use Rattle.tapa_syntax.specs.Grammar.{Takes, TakesAt, AreStatements, IsAttribute
 use Rattle.tapa_syntax.specs.Limits.{most, item_nesting, item_operators, most_levels, most_operators, IsWithinLimits}
 use Rattle.tapa_parse.specs.declared.fault.ParseFault.{ParseFault}
 use Rattle.tapa_parse.specs.declared.fault.ParseFault.TheVariants.{At, OutOfMemory}
-use Rattle.tapa_parse.specs.Answers.{Answers, stopped_at}
+use Rattle.tapa_parse.specs.Answers.{ParserAnswers, stopped_at}
 use Rattle.tapa_parse_expression.specs.Readers.{Outcome, is_left, next, first_place, same, sees}
 use Rattle.tapa_parse_expression.specs.Reading.{Readers, attribute, attributes, below_levels, below}
 use Rattle.tapa_parse_expression.specs.Passing.{over_each}
@@ -159,7 +159,7 @@ Reads text (Err OutOfMemory) outcome = Unit {0}
 Reads text (Err (At code place)) outcome = (left : Symbols) × (place ≡ stopped_at text left) × (outcome ≡ Err (code, left))
 
 -- what is read is what the symbols have
-pub answered : (text : Bytes) (result : Result File ParseFault) (i : Symbols) → Reads text result (file most_operators (below most_levels) i) → (trees : List ItemTree) → IsTreeOf i trees → IsWithinLimits trees → Answers result trees
+pub answered : (text : Bytes) (result : Result File ParseFault) (i : Symbols) → Reads text result (file most_operators (below most_levels) i) → (trees : List ItemTree) → IsTreeOf i trees → IsWithinLimits trees → ParserAnswers result trees
 answered text (Ok found) i (left, is) trees h k = ap (λ (x : List ItemTree × Symbols). x.0) (ok_is (file_of found, left) (trees, []) (sym is ∙ file_complete most_operators most_levels i trees h k.levels k.longest (omega arith)))
 answered text (Err OutOfMemory) i is trees h k = refl
 answered text (Err (At code place)) i (left, at, is) trees h k = absurd (let read = file_complete most_operators most_levels i trees h k.levels k.longest (omega arith) in cc)

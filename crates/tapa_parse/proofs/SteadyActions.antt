@@ -11,7 +11,7 @@ use Rattle.tapa_syntax.specs.declared.tree.StepOperator.TheVariants as step_oper
 use Rattle.tapa_syntax.specs.declared.tree.AssignmentOperator.{AssignmentOperator}
 use Rattle.tapa_syntax.specs.declared.tree.AttributeArgument.TheVariants as argument_form
 use Rattle.tapa_syntax.specs.Trees.{PlaceTree, variable_place, element_place, ActionTree, call_action, write, read, assign, postfix, prefix_step, literal_count, name_count, parenthesized_count, CountTree, plain, initialized, array}
-use Rattle.tapa_syntax.specs.Grammar.{Part, Takes, May, Means, IsName, IsPlainName, IsType, is_name, step_operator_of, assignment_operator_of, IsExpression, sum_level, expression_level, argument_level, IsPlace, IsAction, IsCountForm, IsCount, IsDeclarator, IsDeclaration, IsAttributeArgument, AreAttributeArguments, IsAttribute, IsStatement}
+use Rattle.tapa_syntax.specs.Grammar.{Part, Takes, May, MeansTree, IsName, IsPlainName, IsType, is_name, step_operator_of, assignment_operator_of, IsExpression, sum_level, expression_level, argument_level, IsPlace, IsAction, IsCountForm, IsCount, IsDeclarator, IsDeclaration, IsAttributeArgument, AreAttributeArguments, IsAttribute, IsStatement}
 use Rattle.tapa_parse_expression.specs.Readers.{Reader, next, first_place, no_place, sees, skip, expect, here, name, known, pure, separated_until, ◌>>=◌, ◌>>◌}
 use Rattle.tapa_parse_expression.specs.Reading as spec
 use Rattle.tapa_parse_expression.specs.Reading.{Readers, argument, whole, place_from, place_with, call_arguments, assigned_by, assigned, acted_by, acted, stepped, action_with, form_by, form, counted, declarator_by, declarator, declaration_with, attribute_argument_by, attribute_argument, listed_arguments, attribute_arguments, attribute, attributes}
@@ -62,7 +62,7 @@ any_longer P h i r x = h x.0 i r x.1
 pub full_place : Full (Any IsPlace)
 full_place = full_map (Any IsName) (Any IsPlace) (λ i j h. (variable_place h.0, h.1)) full_name
 
-full_increment : Full (Any (Means step_operator_of))
+full_increment : Full (Any (MeansTree step_operator_of))
 full_increment = record { before = λ j. mark terminal.Increment ∷ j; spelled = λ j. (step_operator.Increment, (mark terminal.Increment, refl, refl)) }
 
 pub full_form : Full (Any IsCountForm)
@@ -128,7 +128,7 @@ module _ (limit : ℕ) (inner : Option Readers) (h : MaySteady AllSteady inner) 
       (λ es k. steady_value (λ _. es) (steady_expect terminal.RightParen k refl)))
 
   abbrev Assigned : Part
-  Assigned = Any (Means step_operator_of) ∣ (Any (Means assignment_operator_of) ⨾ AnyExpression expression_level)
+  Assigned = Any (MeansTree step_operator_of) ∣ (Any (MeansTree assignment_operator_of) ⨾ AnyExpression expression_level)
 
   steady_assigned : (target : PlaceTree) (i : Symbols) → Steady Assigned (assigned limit inner target) i
   unfolding assigned
@@ -136,12 +136,12 @@ module _ (limit : ℕ) (inner : Option Readers) (h : MaySteady AllSteady inner) 
     where
       pick : (s : Option StepOperator) → step_operator_of (next i) ≡ s → (o : Option AssignmentOperator) → assignment_operator_of (next i) ≡ o → Steady Assigned (assigned_by limit inner s o target) i
       pick (Some s) is o also =
-          steady_at (λ at. skip >> pure (postfix target s at)) i (steady_map (Any (Means step_operator_of)) Assigned (λ j r p. inl p)
+          steady_at (λ at. skip >> pure (postfix target s at)) i (steady_map (Any (MeansTree step_operator_of)) Assigned (λ j r p. inl p)
           (steady_value (λ _. postfix target s (first_place i)) (steady_skip i (real_by step_operator_of refl (next i) s is) (λ x e j. (s, (x, ap step_operator_of e ∙ is, refl))))))
       pick None is (Some o) also =
-          steady_at (λ at. skip >> (spec.whole_expression limit inner >>= (λ e. pure (assign target o at e)))) i (steady_map (Any (Means assignment_operator_of) ⨾ AnyExpression expression_level) Assigned (λ j r p. inr p)
+          steady_at (λ at. skip >> (spec.whole_expression limit inner >>= (λ e. pure (assign target o at e)))) i (steady_map (Any (MeansTree assignment_operator_of) ⨾ AnyExpression expression_level) Assigned (λ j r p. inr p)
           (steady_then tt (steady_skip i (real_by assignment_operator_of refl (next i) o also) (λ x e j. (o, (x, ap assignment_operator_of e ∙ also, refl)))) (λ _ j. steady_value (λ e. assign target o (first_place i) e) (steady_whole j))))
-      pick None is None also = steady_refuse i (full_map (Any (Means step_operator_of)) Assigned (λ j r p. inl p) full_increment)
+      pick None is None also = steady_refuse i (full_map (Any (MeansTree step_operator_of)) Assigned (λ j r p. inl p) full_increment)
 
   abbrev Called : Part
   Called = Takes terminal.Dot ⨾ (Any IsPlainName ⨾ CalledWith)
@@ -188,7 +188,7 @@ module _ (limit : ℕ) (inner : Option Readers) (h : MaySteady AllSteady inner) 
     pure (prefix_step step at target)
 
   abbrev Stepped : Part
-  Stepped = Any (Means step_operator_of) ⨾ Any IsPlace
+  Stepped = Any (MeansTree step_operator_of) ⨾ Any IsPlace
 
   steady_stepped : (s : StepOperator) (i : Symbols) → step_operator_of (next i) ≡ Some s → Steady Stepped (stepped limit inner s) i
   unfolding stepped

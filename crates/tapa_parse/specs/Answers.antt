@@ -14,15 +14,15 @@ use Rattle.tapa_parse_expression.specs.declared.fault.ParseCode.{ParseCode}
 use Rattle.tapa_parse_expression.specs.declared.fault.ParseCode.TheVariants.{P1, P2}
 use Rattle.tapa_parse.specs.Begins.{IsUnexpected, IsTooDeep}
 
--- the place of the first symbol that is left of a text, and behind its last byte where none is
+-- the place of the first symbol that is left of a text, and the place after its last byte where none is
 abbrev pub stopped_at : Bytes → List Symbol → Place
 stopped_at text [] = place_of text
 stopped_at text (x ∷ rest) = x.place
 
 -- a file with this tree, unless memory ran out
-abbrev pub Answers : Result File ParseFault → List ItemTree → Type 0
-Answers (Ok file) items = file_of file ≡ items
-Answers (Err fault) items = fault ≡ OutOfMemory
+abbrev pub ParserAnswers : Result File ParseFault → List ItemTree → Type 0
+ParserAnswers (Ok file) items = file_of file ≡ items
+ParserAnswers (Err fault) items = fault ≡ OutOfMemory
 
 -- by which rule symbols are refused before those that are left
 abbrev pub IsRefused : ParseCode → List Symbol → List Symbol → Type 0

@@ -9,7 +9,7 @@ use Rattle.tapa_parse.specs.Passing.{over_file}
 abbrev pub Begins : List Symbol → Type 0
 Begins symbols = (rest : List Symbol) × (items : List ItemTree) × IsTreeOf (symbols ++ rest) items
 
--- behind symbols with which some file begins: one with which none goes on, or the end, where more would have to come
+-- some file begins with the symbols before, and none goes on with the next symbol; at the end, no file consists of them alone
 abbrev pub StopsAt : List Symbol → List Symbol → Type 0
 StopsAt before [] = (items : List ItemTree) → IsTreeOf before items → ⊥
 StopsAt before (x ∷ behind) = Begins (before ++ x ∷ []) → ⊥

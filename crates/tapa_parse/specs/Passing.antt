@@ -30,7 +30,8 @@ module _ (limit : ℕ) where
       one_more levels c (λ less. over_listed (Takes terminal.Comma) (IsExpression argument_level) (over_whole less argument_level) es d k inside)
   over_action levels (write stream es) i j (a, x, all) =
       over_some (λ e. Takes terminal.ShiftLeft ⨾ IsExpression sum_level e) (over_behind (Takes terminal.ShiftLeft) (IsExpression sum_level) (over_whole levels sum_level)) es a j all
-  over_action levels (read stream places) i j (a, x, all) = over_some (λ p. Takes terminal.ShiftRight ⨾ IsPlace p) (over_behind (Takes terminal.ShiftRight) IsPlace (over_place levels)) places a j all
+  over_action levels (read stream places) i j (a, x, all) =
+      over_some (λ p. Takes terminal.ShiftRight ⨾ IsPlace p) (over_behind (Takes terminal.ShiftRight) IsPlace (over_place levels)) places a j all
   over_action levels (assign target o at e) i j (a, place, (b, sign, value)) = or_later (over_place levels target i a place) (over_whole levels expression_level e b j value)
   over_action levels (postfix target step at) i j (a, place, sign) = over_place levels target i a place
   over_action levels (prefix_step step at target) i j (a, sign, place) = one_more levels i (λ less. over_place less target a j place)

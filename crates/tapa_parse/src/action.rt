@@ -144,7 +144,7 @@ fn targets(parser: &mut Parser, levels: u32) -> Result<Vec<PlaceExpression>, Fau
     Ok(found)
 }
 
-// What follows a place.
+// What follows the target of an assignment.
 #[tactic(auto, unfolding(tapa_parse_expression::specs::Reading::assigned))]
 fn assigned(parser: &mut Parser, target: PlaceExpression, levels: u32) -> Result<Action, Fault>
     ensures { Gives view.action_of result parser.new (spec.assigned most_operators (spec.below levels) (view.place_expression_of target) parser.old) }

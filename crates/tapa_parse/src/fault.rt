@@ -3,7 +3,7 @@
 use tapa_base::Place;
 use tapa_parse_expression::ParseCode;
 
-/// Why a source was not read: the rule and the first lexeme that was refused, or the place behind the last byte; or memory
+/// Why a source was not read: the rule and the first lexeme that was refused, or the place after the last byte; or memory
 /// ran out.
 #[derive(Clone, Copy, Debug, PartialEq, Eq)]
 pub enum ParseFault {

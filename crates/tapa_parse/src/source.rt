@@ -6,7 +6,7 @@ ghost use Rattle.tapa_syntax.specs.Symbols.{symbols_of};
 ghost use Rattle.tapa_syntax.specs.Trees.{ItemTree, file_of};
 ghost use Rattle.tapa_syntax.specs.Grammar.{IsTreeOf};
 ghost use Rattle.tapa_syntax.specs.Limits.{IsWithinLimits};
-ghost use Rattle.tapa_parse.specs.Answers.{stopped_at, Answers, Refuses};
+ghost use Rattle.tapa_parse.specs.Answers.{stopped_at, ParserAnswers, Refuses};
 
 use crate::fault::ParseFault;
 use crate::task::file;
@@ -18,7 +18,7 @@ use tapa_syntax::{File, Lexeme};
 /// Most levels of nesting.
 const MOST_LEVELS: u32 = 64;
 
-/// The place behind the last byte.
+/// The place after the last byte.
 fn end_place(text: &[u8]) -> Place
     requires { length text.now < 2 ^ 32 - 1 }
     ensures { result ≡ place_of text.now }
@@ -47,13 +47,13 @@ fn refused_place(parser: &Parser, text: &[u8]) -> Place
     }
 }
 
-/// The tree of the lexemes of a text, or the first lexeme that is refused, with its place: behind the last byte where no
+/// The tree of the lexemes of a text, or the first lexeme that is refused, with its place: after the last byte where no
 /// lexeme is left.
 #[tactic(auto, using(crate::proofs::SoundTasks::found_sound))]
 pub fn parse(alloc: Global, lexemes: &[Lexeme], text: &[u8]) -> Result<File, ParseFault>
     requires { length text.now < 2 ^ 32 - 1 }
     ensures found { IfOk result (λ file. IsTreeOf (symbols_of text.now lexemes.now) (file_of file) × IsWithinLimits (file_of file)) }
-    ensures only { (items : List ItemTree) → IsTreeOf (symbols_of text.now lexemes.now) items → IsWithinLimits items → Answers result items }
+    ensures only { (items : List ItemTree) → IsTreeOf (symbols_of text.now lexemes.now) items → IsWithinLimits items → ParserAnswers result items }
     ensures refused { IfErr result (Refuses text.now (symbols_of text.now lexemes.now)) }
 {
     let mut parser = Parser::new(alloc, text, lexemes);

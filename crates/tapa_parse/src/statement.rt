@@ -25,8 +25,8 @@ fn boxed(alloc: Global, found: Result<Statement, Fault>) -> Result<Box<Statement
     Ok(Box::new(alloc, found)?)
 }
 
-// A statement of its parts, where the last was read or refused. These stand outside the recursion, so that no branch is
-// made there while the other parts are alive, and have one branch each.
+// A statement of its parts, where the last was read or refused. These functions are outside the recursion, so that no branch
+// is made there while the other parts are alive, and have one branch each.
 fn for_statement(
     head: Box<ForHead>,
     body: Result<Box<Statement>, Fault>,

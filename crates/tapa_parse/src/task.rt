@@ -30,7 +30,7 @@ fn stream_kind(parser: &mut Parser) -> Result<Kind, Fault>
     Ok(kind)
 }
 
-// A parameter behind `tapa::`.
+// A parameter after `tapa::`.
 #[tactic(auto, unfolding(crate::specs::Reading::port))]
 fn port(parser: &mut Parser) -> Result<Parameter, Fault>
     ensures { Gives (λ x. x) result parser.new (spec.port parser.old) }
@@ -126,7 +126,7 @@ fn parameters(parser: &mut Parser) -> Result<Vec<Parameter>, Fault>
     Ok(found)
 }
 
-// A stream's name, and the string that may stand behind it.
+// A stream's name, and the string that may follow it.
 #[tactic(auto, unfolding(crate::specs::Reading::stream_name))]
 fn stream_name(parser: &mut Parser) -> Result<Name, Fault>
     ensures { Gives (λ x. x) result parser.new (spec.stream_name parser.old) }

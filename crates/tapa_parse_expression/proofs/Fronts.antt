@@ -8,7 +8,7 @@ use Rattle.tapa_base.specs.Spans.{◌⨾◌, Nothing}
 use Rattle.tapa_syntax.specs.declared.terminal.Terminal.{Terminal}
 use Rattle.tapa_syntax.specs.declared.terminal.Terminal.TheVariants as terminal
 use Rattle.tapa_syntax.specs.Symbols.{Symbol}
-use Rattle.tapa_syntax.specs.Grammar.{Part, Takes, May, Means, IsName, IsPlainName, IsLiteral, is_name, named}
+use Rattle.tapa_syntax.specs.Grammar.{Part, Takes, May, MeansTree, IsName, IsPlainName, IsLiteral, is_name, named}
 use Rattle.tapa_syntax.specs.declared.tree.Name.{Name}
 use Rattle.tapa_parse_expression.specs.declared.fault.ParseCode.{ParseCode}
 use Rattle.tapa_parse_expression.specs.declared.fault.ParseCode.TheVariants.{P1, P2}
@@ -298,7 +298,7 @@ steady_literal i =
     (if_false _ (not_seen terminal.Literal refl) refl) (λ x k. took_if (same x.terminal terminal.Literal) x.literal (x ∷ k)) i
 
 -- what a table says of the next symbol
-pub steady_means : {A : Type 0} (table : Terminal → Option A) (m : Terminal) (i : Symbols) → table terminal.End ≡ None → (b : A) → table m ≡ Some b → Steady (Any (Means table)) (λ k. (known (table (next k)) >>= (λ a. skip >> pure a)) k) i
+pub steady_means : {A : Type 0} (table : Terminal → Option A) (m : Terminal) (i : Symbols) → table terminal.End ≡ None → (b : A) → table m ≡ Some b → Steady (Any (MeansTree table)) (λ k. (known (table (next k)) >>= (λ a. skip >> pure a)) k) i
 steady_means {A} table m i none b some =
     steady_symbol (λ k. (known (table (next k)) >>= (λ a. skip >> pure a)) k) (λ x. table x.terminal) (record { before = λ j. mark m ∷ j; spelled = λ j. (b, (mark m, some, refl)) })
     (λ x a e j. (a, (x, e, refl))) (ap (λ o. and_then (known o []) (λ a. skip >> pure a)) none) (λ x k. took_known (table x.terminal) (x ∷ k)) i

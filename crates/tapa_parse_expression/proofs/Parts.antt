@@ -7,7 +7,7 @@ use Rattle.tapa_syntax.specs.declared.terminal.Terminal.{Terminal}
 use Rattle.tapa_syntax.specs.declared.terminal.Terminal.TheVariants as terminal
 use Rattle.tapa_syntax.specs.declared.tree.Name.{Name}
 use Rattle.tapa_syntax.specs.Symbols.{Symbol}
-use Rattle.tapa_syntax.specs.Grammar.{Takes, Means, MeansAt, IsName, IsPlainName, IsLiteral, named, is_name}
+use Rattle.tapa_syntax.specs.Grammar.{Takes, MeansTree, MeansAt, IsName, IsPlainName, IsLiteral, named, is_name}
 use Rattle.tapa_parse_expression.specs.declared.fault.ParseCode.{ParseCode}
 use Rattle.tapa_parse_expression.specs.declared.fault.ParseCode.TheVariants.{P1, P2}
 use Rattle.tapa_parse_expression.specs.Readers.{Outcome, Reader, and_then, next, first_place, same, sees, expect, past, name, plain_by, plain_name, literal_value}
@@ -81,7 +81,7 @@ pub means : {A : Type 0} (table : Terminal → Option A) (i : Symbols) (a : A) �
 means table [] a real e = absurd cc
 means table (x ∷ i) a real e = (x, (e, refl), refl)
 
-pub means_it : {A : Type 0} (table : Terminal → Option A) (i : Symbols) (a : A) → table terminal.End ≡ None → table (next i) ≡ Some a → Means table a i (drop 1 i)
+pub means_it : {A : Type 0} (table : Terminal → Option A) (i : Symbols) (a : A) → table terminal.End ≡ None → table (next i) ≡ Some a → MeansTree table a i (drop 1 i)
 means_it table [] a real e = absurd cc
 means_it table (x ∷ i) a real e = (x, e, refl)
 

@@ -4,18 +4,18 @@ use Rattle.tapa_base.specs.declared.kind.Kind.{Kind}
 use Rattle.tapa_base.specs.declared.kind.Kind.TheVariants as kind
 use Rattle.tapa_syntax.specs.declared.terminal.Terminal.{Terminal}
 use Rattle.tapa_syntax.specs.declared.terminal.Terminal.TheVariants as terminal
-use Rattle.tapa_syntax.specs.Grammar.{Takes, May, Means, sized_kind, word_kind, IsOne, IsType}
+use Rattle.tapa_syntax.specs.Grammar.{Takes, May, MeansTree, sized_kind, word_kind, IsOne, IsType}
 use Rattle.tapa_parse_expression.specs.declared.fault.ParseCode.TheVariants.{P1}
 use Rattle.tapa_parse_expression.specs.Readers.{and_then, next, sees, skip, past, known, pure, ◌>>◌}
 use Rattle.tapa_parse_expression.specs.Reading.{sized, or_else, one_kind, one, unsigned_by, unsigned, type_by, type_name}
 use Rattle.tapa_parse_expression.proofs.Parts.{Symbols, Yields, yields_pure, yields_none, yields_then, yields_if, weaker, takes, expect_yields, means_it, is_seen, is_end, done}
 
 -- the next symbol, if it means a type
-known_yields : (table : Terminal → Option Kind) (i : Symbols) → table terminal.End ≡ None → (o : Option Kind) → table (next i) ≡ o → Yields (λ k j. Means table k i j) (and_then (known o i) (λ k. skip >> pure k))
-known_yields table i real None e = yields_none (λ k j. Means table k i j) (P1, i)
-known_yields table i real (Some k) e = yields_pure (λ k j. Means table k i j) k (drop 1 i) (means_it table i k real e)
+known_yields : (table : Terminal → Option Kind) (i : Symbols) → table terminal.End ≡ None → (o : Option Kind) → table (next i) ≡ o → Yields (λ k j. MeansTree table k i j) (and_then (known o i) (λ k. skip >> pure k))
+known_yields table i real None e = yields_none (λ k j. MeansTree table k i j) (P1, i)
+known_yields table i real (Some k) e = yields_pure (λ k j. MeansTree table k i j) k (drop 1 i) (means_it table i k real e)
 
-sized_sound : (i : Symbols) → Yields (λ k j. Means sized_kind k i j) (sized i)
+sized_sound : (i : Symbols) → Yields (λ k j. MeansTree sized_kind k i j) (sized i)
 unfolding sized
 sized_sound i = known_yields sized_kind i refl (sized_kind (next i)) refl
 
@@ -26,7 +26,7 @@ words m k e = pick (word_kind m) refl e
     pick None is e = inr e
     pick (Some l) is e = inl (is ∙ e)
 
-pub is_word : (k : Kind) (i r : Symbols) → Means one_kind k i r → IsOne k i r
+pub is_word : (k : Kind) (i r : Symbols) → MeansTree one_kind k i r → IsOne k i r
 is_word k i r (x, e, is) = pick (words x.terminal k e)
   where
     pick : (word_kind x.terminal ≡ Some k) ⊎ (sized_kind x.terminal ≡ Some k) → IsOne k i r

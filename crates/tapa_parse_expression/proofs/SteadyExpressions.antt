@@ -13,7 +13,7 @@ use Rattle.tapa_syntax.specs.declared.tree.BinaryOperator.{BinaryOperator}
 use Rattle.tapa_syntax.specs.Symbols.{Symbol}
 use Rattle.tapa_syntax.specs.Trees.{ExpressionTree, literal, boolean, variable, element, call, nullptr, construct, static_cast, prefix, binary, expressions}
 use Rattle.tapa_syntax.specs.Trees.{none as no_expression, one as one_expression}
-use Rattle.tapa_syntax.specs.Grammar.{Part, Takes, Means, IsName, IsPlainName, IsOne, IsType, IsExpression, AreArguments, AreMoreArguments, is_name, prefix_operator_of, binary_operator_of, binds_at, expression_level, argument_level}
+use Rattle.tapa_syntax.specs.Grammar.{Part, Takes, MeansTree, IsName, IsPlainName, IsOne, IsType, IsExpression, AreArguments, AreMoreArguments, is_name, prefix_operator_of, binary_operator_of, binds_at, expression_level, argument_level}
 use Rattle.tapa_parse_expression.specs.Readers.{Reader, and_then, next, first_place, sees, skip, expect, here, pure, refuse, ◌>>=◌, ◌>>◌}
 use Rattle.tapa_parse_expression.specs.Reading.{Counting, Readers, one, enter, count, operator_of, chain_by, chain, chain_of, level, argument, more_arguments, some_arguments, any_arguments, in_parentheses, in_brackets, arguments, named_by, named, constructed, statically_cast, primary_by, primary, prefixed}
 use Rattle.tapa_parse_expression.specs.declared.fault.ParseCode.TheVariants.{P1}
@@ -51,7 +51,7 @@ pub record AreSteady (R : Readers) : Type 0 where
 -- ---- operators of one level
 
 abbrev Operator : ℕ → Part
-Operator l i j = (o : BinaryOperator) × (binds_at o ≡ l) × Means binary_operator_of o i j
+Operator l i j = (o : BinaryOperator) × (binds_at o ≡ l) × MeansTree binary_operator_of o i j
 
 pub real_by : {A : Type 0} (table : Terminal → Option A) → table terminal.End ≡ None → (m : Terminal) (a : A) → table m ≡ Some a → is_end m ≡ false
 real_by table none terminal.End a e = absurd cc
@@ -289,7 +289,7 @@ module _ (inner : Option Readers) (h : MaySteady AreSteady inner) where
     pure (prefix o at e.0, e.1)
 
   abbrev Sign : Part
-  Sign = Any (Means prefix_operator_of)
+  Sign = Any (MeansTree prefix_operator_of)
 
   pub steady_prefixed : (o : PrefixOperator) (n : ℕ) (i : Symbols) → prefix_operator_of (next i) ≡ Some o → Steady (AnyExpression 0) (prefixed inner o n) i
   unfolding prefixed

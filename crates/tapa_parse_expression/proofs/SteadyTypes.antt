@@ -5,7 +5,7 @@ use Rattle.tapa_base.specs.declared.kind.Kind.TheVariants as kind
 use Rattle.tapa_base.specs.Spans.{◌⨾◌, ◌∣◌, Nothing}
 use Rattle.tapa_syntax.specs.declared.terminal.Terminal.{Terminal}
 use Rattle.tapa_syntax.specs.declared.terminal.Terminal.TheVariants as terminal
-use Rattle.tapa_syntax.specs.Grammar.{Part, Takes, May, Means, sized_kind, word_kind, IsOne, IsType}
+use Rattle.tapa_syntax.specs.Grammar.{Part, Takes, May, MeansTree, sized_kind, word_kind, IsOne, IsType}
 use Rattle.tapa_parse_expression.specs.Readers.{Reader, next, skip, expect, eat, known, pure, ◌>>◌, ◌>>=◌}
 use Rattle.tapa_parse_expression.specs.Reading.{sized, one_kind, one, unsigned_by, unsigned, type_by, type_name}
 use Rattle.tapa_parse_expression.proofs.Parts.{Symbols}
@@ -14,7 +14,7 @@ use Rattle.tapa_parse_expression.proofs.CompleteTypes.{one_word as first_word}
 use Rattle.tapa_syntax.specs.Symbols.{Symbol}
 use Rattle.tapa_parse_expression.proofs.Fronts.{Steady, Full, Any, full_of, steady_map, steady_pure, steady_then, steady_value, steady_by, steady_sees, steady_expect, steady_means, steady_skips, steady_eat}
 
-steady_sized : (i : Symbols) → Steady (Any (Means sized_kind)) sized i
+steady_sized : (i : Symbols) → Steady (Any (MeansTree sized_kind)) sized i
 unfolding sized
 steady_sized i = steady_means sized_kind terminal.Int8 i refl kind.I8 refl
 
@@ -22,9 +22,9 @@ pub steady_one : (i : Symbols) → Steady (Any IsOne) one i
 unfolding one
 steady_one i =
     steady_sees terminal.Std (skip >> expect terminal.Scope >> sized) (λ k. (known (one_kind (next k)) >>= (λ a. skip >> pure a)) k) i
-    (λ e. steady_map ((Takes terminal.Std ⨾ Takes terminal.Scope) ⨾ Any (Means sized_kind)) (Any IsOne) (λ j k h. (h.2.0, inr (inr (h.1.0, h.1.1, (h.0, h.1.2, h.2.1)))))
+    (λ e. steady_map ((Takes terminal.Std ⨾ Takes terminal.Scope) ⨾ Any (MeansTree sized_kind)) (Any IsOne) (λ j k h. (h.2.0, inr (inr (h.1.0, h.1.1, (h.0, h.1.2, h.2.1)))))
     (steady_then tt (steady_then tt (steady_skips terminal.Std i refl e) (λ _ j. steady_expect terminal.Scope j refl)) (λ _ j. steady_sized j)))
-    (λ e. steady_map (Any (Means one_kind)) (Any IsOne) (λ j k h. (h.0, is_word h.0 j k h.1)) (steady_means one_kind terminal.Int i refl kind.I32 refl))
+    (λ e. steady_map (Any (MeansTree one_kind)) (Any IsOne) (λ j k h. (h.0, is_word h.0 j k h.1)) (steady_means one_kind terminal.Int i refl kind.I32 refl))
 
 pub full_one : Full (Any IsOne)
 full_one = full_of (Any IsOne) one (steady_one [])

@@ -1,5 +1,5 @@
 -- The first lexeme of an expression that opens one level too many or is one operator too many: the symbols from it on, if there is one.
--- Two numbers say what is left of the limits: how many levels may still be opened, and how many operators the expression may still have.
+-- Two numbers are the rest of the limits: how many levels may still be opened, and how many operators the expression may still have.
 use Rattle.std.specs.Prelude.{ℕ, zero, suc, ◌-◌, List, [], ◌∷◌, Option, Some, None}
 use Rattle.tapa_base.specs.Spans.{◌⨾◌, Each, EachOfSome, Separated, SeparatedOrNone, Maybe}
 use Rattle.tapa_syntax.specs.Symbols.{Symbol}
@@ -60,7 +60,7 @@ unfoldable pub over_some : {A : Type 0} (P : A → Part) → Over P → (xs : Li
 over_some P f [] i j h = None
 over_some P f (x ∷ xs) i j (k, first, rest) = or_later (f x i k first) (over_each P f xs k j rest)
 
--- behind what stands between two
+-- of an item after the part b that separates it from the item before: the item's own
 abbrev pub over_behind : {A : Type 0} (b : Part) (P : A → Part) → Over P → Over (λ x. b ⨾ P x)
 over_behind b P f x i j h = f x h.0 j h.2
 

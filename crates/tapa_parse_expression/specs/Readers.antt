@@ -106,7 +106,7 @@ abbrev pub plain_by : Terminal → Reader Name
 plain_by terminal.Name i = Ok (name_here i, drop 1 i)
 plain_by _ i = Err (P1, i)
 
--- a name behind `tapa ::` or a dot
+-- a name after `tapa ::` or a dot
 unfoldable pub plain_name : Reader Name
 plain_name i = plain_by (next i) i
 
@@ -128,19 +128,19 @@ unfoldable pub repeat_from : {A : Type 0} → (List Symbol → Bool) → Reader 
 repeat_from goes item zero found = pure found
 repeat_from goes item (suc turns) found = λ i. if goes i then and_then (item i) (λ x. repeat_from goes item turns (found ++ x ∷ [])) else Ok (found, i)
 
--- as many as there are, where they go on behind those
+-- the entries so far and then every item that follows, as long as `goes` holds of the symbols that are left
 unfoldable pub repeat_behind : {A : Type 0} → (List Symbol → Bool) → Reader A → List A → Reader (List A)
 repeat_behind goes item found = λ i. repeat_from goes item (length i) found i
 
 abbrev pub repeat : {A : Type 0} → (List Symbol → Bool) → Reader A → Reader (List A)
 repeat goes item = repeat_behind goes item []
 
--- one or more, each but the first behind this terminal
+-- one or more items with this terminal between them
 unfoldable pub separated : {A : Type 0} → Terminal → Reader A → Reader (List A)
 separated between item = do
   x ← item
   repeat_behind (sees between) (skip >> item) (x ∷ [])
 
--- the same, or none where this terminal comes
+-- one or more items with this terminal between them, or none where `end` comes
 unfoldable pub separated_until : {A : Type 0} → Terminal → Terminal → Reader A → Reader (List A)
 separated_until end between item = λ i. if sees end i then Ok ([], i) else separated between item i

@@ -1,5 +1,5 @@
--- Reading from left to right, with one symbol of look-ahead and three before a cast: what may stand inside a level of
--- nesting, from a type to a statement.
+-- Reading from left to right, with one symbol of look-ahead and three before a cast: what may be inside a level of nesting,
+-- from a type to a statement.
 use Rattle.std.specs.Prelude.{ℕ, zero, suc, Bool, true, false, not, ◌||◌, ◌&&◌, if◌then◌else◌, ◌==◌, List, [], ◌∷◌, ◌++◌, length, drop, Option, Some, None, is_some, Ok, Err}
 use Rattle.tapa_base.specs.declared.kind.Kind.{Kind}
 use Rattle.tapa_base.specs.declared.kind.Kind.TheVariants as kind
@@ -57,14 +57,14 @@ type_by _ = one
 unfoldable pub type_name : Reader Kind
 type_name i = type_by (next i) i
 
--- A parenthesis with the words of a type behind it, unless it is a type of one word with a parenthesis behind that.
+-- A parenthesis followed by the words of a type, unless it is a type of one word that is followed by a parenthesis.
 unfoldable pub begins_cast : List Symbol → Bool
 begins_cast i =
     if sees terminal.Std (drop 1 i) then not (sees terminal.LeftParen (drop 4 i)) else is_some (one_kind (next (drop 1 i))) && not (sees terminal.LeftParen (drop 2 i))
 
 -- ---- levels of nesting
 
--- a reader of an expression, given how many operators it may have, which tells how many are left
+-- a reader of an expression, given how many operators it may have; its result says how many are left
 abbrev pub Counting : Type 0 → Type 0
 Counting A = ℕ → Reader (A × ℕ)
 
@@ -111,7 +111,7 @@ chain_by operand more left (Some o) n = do
   right ← operand n
   more (binary o at left right.0) right.1
 
--- the operators of one level, with what stands between them. The number bounds the turns, and each turn takes a symbol.
+-- the operators of one level and their operands. The number bounds the turns, and each turn takes a symbol.
 unfoldable pub chain : Counting ExpressionTree → ℕ → ℕ → ExpressionTree → Counting ExpressionTree
 chain operand level zero left n = pure (left, n)
 chain operand level (suc turns) left n = λ i. chain_by operand (chain operand level turns) left (operator_of level i) n i
@@ -551,7 +551,7 @@ readers limit inner = record {
   inside = inside_with limit inner;
 }
 
--- the readers one level below, where so many levels may be opened
+-- the readers one level below, where this number of levels may be opened; none at 0
 unfoldable pub below_levels : ℕ → ℕ → Option Readers
 below_levels limit zero = None
 below_levels limit (suc levels) = Some (readers limit (below_levels limit levels))

@@ -268,7 +268,7 @@ impl<'a> Parser<'a> {
         self.chain(level - 1, levels, left, operators)
     }
 
-    // The operators of one level, with what stands between them.
+    // The operators of one level and their operands.
     #[cycle(expression)]
     #[tactic(auto, unfolding(crate::specs::Reading::chain, crate::specs::Reading::chain_of))]
     fn chain(

@@ -15,7 +15,7 @@ pub enum ParseCode {
 }
 
 /// Why a rule of the grammar gave no tree: memory ran out, or the lexeme that comes next is refused. A parser that refused
-/// stands before that lexeme.
+/// is before that lexeme.
 #[derive(Clone, Copy, Debug, PartialEq, Eq)]
 pub enum Fault {
     OutOfMemory,

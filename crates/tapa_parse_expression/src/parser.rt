@@ -16,7 +16,7 @@ use tapa_base::{Kind, Place, Text};
 use tapa_syntax::{LexKind, Lexeme, Name, Terminal};
 
 /// A parser is before the lexemes that are left; where it refused, before the refused one. Its value is their symbols.
-/// What is left after want of memory is not said. What the next lexeme is to the grammar is found once, when it comes.
+/// Its state after want of memory is not specified. The terminal of the next lexeme is computed once, when it comes.
 #[derive(Drop)]
 pub struct Parser<'a> {
     alloc: Global,
@@ -126,7 +126,7 @@ impl<'a> Parser<'a> {
         same(self.next(), terminal)
     }
 
-    /// What the lexeme behind so many others is.
+    /// The terminal of the lexeme after the next `others` lexemes.
     pub fn next_behind(&self, others: usize) -> Terminal
         ensures { result ≡ spec.next (drop others self.now) }
     {
@@ -136,7 +136,7 @@ impl<'a> Parser<'a> {
         }
     }
 
-    /// Whether the lexeme behind so many others has this terminal.
+    /// Whether the lexeme after the next `others` lexemes has this terminal.
     #[tactic(auto, unfolding(crate::specs::Readers::sees))]
     pub fn sees_behind(&self, others: usize, terminal: Terminal) -> bool
         ensures { result ≡ spec.sees terminal (drop others self.now) }
@@ -154,7 +154,7 @@ impl<'a> Parser<'a> {
         }
     }
 
-    /// Passes the next lexeme, if it has this terminal, and tells whether it did.
+    /// Passes the next lexeme, if it has this terminal, and returns whether it did.
     #[tactic(auto, unfolding(crate::specs::Readers::past))]
     pub fn eat(&mut self, terminal: Terminal) -> bool
         ensures found { result ≡ spec.sees terminal self.old }

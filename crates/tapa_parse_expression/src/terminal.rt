@@ -190,8 +190,8 @@ pub fn terminal_of(source: &[u8], lexeme: &Lexeme) -> Terminal
     }
 }
 
-/// Whether a terminal may stand for a name of the source: the words of streams, memories and tasks are reserved behind `tapa::`
-/// and a dot alone.
+/// Whether a terminal may be a name of the source: the words of streams, memories and tasks are reserved only after `tapa::`
+/// and after a dot.
 pub fn is_name(terminal: Terminal) -> bool
     ensures { result ≡ grammar.is_name terminal }
 {

@@ -43,7 +43,7 @@ impl<'a> Parser<'a> {
         }
     }
 
-    // Behind `unsigned`.
+    // The kind of a type, from the word after `unsigned` on.
     #[tactic(auto, unfolding(crate::specs::Reading::unsigned))]
     fn unsigned(&mut self) -> Result<Kind, Fault>
         ensures { Gives (λ x. x) result self.new (spec.unsigned self.old) }
@@ -92,7 +92,7 @@ impl<'a> Parser<'a> {
         }
     }
 
-    /// Whether a cast stands here, and no other expression in parentheses.
+    /// Whether a cast begins here, and no other expression in parentheses.
     #[tactic(auto, unfolding(crate::specs::Reading::begins_cast))]
     pub(crate) fn begins_cast(&self) -> bool
         ensures { result ≡ spec.begins_cast self.now }

@@ -6,12 +6,12 @@ use Rattle.tapa_syntax.specs.declared.program.Expr.TheVariants.{Lit, Var, Cell',
 use Rattle.tapa_syntax.specs.declared.program.Stmt.{Stmt, Row_of-Stmt, end_of-Stmt, more_of-Stmt}
 use Rattle.tapa_syntax.specs.declared.program.Stmt.TheVariants.{Set, SetCell, SetCellBy, Store, StoreBy, ReadVar, ReadCell, ReadStore, Write, Open, Close, Discard, Clear, If', Loop', Break, Continue}
 
--- a number stands in a list
+-- a number is in a list
 abbrev pub In : ℕ → List ℕ → Type 0
 In a [] = ⊥
 In a (x ∷ xs) = (a ≡ x) ⊎ In a xs
 
--- an expression reads the first so many variables, and cells of these arrays
+-- an expression reads only the first c variables and cells of the arrays in S
 abbrev pub FitsExpr : ℕ → List ℕ → Expr → Type 0
 FitsExpr c S (Lit kind n) = Unit {0}
 FitsExpr c S (Var x) = x < c
@@ -57,7 +57,7 @@ abbrev mutual
   FitsBlock c n S end_of-Stmt = Unit {0}
   FitsBlock c n S (more_of-Stmt s rest) = FitsStmt c n S s × FitsBlock c n (cleared_by s S) rest
 
--- no break and no continue stands outside of a loop's or a choice's statements
+-- no break and no continue is outside of a loop's or a choice's statements
 abbrev pub IsNoJump : Stmt → Type 0
 IsNoJump Break = ⊥
 IsNoJump Continue = ⊥

@@ -1,4 +1,4 @@
--- The bytes of a source: their classes, and the lines and columns where they stand (ISO C++ [lex.charset], [lex.name]).
+-- The bytes of a source: their classes, and their lines and columns (ISO C++ [lex.charset], [lex.name]).
 use Rattle.std.specs.Prelude.{ℕ, ◌+◌, Bool, not, ◌&&◌, ◌||◌, if◌then◌else◌, ◌==◌, nat_le, List, [], ◌∷◌, ◌++◌, length, count_by}
 use Rattle.std.specs.List.{list_any, list_all}
 use Rattle.tapa_base.specs.declared.text.Place.{Place}
@@ -15,7 +15,7 @@ is_letter b = (nat_le 97 b && nat_le b 122) || (nat_le 65 b && nat_le b 90) || b
 abbrev pub is_word_byte : ℕ → Bool
 is_word_byte b = is_letter b || is_digit b
 
--- what stands between the quotes of a string: printable, and neither `"` nor `\`
+-- a byte that may be between the quotes of a string: printable, and neither `"` nor `\`
 abbrev pub is_plain : ℕ → Bool
 is_plain b = nat_le 32 b && nat_le b 126 && not (b == 34) && not (b == 92)
 
@@ -23,12 +23,12 @@ is_plain b = nat_le 32 b && nat_le b 126 && not (b == 34) && not (b == 92)
 abbrev pub is_among : List ℕ → ℕ → Bool
 is_among set b = list_any (λ c. c == b) set
 
--- how many bytes of a class stand in front
+-- the number of leading bytes of a class
 abbrev pub run : (ℕ → Bool) → Bytes → ℕ
 run class [] = 0
 run class (b ∷ z) = if class b then run class z + 1 else 0
 
--- the bytes behind the last line feed, where `line` are those before
+-- the bytes after the last line feed, where `line` are the bytes of the line so far
 abbrev pub line_behind : Bytes → Bytes → Bytes
 line_behind line [] = line
 line_behind line (b ∷ z) = line_behind (if b == 10 then [] else line ++ b ∷ []) z
@@ -36,10 +36,10 @@ line_behind line (b ∷ z) = line_behind (if b == 10 then [] else line ++ b ∷ 
 abbrev pub last_line : Bytes → Bytes
 last_line = line_behind []
 
--- whether only blanks stand in the line so far
+-- the line so far has only blanks
 abbrev pub opens_line : Bytes → Bool
 opens_line before = list_all is_blank (last_line before)
 
--- the place of the byte behind these: lines and columns count from 1
+-- the place of the byte after these: lines and columns count from 1
 abbrev pub place_of : Bytes → Place
 place_of before = record { line = 1 + count_by (λ b. b == 10) before; col = 1 + length (last_line before) }

@@ -1,5 +1,5 @@
 -- The grammar of the dialect (TAPA documentation; expressions and statements by ISO C++ [gram], cut down to what the dialect
--- has). Each tree says which symbols spell it, from a place in the list of symbols to a later one.
+-- has). Each tree says which symbols spell it, from a position in the list of symbols to a later one.
 use Rattle.std.specs.Prelude.{◌≡◌, ◌≤◌, ℕ, suc, Bool, true, false, List, [], ◌∷◌, Option, Some, None}
 use Rattle.tapa_base.specs.declared.kind.Kind.{Kind}
 use Rattle.tapa_base.specs.declared.kind.Kind.TheVariants as kind
@@ -44,14 +44,14 @@ TakesAt m at = Is (λ x. (x.terminal ≡ m) × (x.place ≡ at))
 abbrev pub May : Terminal → Part
 May m = Takes m ∣ Nothing
 
--- a symbol that stands for this, by a table of terminals
-abbrev pub Means : {A : Type 0} → (Terminal → Option A) → A → Part
-Means table a = Is (λ x. table x.terminal ≡ Some a)
+-- a symbol that means this, by a table of terminals
+abbrev pub MeansTree : {A : Type 0} → (Terminal → Option A) → A → Part
+MeansTree table a = Is (λ x. table x.terminal ≡ Some a)
 
 abbrev pub MeansAt : {A : Type 0} → (Terminal → Option A) → A → Place → Part
 MeansAt table a at = Is (λ x. (table x.terminal ≡ Some a) × (x.place ≡ at))
 
--- Names that are reserved behind `tapa ::` and `.` alone are names elsewhere.
+-- Names that are reserved only after `tapa ::` and `.` are names elsewhere.
 abbrev pub is_name : Terminal → Bool
 is_name terminal.Name = true
 is_name terminal.Istream = true
@@ -68,14 +68,14 @@ named x = record { text = x.text; place = x.place }
 abbrev pub IsName : Name → Part
 IsName name = Is (λ x. (is_name x.terminal ≡ true) × (named x ≡ name))
 
--- a name behind `tapa ::` or a dot
+-- a name after `tapa ::` or a dot
 abbrev pub IsPlainName : Name → Part
 IsPlainName name = Is (λ x. (x.terminal ≡ terminal.Name) × (named x ≡ name))
 
 abbrev pub IsLiteral : Kind → ℕ → Part
 IsLiteral kind value = Is (λ x. (x.terminal ≡ terminal.Literal) × (x.literal ≡ (kind, value)))
 
--- the place of what comes first
+-- the first symbol is at this place of the source
 abbrev pub StandsAt : Place → List Symbol → Type 0
 StandsAt at [] = ⊥
 StandsAt at (x ∷ rest) = x.place ≡ at
@@ -105,7 +105,7 @@ word_kind _ = None
 
 -- a type of one word, which may be said to be of `std` where it is sized
 abbrev pub IsOne : Kind → Part
-IsOne k = Means word_kind k ∣ Means sized_kind k ∣ Takes terminal.Std ⨾ Takes terminal.Scope ⨾ Means sized_kind k
+IsOne k = MeansTree word_kind k ∣ MeansTree sized_kind k ∣ Takes terminal.Std ⨾ Takes terminal.Scope ⨾ MeansTree sized_kind k
 
 -- a type of several words
 abbrev pub AreWords : Kind → Part
@@ -116,7 +116,7 @@ AreWords kind.I16 = Takes terminal.Short ⨾ Takes terminal.Int
 AreWords kind.I64 = Takes terminal.Long ⨾ May terminal.Long ⨾ May terminal.Int
 AreWords _ = Never
 
--- Behind a type no word of a type may stand, so that there is one reading of its words.
+-- No word of a type may follow a type, so that there is one reading of its words.
 abbrev pub IsType : Kind → Part
 IsType k = IsOne k ∣ AreWords k
 
@@ -203,7 +203,7 @@ or_level = 10
 abbrev pub expression_level : ℕ
 expression_level = 11
 
--- and what a method is called with
+-- an argument of a method
 abbrev pub argument_level : ℕ
 argument_level = 12
 
@@ -338,7 +338,7 @@ IsParameter (parameter.Memory is_const kind name) = Takes terminal.Tapa ⨾ Take
     (Takes terminal.Const) ⨾ IsType kind ⨾ Takes terminal.Greater ⨾ IsName name
 IsParameter (parameter.Scalar is_const kind name) = When is_const (Takes terminal.Const) ⨾ IsType kind ⨾ IsName name
 
--- the string that may stand behind a stream's name
+-- an optional string in parentheses after a stream's name
 abbrev pub MayBeLabelled : Part
 MayBeLabelled = (Takes terminal.LeftParen ⨾ Takes terminal.Str ⨾ Takes terminal.RightParen) ∣ Nothing
 

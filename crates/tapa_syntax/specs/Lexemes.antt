@@ -1,6 +1,6 @@
 -- The lexemes of a source (ISO C++ [lex.pptoken], [lex.comment], [lex.operators]; TAPA's sources are C++). A text is
--- gaps and lexemes in turn, each judged in sight of the text before it and behind it. The definition doesn't say how
--- they are found.
+-- gaps and lexemes in turn, each judged by the text before it and after it. The definition doesn't say how they are
+-- computed.
 use Rattle.std.specs.Prelude.{◌≡◌, ℕ, ◌+◌, ◌<◌, ◌≤◌, ⊤, Bool, true, false, ◌&&◌, ◌||◌, ◌==◌, ◌⊎◌, List, [], ◌∷◌, ◌++◌, length, take, drop, slice_index, slice_range, Option, Some, None, codes}
 use Rattle.std.specs.List.{list_all, list_any, AllByRecursion}
 use Rattle.std.specs.Str.{bytes_eq}
@@ -60,7 +60,7 @@ is_sign bytes = list_any (bytes_eq bytes) signs
 unfoldable pub is_comment_mark : Bytes → Bool
 is_comment_mark bytes = list_any (bytes_eq bytes) (codes "//" ∷ codes "/*" ∷ [])
 
--- the longest sign that stands here, where a comment's mark counts as one
+-- the longest sign at this position, where a comment's mark counts as one
 pub record IsPunctuation (bytes rest : Bytes) : Type 0 where
   pub sign : is_sign bytes ≡ true
   pub longest : (front back : Bytes) → front ++ back ≡ bytes ++ rest → length bytes < length front → is_sign front || is_comment_mark front ≡ false
@@ -78,7 +78,7 @@ pub record Piece : Type 0 where
   pub sort : Option LexKind
   pub bytes : Bytes
 
--- these bytes are such a piece, in sight of the text before and behind them
+-- these bytes are such a piece, between the text before and the text after them
 abbrev pub Stands : Bytes → Option LexKind → Bytes → Bytes → Type 0
 Stands before None bytes rest = IsGap before bytes rest
 Stands before (Some kind) bytes rest = IsLexeme kind bytes rest
@@ -88,17 +88,17 @@ abbrev pub text_of : List Piece → Bytes → Bytes
 text_of [] rest = rest
 text_of (p ∷ ps) rest = p.bytes ++ text_of ps rest
 
--- each piece stands where the one before it ends
+-- pieces that follow each other, each legal between the text before it and the text after it
 abbrev pub StandInTurn : Bytes → List Piece → Bytes → Type 0
 StandInTurn before [] rest = ⊤
 StandInTurn before (p ∷ ps) rest = Stands before p.sort p.bytes (text_of ps rest) × StandInTurn (before ++ p.bytes) ps rest
 
--- the lexeme of a piece, behind the text before it; a gap is none
+-- the lexeme of a piece, given the text before it; a gap is none
 abbrev pub lexeme_of : Bytes → Option LexKind → Bytes → List Lexeme
 lexeme_of before None bytes = []
 lexeme_of before (Some kind) bytes = record { kind = kind; from = length before; to = length before + length bytes; place = place_of before } ∷ []
 
--- the lexemes of pieces, behind the text before them
+-- the lexemes of pieces, given the text before them
 abbrev pub lexemes_of : Bytes → List Piece → List Lexeme
 lexemes_of before [] = []
 lexemes_of before (p ∷ ps) = lexeme_of before p.sort p.bytes ++ lexemes_of (before ++ p.bytes) ps
@@ -110,7 +110,7 @@ pub record HasLexemes (text : Bytes) (lexemes : List Lexeme) : Type 0 where
   pub standing : StandInTurn [] pieces []
   pub told : lexemes_of [] pieces ≡ lexemes
 
--- no front of what is behind is a piece there
+-- no prefix of the text that follows is a piece
 abbrev pub NothingStands : Bytes → Bytes → Type 0
 NothingStands before behind = (sort : Option LexKind) (bytes rest : Bytes) → bytes ++ rest ≡ behind → Stands before sort bytes rest → ⊥
 
@@ -136,7 +136,7 @@ pub record IsSliceOf (text : Bytes) (lexeme : Lexeme) : Type 0 where
 abbrev pub AreSlices : Type 0
 AreSlices = (text : Bytes) (lexemes : List Lexeme) → HasLexemes text lexemes → AllByRecursion (IsSliceOf text) lexemes
 
--- each lexeme begins at or behind the end of the one before it
+-- each lexeme begins at or after the end of the one before it
 abbrev pub InOrder : ℕ → List Lexeme → Type 0
 InOrder end [] = ⊤
 InOrder end (l ∷ ls) = (end ≤ l.from) × InOrder l.to ls

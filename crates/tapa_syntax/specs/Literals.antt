@@ -16,7 +16,7 @@ worth b =
 abbrev pub is_digit_of : ℕ → ℕ → Bool
 is_digit_of base b = nat_lt (worth b) base
 
--- the value of digits behind those that are worth n
+-- the value of digits that follow digits of value n
 unfoldable pub value_behind : ℕ → ℕ → Bytes → ℕ
 value_behind base n [] = n
 value_behind base n (b ∷ z) = value_behind base (n * base + worth b) z
@@ -72,7 +72,7 @@ first_that_holds n (k ∷ ks) = if holds k n then Some k else first_that_holds n
 
 -- ---- literals
 
--- 16 behind `0x`, 2 behind `0b`, 8 behind another 0, else 10
+-- 16 after `0x`, 2 after `0b`, 8 after another 0, else 10
 abbrev pub base_of : Bytes → ℕ
 base_of word =
     if slice_index word 0 == 48 then
@@ -80,7 +80,7 @@ base_of word =
     if mark == 120 || mark == 88 then 16 else (if mark == 98 || mark == 66 then 2 else 8))
     else 10
 
--- what stands behind `0x` or `0b`
+-- the digits and the suffix, without `0x` or `0b`
 abbrev pub behind_mark : Bytes → Bytes
 behind_mark word = if base_of word == 16 || base_of word == 2 then drop 2 word else word
 
@@ -92,7 +92,7 @@ abbrev pub with_suffix : ℕ → ℕ → Option Suffix → Option (Kind × ℕ)
 with_suffix base n None = None
 with_suffix base n (Some suffix) = with_kind n (first_that_holds n (kinds_for (base == 10) suffix))
 
--- the longest run of digits of the base, which has at least one, and behind it the suffix
+-- the longest run of digits of the base, at least one, and then the suffix
 abbrev pub literal_in : ℕ → Bytes → Option (Kind × ℕ)
 literal_in base body =
     let digits = run (is_digit_of base) body in

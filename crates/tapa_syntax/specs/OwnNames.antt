@@ -1,4 +1,4 @@
--- The labels and names by which the parts of a program are told apart.
+-- The labels and names by which the parts of a program are distinguished.
 use Rattle.std.specs.Prelude.{◌≡◌, ◌==◌, ◌||◌, ℕ, true, List, [], ◌∷◌, ◌++◌, map, Some, slice_get}
 use Rattle.std.specs.List.{list_all}
 use Rattle.tapa_base.specs.Gaps.{Bytes}
@@ -10,7 +10,7 @@ use Rattle.tapa_syntax.specs.declared.program.Program.{Program}
 use Rattle.tapa_syntax.specs.declared.program.Scalar.{Scalar}
 use Rattle.tapa_syntax.specs.declared.program.Stream.{Stream}
 
--- nothing stands twice in a list
+-- no entry occurs twice in a list
 abbrev pub AreApart : List Bytes → Type 0
 AreApart xs = (p q : ℕ) (x : Bytes) → slice_get xs p ≡ Some x → slice_get xs q ≡ Some x → p ≡ q
 
@@ -31,7 +31,7 @@ parameter_names program = map (λ (c : Scalar). c.name) program.scalars.items ++
 abbrev pub task_names : Program → List Bytes
 task_names program = program.top ∷ map (λ (l : Leaf). l.name) program.bodies.items
 
--- the parts of a program are told apart by their labels and names
+-- the parts of a program are distinguished by their labels and names
 pub record HasOwnNames (program : Program) : Type 0 where
   pub instances : AreApart (instance_labels program)
   pub streams : AreApart (stream_labels program)

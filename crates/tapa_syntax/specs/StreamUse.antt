@@ -5,7 +5,7 @@ use Rattle.tapa_syntax.specs.declared.program.Expr.TheVariants.{Lit, Var, Cell',
 use Rattle.tapa_syntax.specs.declared.program.Stmt.{Stmt, Row_of-Stmt, end_of-Stmt, more_of-Stmt}
 use Rattle.tapa_syntax.specs.declared.program.Stmt.TheVariants.{Set, SetCell, SetCellBy, Store, StoreBy, ReadVar, ReadCell, ReadStore, Write, Open, Close, Discard, Clear, If', Loop', Break, Continue}
 
--- the streams that an expression reads are not written; w tells whether a position is written
+-- the streams that an expression reads are not written; w says of each position whether its stream is written
 abbrev pub UsesExpr : (ℕ → Option Bool) → Expr → Type 0
 UsesExpr w (Lit kind n) = Unit {0}
 UsesExpr w (Var x) = Unit {0}

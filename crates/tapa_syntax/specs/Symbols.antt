@@ -12,7 +12,7 @@ use Rattle.tapa_syntax.specs.declared.lexeme.Lexeme.{Lexeme}
 use Rattle.tapa_syntax.specs.declared.terminal.Terminal.{Terminal}
 use Rattle.tapa_syntax.specs.declared.terminal.Terminal.TheVariants as terminal
 
--- The words that are no plain names. Those of the second table stand in no production (ISO C++ [lex.key]).
+-- The words that are no plain names. Those of the second table are in no production (ISO C++ [lex.key]).
 abbrev pub words : List (List ℕ × Terminal)
 words =
     (codes "istream", terminal.Istream) ∷ (codes "ostream", terminal.Ostream) ∷ (codes "stream", terminal.Stream) ∷ (codes "mmap", terminal.Mmap)

@@ -1,6 +1,6 @@
--- What holds of the flat program of every legal source: each name is bound, each stream has its two ends and each memory
--- its one instance, each value has its kind, and there are at most so many instances, streams, variables and cells of an
--- array. It says nothing of the sum of a leaf's cells, of its tick places, or of where a `break` stands in an `if`.
+-- What holds of the flat program of every legal source: each name is bound, each stream has its writer and its reader and
+-- each memory its one instance, each value has its kind, and the instances, streams, variables and cells of an array are
+-- within their limits. It says nothing of the sum of a leaf's cells, of its tick places, or of where a `break` is in an `if`.
 use Rattle.std.specs.Prelude.{◌≡◌, ℕ, ◌<◌, ◌≤◌, List, [], ◌∷◌, length, map, Bool, true, false, Some, slice_get, slice_index_or}
 use Rattle.tapa_base.specs.declared.kind.Kind.{Kind}
 use Rattle.tapa_base.specs.declared.kind.Kind.TheVariants.{U64}
@@ -21,7 +21,7 @@ use Rattle.tapa_syntax.specs.ArrayUse.{FitsCode}
 use Rattle.tapa_syntax.specs.MemoryUse.{AsksCode}
 use Rattle.tapa_syntax.specs.Typed.{IsTypedCode}
 
--- no number stands twice in a list
+-- no number occurs twice in a list
 abbrev pub AreDistinct : List ℕ → Type 0
 AreDistinct xs = (p q x : ℕ) → slice_get xs p ≡ Some x → slice_get xs q ≡ Some x → p ≡ q
 

@@ -21,7 +21,7 @@ pub fn byte(text: &[u8], at: usize) -> u8
     }
 }
 
-/// How many bytes there are through the first `*/`, which ends a comment (ISO C++ [lex.comment], IEEE 1364-2005, 3.3). None
+/// The number of bytes through the first `*/`, which ends a comment (ISO C++ [lex.comment], IEEE 1364-2005, 3.3). None
 /// comes where there is none.
 #[tactic(auto, unfolding(crate::specs::Comments::closing))]
 pub fn closing(text: &[u8]) -> Option<usize>

@@ -1,4 +1,4 @@
-// The flat program: leaf instances joined by bounded streams, with every conversion written out.
+// The flat program: leaf instances connected by bounded streams, with every conversion written out.
 use tapa_base::{Kind, Op, Text};
 
 /// A program without hierarchy. Scalars and memories are numbered in the order of the top task's parameters; leaf
@@ -89,7 +89,7 @@ pub struct Array {
     pub cells: u32,
 }
 
-/// A statement. Each conversion is explicit, but those that the kinds of its parts tell: the token of a `ReadVar`,
+/// A statement. Each conversion is explicit, except those that follow from the kinds of its parts: the token of a `ReadVar`,
 /// `ReadCell` or `ReadStore` is converted to the target's kind, and `SetCellBy` and `StoreBy` convert the cell to
 /// `kind`, and the result to the cell's kind.
 #[derive(Drop)]

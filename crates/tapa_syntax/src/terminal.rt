@@ -6,7 +6,7 @@ pub enum Terminal {
     Name,
     Literal,
     Str,
-    // Names that are reserved behind `tapa::` and behind a dot alone.
+    // Names that are reserved only after `tapa::` and after a dot.
     Istream,
     Ostream,
     Stream,

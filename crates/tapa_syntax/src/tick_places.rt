@@ -1,4 +1,4 @@
-//! How many tick places code has.
+//! The number of tick places of code.
 ghost use Rattle.std.specs.Prelude.{◌≡◌, ◌+◌, ℕ};
 ghost use Rattle.tapa_syntax.specs.TickPlaces as ticks;
 ghost use Rattle.tapa_syntax.specs.TickPlaces.{capped};
@@ -29,7 +29,7 @@ pub fn operations(value: &Expr) -> u64
     }
 }
 
-/// Two expressions' operations, and so many places more.
+/// The operations of two expressions, and `more` tick places.
 fn two(first: &Expr, second: &Expr, more: u64) -> u64
     ensures { result ≡ capped (more + ticks.operation_count second.now + ticks.operation_count first.now) }
 {
@@ -38,7 +38,7 @@ fn two(first: &Expr, second: &Expr, more: u64) -> u64
         .saturating_add(more)
 }
 
-/// A test, and two parts of so many places.
+/// The tick places of a choice or a loop: one, those of its test, and those of its two parts, `first` and `second`.
 fn with_test(test: &Expr, first: u64, second: u64) -> u64
     ensures { (m n : ℕ) → first ≡ capped m → second ≡ capped n → result ≡ capped (n + m + (1 + ticks.operation_count test.now)) }
 {

@@ -1,7 +1,7 @@
 // The tree of a source: what the grammar of the dialect says of its lexemes, before names are looked up.
 use tapa_base::{Kind, Op, Place, Text};
 
-/// A name where it stands.
+/// A name with its place.
 #[derive(Drop)]
 pub struct Name {
     pub text: Text,
@@ -34,7 +34,7 @@ pub struct Attribute {
     pub arguments: AttributeArguments,
 }
 
-/// What stands in the parentheses of an attribute, if it has any.
+/// The contents of the parentheses of an attribute, if it has any.
 #[derive(Drop)]
 pub enum AttributeArguments {
     /// There are no parentheses.
@@ -92,7 +92,7 @@ pub enum TaskBody {
     },
 }
 
-/// `tapa::stream<kind, depth> name, name;`. The strings that may stand behind the names are not kept.
+/// `tapa::stream<kind, depth> name, name;`. The strings that may follow the names are not kept.
 #[derive(Drop)]
 pub struct StreamDeclaration {
     pub kind: Kind,
@@ -154,7 +154,7 @@ pub enum Statement {
     Continue(Place),
 }
 
-/// What stands in the parentheses of a `for`.
+/// The contents of the parentheses of a `for`.
 #[derive(Drop)]
 pub struct ForHead {
     pub start: ForStart,
@@ -162,7 +162,7 @@ pub struct ForHead {
     pub step: Option<Action>,
 }
 
-/// What stands before the first semicolon of a `for`.
+/// What comes before the first semicolon of a `for`.
 #[derive(Drop)]
 pub enum ForStart {
     Nothing,
@@ -197,7 +197,7 @@ pub enum Action {
     },
     /// `stream << value << value`.
     Write(Name, Vec<Expression>),
-    /// `stream >> place >> place`.
+    /// `stream >> target >> target`.
     Read(Name, Vec<PlaceExpression>),
     Assign {
         target: PlaceExpression,
@@ -233,7 +233,7 @@ pub enum StepOperator {
     Decrement,
 }
 
-/// `=`, or an operator with `=` behind it.
+/// `=`, or an operator followed by `=`.
 #[derive(Clone, Copy, Debug, PartialEq, Eq)]
 pub enum AssignmentOperator {
     Plain,
@@ -253,7 +253,7 @@ pub enum Expression {
         method: Name,
         arguments: Vec<Expression>,
     },
-    /// `nullptr`, which stands only as an argument of a method.
+    /// `nullptr`, which is legal only as an argument of a method.
     Nullptr,
     /// `kind(value)`.
     Construct(Kind, Box<Expression>),

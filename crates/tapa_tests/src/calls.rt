@@ -5,10 +5,10 @@ ghost use Rattle.std.specs.Bool.{OnTrue};
 ghost use Rattle.latency_balance.specs.Moves.{AreLatencies};
 ghost use Rattle.flow_cert.specs.Verdicts.{AreLists};
 
-use crate::runs::short;
 use cross_pipe::fifo_size;
 use flow_cert::{Verdict, check};
 use latency_balance::balance_streams;
+use layer_tests::short;
 use std::alloc::Global;
 use std::test::Fail;
 use std::vec::Vec;
@@ -117,7 +117,7 @@ fn each_verdict_is_found(rt: HostRuntime) -> Result<(), Fail> {
     Ok(())
 }
 
-// A FIFO has its depth, and two places for each cycle of added latency.
+// A FIFO has its depth, and two entries for each cycle of added latency.
 #[test]
 fn a_fifo_has_room_for_what_is_on_its_way(rt: HostRuntime) -> Result<(), Fail> {
     assert_eq!(rt; fifo_size(1, 2), 5);

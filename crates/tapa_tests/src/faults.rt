@@ -1,4 +1,6 @@
-use crate::programs::{CROSSING_STOPS, PATH, VECADD, VECADD_DATA, VECADD_REPORT};
+// Tests of commands where a file, standard output or standard error fails: the status, and what was written before.
+use crate::programs::{VECADD, VECADD_DATA, VECADD_REPORT};
+use layer_tests::{CROSSING_STOPS, PATH};
 use std::alloc::Global;
 use std::sync::Wait;
 use std::test::Fail;
@@ -151,7 +153,7 @@ fn messages_fail(rt: HostRuntime) -> Result<(), Fail> {
     Ok(())
 }
 
-// Standard error failing at each line of what waits: it holds the lines before.
+// Standard error failing at each line of a stopped run: it holds the lines before.
 #[test]
 fn waits_are_cut_at_lines(rt: HostRuntime) -> Result<(), Fail> {
     let alloc = rt.alloc();
@@ -176,7 +178,7 @@ fn waits_are_cut_at_lines(rt: HostRuntime) -> Result<(), Fail> {
     Ok(())
 }
 
-// A usage error that cannot be told: nothing is written.
+// A usage error that cannot be reported: nothing is written.
 #[test]
 fn an_untold_usage_error_is_a_write_fault(rt: HostRuntime) -> Result<(), Fail> {
     let alloc = rt.alloc();
@@ -298,8 +300,8 @@ fn reading() -> [Asked; 5] {
     ]
 }
 
-// The shelf failing at each of its calls: the file that is read then is told, the output is empty, and each file that the words name
-// is told by some call.
+// The shelf failing at each of its calls: the file that is read then is reported, the output is empty, and each file that the words
+// name is reported by some call.
 #[test]
 fn unread_files_are_told(rt: HostRuntime) -> Result<(), Fail> {
     let alloc = rt.alloc();
@@ -388,7 +390,7 @@ fn lines(text: &[u8]) -> u64 {
     count
 }
 
-// Words that could not be read are told.
+// Words that could not be read are reported.
 #[test]
 fn unread_words_are_told(rt: HostRuntime) -> Result<(), Fail> {
     let alloc = rt.alloc();

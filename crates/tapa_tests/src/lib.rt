@@ -1,5 +1,5 @@
-//! Tests of the whole program: the top call with files and sinks in memory that fail; and runs beside the definitions, the reports
-//! of programs against the rounds and traces that the slow functions compute.
+//! Tests of the whole program: the top call with files and sinks in memory that fail and by several workers, and calls of single
+//! crates on what was worked out by hand.
 #![tactic(auto)]
 
 #[cfg(test)]
@@ -7,10 +7,6 @@ mod calls;
 #[cfg(test)]
 mod faults;
 #[cfg(test)]
-mod probes;
-#[cfg(test)]
 mod programs;
-#[cfg(test)]
-mod runs;
 #[cfg(test)]
 mod workers;

@@ -1,3 +1,4 @@
+// Tests of `run` with two workers: they make ticks of two instances at once, and one that is held up does not hold up the other.
 use layer_tests::{APART, Meeting, SHIFTS, Slow};
 use std::alloc::Global;
 use std::sync::Wait;

@@ -5,7 +5,7 @@ use Rattle.tapa_words.specs.declared.verb.Verb.{Verb}
 use Rattle.tapa_words.specs.declared.command.Command.{Command as CodeCommand}
 use Rattle.tapa_words.specs.declared.command.WordsFault.{WordsFault}
 use Rattle.tapa_words.specs.declared.command.WordsFault.TheVariants.{Usage, OutOfMemory}
-use Rattle.tapa_words.specs.Meaning.{command, Answers, IsRefusedBy}
+use Rattle.tapa_words.specs.Meaning.{command, WordsAnswer, IsRefusedBy}
 use Rattle.tapa_words.specs.Words.{Word, Command, Item, verb_of, is_each_once, command_by, IsAsked, Asks, AskNothing, WordsAskOneThing}
 use Rattle.tapa_words.specs.Reading.{items_of, of_items, of_verb, command_of}
 use Rattle.tapa_words.proofs.Written.{are_read, are_written}
@@ -45,11 +45,11 @@ asks_one words one other h k = let both : Some one ≡ Some other = sym (reads_a
 
 -- ---- what an answer says
 
-pub asked_in : (words : List Word) (result : Result CodeCommand WordsFault) → Answers command result (command_of words) → IfOk result (λ asked. Asks words (command asked))
+pub asked_in : (words : List Word) (result : Result CodeCommand WordsFault) → WordsAnswer command result (command_of words) → IfOk result (λ asked. Asks words (command asked))
 asked_in words (Ok x) h = asks words (command x) h
 asked_in words (Err fault) h = tt
 
-pub refused_in : (words : List Word) (result : Result CodeCommand WordsFault) → Answers command result (command_of words) → IfErr result (IsRefusedBy words)
+pub refused_in : (words : List Word) (result : Result CodeCommand WordsFault) → WordsAnswer command result (command_of words) → IfErr result (IsRefusedBy words)
 refused_in words (Ok x) h = tt
 refused_in words (Err Usage) h = asks_none words h
 refused_in words (Err OutOfMemory) h = tt

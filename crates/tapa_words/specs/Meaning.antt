@@ -1,4 +1,4 @@
--- What values of the code stand for.
+-- What values of the code denote.
 use Rattle.std.specs.Prelude.{◌≡◌, ℕ, List, Option, Some, None, option_map, Result, Ok, Err}
 use Rattle.tapa_words.specs.Words as words
 use Rattle.tapa_words.specs.Reading as reading
@@ -35,11 +35,11 @@ step (Gives one later) = reading.Gives (item one) (next later)
 step (Moves later) = reading.Moves (next later)
 step Breaks = reading.Breaks
 
--- an answer stands for what the words say, and they are refused where they say nothing; want of memory tells nothing of them
-abbrev pub Answers : {A B : Type 0} → (A → B) → Result A WordsFault → Option B → Type 0
-Answers view (Ok x) said = said ≡ Some (view x)
-Answers view (Err Usage) said = said ≡ None
-Answers view (Err OutOfMemory) said = Unit {0}
+-- an answer denotes what the words say, and they are refused where they say nothing; want of memory says nothing of them
+abbrev pub WordsAnswer : {A B : Type 0} → (A → B) → Result A WordsFault → Option B → Type 0
+WordsAnswer view (Ok x) said = said ≡ Some (view x)
+WordsAnswer view (Err Usage) said = said ≡ None
+WordsAnswer view (Err OutOfMemory) said = Unit {0}
 
 -- words that are refused are no command, unless memory ran out
 abbrev pub IsRefusedBy : List (List ℕ) → WordsFault → Type 0

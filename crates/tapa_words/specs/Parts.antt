@@ -1,4 +1,4 @@
--- The parts of a command. The arity of each command's words is known here, and definitions above go by these.
+-- The parts of a command. The arity of each command's words is known only here: other definitions use these.
 use Rattle.std.specs.Prelude.{ℕ, List, Option, Some, None}
 use Rattle.tapa_words.specs.Words.{Command, Run, Build, Plan, Cosim, Vcd, Gen, Asks}
 use Rattle.tapa_words.specs.declared.command.CosimAim.{CosimAim}
@@ -36,7 +36,7 @@ abbrev pub OnVcd : (List ℕ → List ℕ → Type 0) → Command → Type 0
 OnVcd P (Vcd file net) = P file net
 OnVcd P other = ⊥
 
--- the command is the generated network of so many layers, of which this holds
+-- the command is the generated network of a number of layers, of which this holds
 abbrev pub OnGen : (ℕ → Type 0) → Command → Type 0
 OnGen P (Gen layers workers) = P layers
 OnGen P other = ⊥

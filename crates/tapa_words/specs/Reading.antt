@@ -7,12 +7,12 @@ use Rattle.tapa_words.specs.declared.verb.OptionKind.{OptionKind}
 use Rattle.tapa_words.specs.declared.verb.OptionKind.TheVariants as kind
 use Rattle.tapa_words.specs.Words.{Word, Command, Item, Positional, Valued, verb_of, option_kind, is_option, end_of_options, is_each_once, command_by}
 
--- what stands before the first `=`, or the whole word where there is none
+-- the part before the first `=`, or the whole word where there is none
 abbrev pub name_in : Word → Word
 name_in [] = []
 name_in (b ∷ rest) = if b == 61 then [] else (b ∷ name_in rest)
 
--- what stands behind the first `=`
+-- the part after the first `=`
 abbrev pub value_in : Word → Option Word
 value_in [] = None
 value_in (b ∷ rest) = if b == 61 then Some rest else value_in rest
@@ -22,19 +22,19 @@ pub data Next : Type 0 where
   AnyWord : Next
   -- the value of the option before it
   ValueOf : (name : Word) → Next
-  -- a positional, since `--` stands before it
+  -- a positional, since `--` came before it
   OnlyPositionals : Next
 
 -- what a word says
 pub data Step : Type 0 where
-  -- an item, and what the word behind it may be
+  -- an item, and what the word after it may be
   Gives : Item → Next → Step
   -- no item by itself
   Moves : Next → Step
   -- nothing, since it breaks a rule
   Breaks : Step
 
--- an option by its name, which the command has or has not, and what stands behind its `=`
+-- an option by its name, which the command has or has not, and the part after its `=`
 abbrev pub option_step : Option OptionKind → Word → Option Word → Step
 option_step None name value = Breaks
 option_step (Some kind.Valued) name None = Moves (ValueOf name)
@@ -52,13 +52,13 @@ step_of verb AnyWord word =
 step_of verb (ValueOf name) word = if is_option word then Breaks else Gives (Valued name word) AnyWord
 step_of verb OnlyPositionals word = Gives (Positional word) OnlyPositionals
 
--- behind the last word no value may be missing
+-- no value is missing after the last word
 abbrev pub at_end : Next → Option (List Item)
 at_end AnyWord = Some []
 at_end (ValueOf name) = None
 at_end OnlyPositionals = Some []
 
--- the items of a word's step and of the words behind it
+-- the items of a word's step and of the words after it
 abbrev pub then_items : Step → (Next → Option (List Item)) → Option (List Item)
 then_items (Gives item next) rest = option_map (λ items. item ∷ items) (rest next)
 then_items (Moves next) rest = rest next
@@ -69,7 +69,7 @@ abbrev pub items_from : Verb → Next → List Word → Option (List Item)
 items_from verb next [] = at_end next
 items_from verb next (word ∷ words) = then_items (step_of verb next word) (λ later. items_from verb later words)
 
--- the items of the words behind the command's name
+-- the items of the words after the command's name
 abbrev pub items_of : Verb → List Word → Option (List Item)
 items_of verb words = items_from verb AnyWord words
 

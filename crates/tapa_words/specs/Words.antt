@@ -21,18 +21,18 @@ Word = List ℕ
 
 -- what is asked for
 pub data Command : Type 0 where
-  -- a run of a task of a source, by so many workers, for at most so many ticks, with a file of its data where one is named
+  -- a run of a task of a source, by a number of workers, for at most `limit` ticks, with a file of its data where one is named
   Run : (source top : Word) (input : Option Word) (workers limit : ℕ) → Command
   -- the circuit of a task of a source
   Build : (source top : Word) → Command
   -- a plan of the program of a source on the device of a file, by a mode: its lines, or the circuit by it
   Plan : (source top device : Word) (mode : PlanMode) (aim : PlanAim) → Command
-  -- a simulation of the design of a Verilog text, for at most so many cycles, with a file of its data where one is named: its
+  -- a simulation of the design of a Verilog text, for at most `limit` cycles, with a file of its data where one is named: its
   -- report, or its dump
   Cosim : (text : Word) (input : Option Word) (limit : ℕ) (aim : CosimAim) → Command
   -- the values of one net in the dump of a file
   Vcd : (file net : Word) → Command
-  -- the generated network of so many layers, run by so many workers
+  -- the generated network of a number of layers, run by a number of workers
   Gen : (layers workers : ℕ) → Command
 
 -- the words as bytes
@@ -47,7 +47,7 @@ verb_of word =
     if bytes_eq word (codes "run") then Some Running else if bytes_eq word (codes "build") then Some Building else if bytes_eq word (codes "plan") then Some Planning
     else if bytes_eq word (codes "cosim") then Some Simulating else if bytes_eq word (codes "vcd") then Some Showing else if bytes_eq word (codes "gen") then Some Generating else None
 
--- what the option of a name is in a table of options, where it stands there
+-- whether the option of a name has a value, where a table of options has it
 abbrev pub kind_in : List (Word × OptionKind) → Word → Option OptionKind
 kind_in [] name = None
 kind_in (option ∷ options) name = if bytes_eq name option.0 then Some option.1 else kind_in options name
@@ -67,7 +67,7 @@ option_kind verb name = kind_in (options_of verb) name
 
 -- ---- how a command's parts are written
 
--- what the words behind the command's name are
+-- what the words after the command's name are
 pub data Item : Type 0 where
   Positional : (word : Word) → Item
   -- an option, and its value, which is empty where it has none
@@ -79,7 +79,7 @@ is_option [] = false
 is_option (b ∷ []) = false
 is_option (b ∷ c ∷ rest) = b == 45
 
--- `--`, behind which every word is a positional
+-- `--`, after which every word is a positional
 abbrev pub end_of_options : Word
 end_of_options = codes "--"
 
@@ -95,12 +95,12 @@ abbrev pub IsWritten : Verb → Item → List Word → Type 0
 IsWritten verb (Positional word) words = (is_option word ≡ false) × (words ≡ word ∷ [])
 IsWritten verb (Valued name value) words = IsOptionWritten (option_kind verb name) name value words
 
--- items one behind the other, before `--`
+-- items one after the other, before `--`
 abbrev pub AreWritten : Verb → List Item → List Word → Type 0
 AreWritten verb [] words = words ≡ []
 AreWritten verb (item ∷ items) words = (front : List Word) × (back : List Word) × (words ≡ front ++ back) × IsWritten verb item front × AreWritten verb items back
 
--- items of which the last are the words behind `--`, which is dropped
+-- items of which the last are the words after `--`, which is dropped
 pub record AreWrittenWithEnd (verb : Verb) (items : List Item) (words : List Word) : Type 0 where
   pub fore : List Item
   pub front : List Word
@@ -109,7 +109,7 @@ pub record AreWrittenWithEnd (verb : Verb) (items : List Item) (words : List Wor
   pub words_are : words ≡ front ++ end_of_options ∷ behind
   pub items_are : items ≡ fore ++ map Positional behind
 
--- the words behind a command's name are these items
+-- the words after a command's name are these items
 abbrev pub HasItems : Verb → List Word → List Item → Type 0
 HasItems verb words items = AreWritten verb items words ⊎ AreWrittenWithEnd verb items words
 
@@ -162,15 +162,15 @@ abbrev pub number_or : (default least most : ℕ) → Option Word → Option ℕ
 number_or default least most None = Some default
 number_or default least most (Some value) = in_range least most (number_of value)
 
--- the most ticks that a run may make, where the words don't tell
+-- the most ticks that a run may make, where the words give none
 abbrev pub default_limit : ℕ
 default_limit = 100000000
 
--- the most cycles that a simulation may go, where the words don't tell
+-- the most cycles that a simulation may go, where the words give none
 abbrev pub default_cycles : ℕ
 default_cycles = 10000000
 
--- the most ticks or cycles that the words may tell
+-- the greatest limit of ticks or cycles that the words may give
 abbrev pub most_limit : ℕ
 most_limit = 1000000000000
 
@@ -182,7 +182,7 @@ most_workers = 64
 abbrev pub most_layers : ℕ
 most_layers = 126
 
--- the workers that `--workers` tells, and one where it is not given
+-- the workers that `--workers` gives, and one where it is not given
 abbrev pub workers_or : Option Word → Option ℕ
 workers_or value = number_or 1 1 most_workers value
 
@@ -192,7 +192,7 @@ of_both f (Some m) (Some n) = Some (f m n)
 of_both f (Some m) None = None
 of_both f None n = None
 
--- `run SRC TOP [DATA]`, by the workers that `--workers` tells, with the limit that `--steps` tells
+-- `run SRC TOP [DATA]`, by the workers that `--workers` gives, with the limit that `--steps` gives
 abbrev pub run_by : List Word → Option ℕ → Option ℕ → Option Command
 run_by (source ∷ top ∷ []) workers limit = of_both (Run source top None) workers limit
 run_by (source ∷ top ∷ input ∷ []) workers limit = of_both (Run source top (Some input)) workers limit
@@ -203,7 +203,7 @@ abbrev pub mode_or : Option Word → Option PlanMode
 mode_or None = Some Fit
 mode_or (Some word) = if bytes_eq word (codes "exact") then Some Exact else if bytes_eq word (codes "fit") then Some Fit else if bytes_eq word (codes "split") then Some Split else None
 
--- `plan SRC TOP DEV`, by the mode that `--plan` tells
+-- `plan SRC TOP DEV`, by the mode that `--plan` gives
 abbrev pub plan_by : List Word → Option PlanMode → Option Command
 plan_by (source ∷ top ∷ device ∷ []) mode = option_map (λ by. Plan source top device by Lines) mode
 plan_by words mode = None
@@ -213,7 +213,7 @@ abbrev pub built_on : Word → Word → Option Word → Bool → PlanMode → Co
 built_on source top None balanced mode = Build source top
 built_on source top (Some device) balanced mode = Plan source top device mode (Circuit balanced)
 
--- `build SRC TOP`, on the device that `--device` names, by the mode that `--plan` tells, balanced without `--no-balance`
+-- `build SRC TOP`, on the device that `--device` names, by the mode that `--plan` gives, balanced without `--no-balance`
 abbrev pub build_by : List Word → Option Word → Option PlanMode → Bool → Option Command
 build_by (source ∷ top ∷ []) device mode balanced = option_map (built_on source top device balanced) mode
 build_by words device mode balanced = None
@@ -223,7 +223,7 @@ abbrev pub aim_by : Option Word → CosimAim
 aim_by None = Report
 aim_by (Some value) = Dump
 
--- `cosim VTEXT [DATA]`, with the limit that `--cycles` tells
+-- `cosim VTEXT [DATA]`, with the limit that `--cycles` gives
 abbrev pub cosim_by : List Word → Option ℕ → CosimAim → Option Command
 cosim_by (text ∷ []) limit aim = option_map (λ n. Cosim text None n aim) limit
 cosim_by (text ∷ input ∷ []) limit aim = option_map (λ n. Cosim text (Some input) n aim) limit
@@ -234,12 +234,12 @@ abbrev pub vcd_by : List Word → Option Command
 vcd_by (file ∷ net ∷ []) = Some (Vcd file net)
 vcd_by words = None
 
--- `gen N`, by the workers that `--workers` tells
+-- `gen N`, by the workers that `--workers` gives
 abbrev pub gen_by : List Word → Option ℕ → Option Command
 gen_by (layers ∷ []) workers = of_both Gen (in_range 0 most_layers (number_of layers)) workers
 gen_by words workers = None
 
--- a command by its items: the positionals are as many as it has, in its order
+-- a command by its items: its positionals, no more and no fewer, in its order, and its options
 abbrev pub command_by : Verb → List Item → Option Command
 command_by Running items = run_by (positionals items) (workers_or (value_of (codes "--workers") items)) (number_or default_limit 1 most_limit (value_of (codes "--steps") items))
 command_by Building items = build_by (positionals items) (value_of (codes "--device") items) (mode_or (value_of (codes "--plan") items)) (is_none (value_of (codes "--no-balance") items))
@@ -250,7 +250,7 @@ command_by Generating items = gen_by (positionals items) (workers_or (value_of (
 
 -- ---- the words of a command
 
--- a command's name, and behind it the items of a command, each option at most once
+-- a command's name, followed by the items of a command, each option at most once
 pub record IsAsked (name : Word) (words : List Word) (command : Command) : Type 0 where
   pub verb : Verb
   pub items : List Item

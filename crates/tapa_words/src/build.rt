@@ -1,7 +1,8 @@
+// Reads the words of `build`: the source, the top task, the device, the mode of the plan, and whether latencies are balanced.
 ghost use Rattle.std.specs.Prelude.{map, IfOk};
 ghost use Rattle.tapa_words.specs.Words.{command_by, IsInRange};
 ghost use Rattle.tapa_words.specs.declared.verb.Verb.TheVariants.{Building};
-ghost use Rattle.tapa_words.specs.Meaning.{command, item, Answers};
+ghost use Rattle.tapa_words.specs.Meaning.{command, item, WordsAnswer};
 
 use crate::command::{Command, PlanAim, WordsFault};
 use crate::item::{Item, positional_words, value};
@@ -10,7 +11,7 @@ use std::alloc::Global;
 
 /// `build SRC TOP [--device DEV] [--plan MODE] [--no-balance]`, by its items.
 pub(crate) fn read_build<'a>(alloc: Global, items: &[Item<'a>]) -> Result<Command<'a>, WordsFault>
-    ensures asked { Answers command result (command_by Building (map item items.now)) }
+    ensures asked { WordsAnswer command result (command_by Building (map item items.now)) }
     ensures range { IfOk result (λ asked. IsInRange (command asked)) }
 {
     let words = positional_words(alloc, items)?;

@@ -1,8 +1,8 @@
 /// What the words ask for.
 #[derive(Clone, Copy)]
 pub enum Command<'a> {
-    /// Run the task `top` of the file `source` by so many workers, 1 to 64, for at most `limit` ticks, with the file `data`
-    /// where one is named.
+    /// Run the task `top` of the file `source` by 1 to 64 `workers`, for at most `limit` ticks, with the file `data` where one is
+    /// named.
     Run {
         source: &'a str,
         top: &'a str,
@@ -36,7 +36,7 @@ pub enum Command<'a> {
         file: &'a str,
         net: &'a str,
     },
-    /// Generate the network of so many layers, 0 to 126, run it by so many workers, 1 to 64, build and simulate it.
+    /// Generate the network of 0 to 126 `layers`, run it by 1 to 64 `workers`, build and simulate it.
     Gen {
         layers: u32,
         workers: u32,
@@ -51,8 +51,8 @@ pub enum PlanMode {
     Split,
 }
 
-/// What a plan is for: its lines are told, or a circuit is built by it, whose streams get latency at the borders of slots
-/// and, where they are balanced, as much more as makes all ways between two tasks equally late.
+/// What a plan is for: its lines are printed, or a circuit is built by it, whose streams get latency where they cross borders of
+/// slots and, where they are balanced, more latency, so that all paths between two tasks have equal latency.
 #[derive(Clone, Copy)]
 pub enum PlanAim {
     Lines,

@@ -1,7 +1,8 @@
+// Reads the words of `cosim`, for the simulation of a Verilog text, and of `vcd`, for a net of a value change dump.
 ghost use Rattle.std.specs.Prelude.{◌≡◌, map, option_map, IfOk};
 ghost use Rattle.tapa_words.specs.Words.{command_by, aim_by, IsInRange};
 ghost use Rattle.tapa_words.specs.declared.verb.Verb.TheVariants.{Simulating, Showing};
-ghost use Rattle.tapa_words.specs.Meaning.{command, item, Answers};
+ghost use Rattle.tapa_words.specs.Meaning.{command, item, WordsAnswer};
 
 use crate::command::{Command, CosimAim, WordsFault};
 use crate::item::{Item, positional_words, value};
@@ -23,7 +24,7 @@ fn aim(value: Option<&str>) -> CosimAim
 
 /// `cosim VTEXT [DATA] [--cycles N] [--vcd]`, by its items.
 pub(crate) fn read_cosim<'a>(alloc: Global, items: &[Item<'a>]) -> Result<Command<'a>, WordsFault>
-    ensures asked { Answers command result (command_by Simulating (map item items.now)) }
+    ensures asked { WordsAnswer command result (command_by Simulating (map item items.now)) }
     ensures range { IfOk result (λ asked. IsInRange (command asked)) }
 {
     let words = positional_words(alloc, items)?;
@@ -47,7 +48,7 @@ pub(crate) fn read_cosim<'a>(alloc: Global, items: &[Item<'a>]) -> Result<Comman
 
 /// `vcd FILE NAME`, by its items.
 pub(crate) fn read_vcd<'a>(alloc: Global, items: &[Item<'a>]) -> Result<Command<'a>, WordsFault>
-    ensures asked { Answers command result (command_by Showing (map item items.now)) }
+    ensures asked { WordsAnswer command result (command_by Showing (map item items.now)) }
     ensures range { IfOk result (λ asked. IsInRange (command asked)) }
 {
     let words = positional_words(alloc, items)?;

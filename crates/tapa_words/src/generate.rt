@@ -1,7 +1,8 @@
+// Reads the words of `gen`: the number of layers of the generated network, and the number of workers.
 ghost use Rattle.std.specs.Prelude.{map, IfOk};
 ghost use Rattle.tapa_words.specs.Words.{command_by, IsInRange};
 ghost use Rattle.tapa_words.specs.declared.verb.Verb.TheVariants.{Generating};
-ghost use Rattle.tapa_words.specs.Meaning.{command, item, Answers};
+ghost use Rattle.tapa_words.specs.Meaning.{command, item, WordsAnswer};
 
 use crate::command::{Command, WordsFault};
 use crate::item::{Item, positional_words, value};
@@ -13,7 +14,7 @@ const MOST_LAYERS: u64 = 126;
 
 /// `gen N [--workers W]`, by its items.
 pub(crate) fn read_gen<'a>(alloc: Global, items: &[Item<'a>]) -> Result<Command<'a>, WordsFault>
-    ensures asked { Answers command result (command_by Generating (map item items.now)) }
+    ensures asked { WordsAnswer command result (command_by Generating (map item items.now)) }
     ensures range { IfOk result (λ asked. IsInRange (command asked)) }
 {
     let words = positional_words(alloc, items)?;

@@ -1,14 +1,15 @@
+// The items of the words of a command: positionals, and options with their values.
 ghost use Rattle.std.specs.Prelude.{◌≡◌, map, Some, option_map};
 ghost use Rattle.std.specs.List.{list_any};
 ghost use Rattle.tapa_words.specs.Words.{texts, is_option, option_kind, is_named, is_each_once, positionals, value_of};
 ghost use Rattle.tapa_words.specs.Reading.{step_of, option_step, name_in, value_in, items_of};
-ghost use Rattle.tapa_words.specs.Meaning.{item, next, step, Answers};
+ghost use Rattle.tapa_words.specs.Meaning.{item, next, step, WordsAnswer};
 
 use crate::command::WordsFault;
 use crate::verb::{OptionKind, Verb};
 use std::alloc::Global;
 
-// What the words behind the command's name are.
+// What the words after the command's name are.
 #[derive(Clone, Copy)]
 pub(crate) enum Item<'a> {
     Positional(&'a str),
@@ -41,7 +42,7 @@ fn is_an_option(word: &str) -> bool
     bytes.len() > 1 && bytes[0] == b'-'
 }
 
-// What stands before the first `=`, and behind it.
+// The part before the first `=`, and the part after it.
 fn cut(word: &str) -> (&str, Option<&str>)
     ensures name { result.0.now ≡ name_in word.now }
     ensures value { option_map (λ text. text.now) result.1 ≡ value_in word.now }
@@ -115,13 +116,13 @@ fn read_word<'a>(verb: Verb, expected: Next<'a>, word: &'a str) -> Step<'a>
     }
 }
 
-/// The items of the words behind the command's name.
+/// The items of the words after the command's name.
 pub(crate) fn read_items<'a>(
     alloc: Global,
     verb: Verb,
     words: &'a [String],
 ) -> Result<Vec<Item<'a>>, WordsFault>
-    ensures { Answers (λ items. map item items.items) result (items_of verb (texts words.now)) }
+    ensures { WordsAnswer (λ items. map item items.items) result (items_of verb (texts words.now)) }
 {
     let mut items = Vec::new(alloc);
     let mut expected = Next::AnyWord;
@@ -148,7 +149,7 @@ pub(crate) fn positional_words<'a>(
     alloc: Global,
     items: &[Item<'a>],
 ) -> Result<Vec<&'a str>, WordsFault>
-    ensures { Answers (λ words. map (λ word. word.now) words.items) result (Some (positionals (map item items.now))) }
+    ensures { WordsAnswer (λ words. map (λ word. word.now) words.items) result (Some (positionals (map item items.now))) }
 {
     let mut words = Vec::new(alloc);
     for given in items {

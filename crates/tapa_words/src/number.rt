@@ -7,7 +7,7 @@ ghost use Rattle.tapa_words.specs.Words.{is_digit, number_of, in_range, number_o
 // The most digits that a number has.
 const MOST_DIGITS: usize = 19;
 
-/// The most workers that the words may tell.
+/// The most workers that the words may give.
 const MOST_WORKERS: u64 = 64;
 
 // Whether all bytes are decimal digits.
@@ -70,7 +70,7 @@ pub(crate) fn value_within(default: u64, least: u64, most: u64, value: Option<&s
     }
 }
 
-/// The workers that the value of `--workers` tells, and one where it is not given.
+/// The workers that the value of `--workers` gives, and one where it is not given.
 pub(crate) fn workers_by(value: Option<&str>) -> Option<u32>
     ensures is { result ≡ workers_or (option_map (λ text. text.now) value.entry) }
     ensures least { IfSome result (λ n. 1 ≤ n) }

@@ -1,7 +1,8 @@
+// Reads the words of `plan`: the source, the top task, the device and the mode of the plan, which `build` has too.
 ghost use Rattle.std.specs.Prelude.{◌≡◌, map, option_map, IfOk};
 ghost use Rattle.tapa_words.specs.Words.{command_by, mode_or, IsInRange};
 ghost use Rattle.tapa_words.specs.declared.verb.Verb.TheVariants.{Planning};
-ghost use Rattle.tapa_words.specs.Meaning.{command, item, Answers};
+ghost use Rattle.tapa_words.specs.Meaning.{command, item, WordsAnswer};
 
 use crate::command::{Command, PlanAim, PlanMode, WordsFault};
 use crate::item::{Item, positional_words, value};
@@ -29,7 +30,7 @@ pub(crate) fn mode_by(value: Option<&str>) -> Option<PlanMode>
 
 /// `plan SRC TOP DEV [--plan MODE]`, by its items.
 pub(crate) fn read_plan<'a>(alloc: Global, items: &[Item<'a>]) -> Result<Command<'a>, WordsFault>
-    ensures asked { Answers command result (command_by Planning (map item items.now)) }
+    ensures asked { WordsAnswer command result (command_by Planning (map item items.now)) }
     ensures range { IfOk result (λ asked. IsInRange (command asked)) }
 {
     let words = positional_words(alloc, items)?;

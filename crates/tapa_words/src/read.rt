@@ -1,7 +1,8 @@
+// Reads the words of a command: the name of the command, and then what its items ask for.
 ghost use Rattle.std.specs.Prelude.{IfOk, IfErr};
 ghost use Rattle.tapa_words.specs.Words.{texts, Asks, IsInRange};
 ghost use Rattle.tapa_words.specs.Reading.{command_of};
-ghost use Rattle.tapa_words.specs.Meaning.{command, Answers, IsRefusedBy};
+ghost use Rattle.tapa_words.specs.Meaning.{command, WordsAnswer, IsRefusedBy};
 
 use crate::build::read_build;
 use crate::command::{Command, WordsFault};
@@ -15,7 +16,7 @@ use std::alloc::Global;
 
 // The command that words are read as.
 fn read_command<'a>(alloc: Global, words: &'a [String]) -> Result<Command<'a>, WordsFault>
-    ensures asked { Answers command result (command_of (texts words.now)) }
+    ensures asked { WordsAnswer command result (command_of (texts words.now)) }
     ensures range { IfOk result (λ asked. IsInRange (command asked)) }
 {
     let (verb, rest) = match words {

@@ -1,8 +1,9 @@
+// Reads the words of `run`: the source, the top task, the data, the number of workers and the limit of ticks.
 ghost use Rattle.std.specs.Prelude.{◌≡◌, ◌≤◌, Some, map, option_map, IfOk};
 ghost use Rattle.std.specs.Option.{IfSome};
 ghost use Rattle.tapa_words.specs.Words.{command_by, run_by, most_limit, most_workers, IsInRange};
 ghost use Rattle.tapa_words.specs.declared.verb.Verb.TheVariants.{Running};
-ghost use Rattle.tapa_words.specs.Meaning.{command, item, Answers};
+ghost use Rattle.tapa_words.specs.Meaning.{command, item, WordsAnswer};
 
 use crate::command::{Command, WordsFault};
 use crate::item::{Item, positional_words, value};
@@ -11,10 +12,10 @@ use std::alloc::Global;
 
 const DEFAULT_LIMIT: u64 = 100_000_000;
 
-/// The most ticks or cycles that the words may tell.
+/// The greatest limit of ticks or cycles that the words may give.
 pub(crate) const MOST_LIMIT: u64 = 1_000_000_000_000;
 
-// `SRC TOP [DATA]`, by so many workers, with a limit.
+// `SRC TOP [DATA]`, by this number of workers, with a limit.
 fn run_of<'a>(words: &[&'a str], workers: u32, limit: u64) -> Option<Command<'a>>
     requires least { 1 ≤ workers }
     requires most { workers ≤ most_workers }
@@ -38,7 +39,7 @@ fn run_of<'a>(words: &[&'a str], workers: u32, limit: u64) -> Option<Command<'a>
 
 /// `run SRC TOP [DATA] [--workers W] [--steps N]`, by its items.
 pub(crate) fn read_run<'a>(alloc: Global, items: &[Item<'a>]) -> Result<Command<'a>, WordsFault>
-    ensures asked { Answers command result (command_by Running (map item items.now)) }
+    ensures asked { WordsAnswer command result (command_by Running (map item items.now)) }
     ensures range { IfOk result (λ asked. IsInRange (command asked)) }
 {
     let words = positional_words(alloc, items)?;

@@ -1,4 +1,4 @@
--- The places of a body, compiled from its end: each statement gets the place that comes after it.
+-- The states of a body, compiled from its end: each statement gets the number of the state that comes after it.
 use Rattle.std.specs.Prelude.{ℕ, ◌+◌, ◌-◌, List, [], ◌∷◌, ◌++◌, length, Some, None}
 use Rattle.tapa_base.specs.declared.kind.Kind.{Kind}
 use Rattle.tapa_base.specs.declared.kind.Kind.TheVariants.{Bool, U32}
@@ -13,7 +13,7 @@ use Rattle.tapa_syntax.specs.TickPlaces.{operation_count, size_of_block, size_of
 use Rattle.task_fsm.specs.Machine.{Expression, Number, Reg, CellOf, Converted, Applied, Flipped, Inverse, Both, Either, Chosen, StateForm, SetAt, CellAt, TestAt, ReadAt}
 use Rattle.task_fsm.specs.Machine.{WriteAt, PeekAt, EotAt, OpenAt, CloseAt, LoadAt, StoreAt, ClearAt, EndAt, TrapAt}
 
--- what is left of an expression whose operations have their values in the registers from t on, the last operation first
+-- the residual of an expression whose operations have their values in the registers from t on, the last operation first
 abbrev pub residual : Expr → ℕ → Expression
 residual (Lit kind n) t = Number kind n
 residual (Var x) t = Reg x
@@ -30,13 +30,13 @@ residual (And' p l q r) t = Both (residual l (t + operation_count r)) (residual 
 residual (Or' p l q r) t = Either (residual l (t + operation_count r)) (residual r t)
 residual (Choose' p e q a r b) t = Chosen (residual e (t + (operation_count b + operation_count a))) (residual a (t + operation_count b)) (residual b t)
 
--- what is emitted so far, from some place to the last: the places, the one that comes first in time, and the registers
+-- the states that are emitted so far, which are the last ones; the number of the one that comes first in time; and the registers
 pub record Emitted : Type 0 where
   pub places : List StateForm
   pub entry : ℕ
   pub regs : List Kind
 
--- one more place before the others, of which there are to be N in all
+-- one more state before the others, of which there are to be N in all
 abbrev pub emit : ℕ → (ℕ → StateForm) → Emitted → Emitted
 emit N p B = record { places = p B.entry ∷ B.places; entry = N - (length B.places + 1); regs = B.regs }
 
@@ -80,17 +80,17 @@ discarded K N e B = operations K N e B
 abbrev pub old_with : Op → Kind → Kind → Expression → Expression → Expression
 old_with op kind k old new = Converted kind k (Applied op kind (Converted k kind old) new)
 
--- a test that leads on where it holds, and to another place where not
+-- a test that goes on to the next state where it holds, and to `other` where not
 abbrev pub test_code : Kinds → ℕ → Expr → ℕ → Emitted → Emitted
 test_code K N e other B = operations K N e (emit N (λ next. TestAt (residual e (length B.regs)) next other) B)
 
--- a loop, whose first place is the head
+-- a loop, whose first state is the head
 abbrev pub loop_code : Kinds → ℕ → Expr → ℕ → (ℕ → ℕ → Emitted → Emitted) → (ℕ → ℕ → Emitted → Emitted) → Emitted → Emitted
 loop_code K N e head body step B =
     test_code K N e B.entry (body B.entry (step B.entry head (going_to head B)).entry (step B.entry head (going_to head B)))
 
 abbrev mutual
-  -- a statement with the counter's register, and where a break and a continue lead
+  -- a statement: c is the counter's register, out the state after a break and again the one after a continue
   pub stmt_code : Kinds → ℕ → ℕ → Stmt → ℕ → ℕ → Emitted → Emitted
   stmt_code K N c (Set x e) out again B = operations K N e (emit N (λ next. SetAt x (residual e (length B.regs)) next) B)
   stmt_code K N c (SetCell a i e) out again B =

@@ -1,4 +1,4 @@
--- What a machine that is being emitted stands for: its states are kept last first.
+-- What an emitted part of a machine denotes: its states are kept last first.
 use Rattle.std.specs.Prelude.{map, reverse}
 use Rattle.task_fsm.specs.declared.draft.Emission.{Emission}
 use Rattle.task_fsm.specs.Machine.{form_of}

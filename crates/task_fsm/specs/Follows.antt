@@ -1,4 +1,4 @@
--- What it means that a machine follows a job, and what is left of both after some ticks.
+-- What it means that a machine follows a job, and the residual of both after some ticks.
 use Rattle.std.specs.Prelude.{◌≡◌, ℕ, zero, suc, List, Option, Some, slice_get}
 use Rattle.tapa_base.specs.declared.token.Token.{Token}
 use Rattle.kahn_model.specs.Behavior.{Behavior, Finished, OutOfTurns, Act, Await, first_offer, on_offer, lists_after}
@@ -6,7 +6,7 @@ use Rattle.kahn_model.specs.Trace.{State}
 use Rattle.task_fsm.specs.Machine.{StateForm, EndAt, TrapAt}
 use Rattle.task_fsm.specs.Run.{Performs, Awaits, put_into, step, cleared_after, UsesOnly}
 
--- from this place and with what it holds, the machine makes the ticks of the job
+-- from state pc and with the values τ, the machine makes the ticks of the job
 abbrev pub Follows : List StateForm → List ℕ → Behavior → ℕ → State → Type 0
 Follows P S Finished pc τ = slice_get P pc ≡ Some EndAt
 Follows P S OutOfTurns pc τ = slice_get P pc ≡ Some TrapAt → ⊥
@@ -16,7 +16,7 @@ Follows P S (Await s how rest) pc τ =
     (p : StateForm) × (pc' : ℕ) × (into : Option ℕ) × (slice_get P pc ≡ Some p) × (step p pc τ ≡ Awaits s how pc' into) × (cleared_after p τ S ≡ S) × UsesOnly S p
     × ((v : ℕ) → Follows P S (rest v) pc' (put_into τ into v))
 
--- what is left of a job after so many of its ticks on lists
+-- the residual of a job after this number of its ticks on lists
 abbrev pub left_after : ℕ → Behavior → (ℕ → List Token) → Behavior
 left_after zero job ins = job
 left_after (suc k) Finished ins = OutOfTurns

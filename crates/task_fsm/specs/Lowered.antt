@@ -26,10 +26,11 @@ abbrev pub with_temporaries : ℕ → State → State
 with_temporaries k σ = record σ { vars = σ.vars ++ replicate k 0 }
 
 pub record IsLowered (leaf : Leaf) (fsm : Fsm) : Type 0 where
-  -- from every start the machine makes the job's ticks, one place a tick, whatever tokens come
+  -- from every start the machine makes the job's ticks, one state a tick, whatever tokens come
   pub machine :
-      (σ : State) → IsStart leaf σ → IsMachineOf (λ n. job_of (kinds_of leaf) leaf.code.items σ n) (forms_of fsm.states.items) (with_temporaries (length fsm.regs.items - length leaf.vars.items) σ)
-  -- so it does for each tree of answers
+      (σ : State) → IsStart leaf σ → IsMachineOf (λ n. job_of (kinds_of leaf) leaf.code.items σ n) (forms_of fsm.states.items)
+      (with_temporaries (length fsm.regs.items - length leaf.vars.items) σ)
+  -- from every start the machine follows the job for each tree of answers
   pub follows :
       (σ : State) → IsStart leaf σ → (n : ℕ) → Follows (forms_of fsm.states.items) [] (job_of (kinds_of leaf) leaf.code.items σ n) 0
       (with_temporaries (length fsm.regs.items - length leaf.vars.items) σ)
@@ -44,7 +45,7 @@ pub record IsLowered (leaf : Leaf) (fsm : Fsm) : Type 0 where
   -- a state for each tick place, the end and the trap, and a register for each variable and temporary
   pub states : length fsm.states.items ≡ size_of_list leaf.code.items + 2
   pub registers : length fsm.regs.items ≡ length leaf.vars.items + temporaries_of leaf.code.items
-  -- each state names what is there, and leads to no trap
+  -- each state names only registers, arrays, streams, memories and states that exist, and none goes to the trap
   pub in_range : AreInRange (ranges_of leaf fsm) (forms_of fsm.states.items)
   pub trap : slice_get (forms_of fsm.states.items) (trap_of (forms_of fsm.states.items)) ≡ Some TrapAt
   pub regs : IsPrefixOf leaf.vars.items fsm.regs.items

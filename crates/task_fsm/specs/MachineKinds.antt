@@ -18,7 +18,7 @@ use Rattle.task_fsm.specs.Machine.{Expression, Number, Reg, CellOf, Converted, A
 use Rattle.task_fsm.specs.Machine.{WriteAt, PeekAt, EotAt, OpenAt, CloseAt, LoadAt, StoreAt, ClearAt, EndAt, TrapAt}
 use Rattle.task_fsm.specs.Run.{value, StateStep, Performs, Awaits, Completes, Halts, put_into}
 
--- the kinds of a leaf with these registers in place of its variables
+-- the kinds of a leaf with these registers instead of its variables
 abbrev pub with_registers : Kinds → List Kind → Kinds
 with_registers K regs = record K { vars = λ r. slice_index_or regs r U64 }
 

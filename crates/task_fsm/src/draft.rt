@@ -55,7 +55,7 @@ pub(crate) fn write_held(
     Ok(())
 }
 
-// The number of the first of `size` states that will stand before those written.
+// The number of the first of `size` states that will be before those written.
 pub(crate) fn number_of_head(total: u32, others: usize, size: u32) -> u32
     requires { others < 9223372036854775808 }
     ensures { result ≡ total - (others + size) }

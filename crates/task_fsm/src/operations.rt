@@ -1,4 +1,4 @@
-// The places of an expression's operations.
+// The states of an expression's operations.
 
 ghost use Rattle.std.specs.Prelude.{◌≡◌, IfOk};
 ghost use Rattle.tapa_syntax.specs.LeafKinds.{kinds_of};
@@ -170,7 +170,7 @@ pub(crate) fn write_alone(
     }
 }
 
-// A test, which leads on where it holds.
+// A test, which goes on to the next state where it holds, and to state `no` where not.
 pub(crate) fn write_test(
     alloc: Global,
     draft: &mut Emission,

@@ -70,7 +70,7 @@ pub(crate) fn residual(alloc: Global, e: &Source, t: u32) -> Result<Expr, AllocE
     }
 }
 
-// An old value of kind k joined with another by an operator in a kind of its own.
+// An old value of kind k combined with another by an operator in a kind of its own.
 pub(crate) fn joined(
     alloc: Global,
     op: Op,
@@ -106,7 +106,7 @@ pub(crate) fn register(t: u32) -> Expr
     Expr::Var(t)
 }
 
-// The value of a cell of an array, at what is left of an index.
+// The value of a cell of an array, whose index is the residual of an expression.
 pub(crate) fn cell_at(alloc: Global, array: u32, i: &Source, t: u32) -> Result<Expr, AllocError>
     ensures { IfOk result (λ r. expression_of r ≡ CellOf array (residual_lem i.now t)) }
 {

@@ -17,7 +17,7 @@ use std::alloc::{AllocError, Global};
 use tapa_base::plus;
 use tapa_syntax::{Leaf, Stmt};
 
-// A statement, with the counter's register, and where a break and a continue lead.
+// A statement: `counter` is the counter's register, `out` the state after a break and `again` the one after a continue.
 #[cycle(statements)]
 fn write_stmt(
     alloc: Global,

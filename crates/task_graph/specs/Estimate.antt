@@ -150,7 +150,7 @@ array_luts a = if nat_le (array_bits a) 1024 then rounded_up (array_bits a) 64 e
 abbrev pub array_brams : Array → ℕ
 array_brams a = if nat_le (array_bits a) 1024 then 0 else rounded_up (array_bits a) 18432
 
--- ---- the estimate. A number past 2 to the 40th is told as the number before it, which no text within the limits of a
+-- ---- the estimate. A number of 2 ^ 40 or more is reported as 2 ^ 40 - 1, which no text within the limits of a
 -- source comes to: each of its bytes adds at most a few hundred
 
 abbrev pub at_most : ℕ → ℕ

@@ -65,7 +65,7 @@ fn bits_of_variables(kinds: &[Kind]) -> u64
     sum
 }
 
-/// What a number is told as that is more.
+/// The greatest number that is reported.
 const MOST: u64 = 0xff_ffff_ffff;
 
 #[tactic(auto, unfolding(crate::specs::Counted::rates_of))]

@@ -91,7 +91,7 @@ fn grouped(alloc: Global, rows: &[Vec<bool>]) -> Result<Groups, AllocError>
     Ok(groups)
 }
 
-/// The groups of so many instances, numbered by their least one.
+/// The groups of `count` instances, numbered by their least one.
 pub(crate) fn groups_of(alloc: Global, count: usize, edges: &[Edge]) -> Result<Groups, AllocError>
     requires ends { EndBelow count edges.now }
     requires few { count ≤ 512 }

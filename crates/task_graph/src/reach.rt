@@ -22,7 +22,7 @@ fn rows_of(alloc: Global, graph: &Graph) -> Result<Vec<Vec<bool>>, AllocError>
     Ok(rows)
 }
 
-/// For each of so many instances a row of marks at the instances that it reaches along streams.
+/// For each of `count` instances a row of marks at the instances that it reaches along streams.
 pub(crate) fn reach_rows(
     alloc: Global,
     count: usize,

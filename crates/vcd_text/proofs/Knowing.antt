@@ -13,7 +13,7 @@ use Rattle.vcd_text.specs.Nets.{Net}
 use Rattle.vcd_text.specs.Along.{StopsBefore}
 use Rattle.vcd_text.specs.Dump.{change_line, cycle_line}
 use Rattle.vcd_text.specs.Read.{port_of}
-use Rattle.vcd_text.specs.Lines.{IsNewValue, IsChangeAt, IsLineTo, IsFound}
+use Rattle.vcd_text.specs.Lines.{IsNewValue, IsChangeAt, IsLineTo, IsLineFound}
 use Rattle.vcd_text.specs.declared.line.Found.{Found}
 use Rattle.vcd_text.specs.declared.line.Found.TheVariants as found
 use Rattle.vcd_text.specs.Rest.{Answer, Texts, FailsBefore, Known, change_of, Left, HaveValues, Serves}
@@ -195,13 +195,13 @@ serve_end xs ports L z y n from values done a same have h e is_ports is_last is_
 
 -- ---- what is found, by slices that are seen as these lists
 
-pub change_in : (ports seen : List Port) (values shown : List ℕ) (next from place v : ℕ) (y x : Bytes) (f : Found) → seen ≡ ports → shown ≡ values → f ≡ found.Change place v → IsFound seen (slice_get shown) next from y f x → IsChangeAt ports (slice_get values) from place v y x
+pub change_in : (ports seen : List Port) (values shown : List ℕ) (next from place v : ℕ) (y x : Bytes) (f : Found) → seen ≡ ports → shown ≡ values → f ≡ found.Change place v → IsLineFound seen (slice_get shown) next from y f x → IsChangeAt ports (slice_get values) from place v y x
 change_in ports seen values shown next from place v y x f a b c is =
     subst (λ (l : List Port). IsChangeAt l (slice_get values) from place v y x) a
-    (subst (λ (l : List ℕ). IsChangeAt seen (slice_get l) from place v y x) b (subst (λ (g : Found). IsFound seen (slice_get shown) next from y g x) c is))
+    (subst (λ (l : List ℕ). IsChangeAt seen (slice_get l) from place v y x) b (subst (λ (g : Found). IsLineFound seen (slice_get shown) next from y g x) c is))
 
-pub cycle_in : (seen : List Port) (shown : List ℕ) (next from : ℕ) (y x : Bytes) (f : Found) → f ≡ found.Cycle → IsFound seen (slice_get shown) next from y f x → y ≡ cycle_line next ++ x
-cycle_in seen shown next from y x f c is = subst (λ (g : Found). IsFound seen (slice_get shown) next from y g x) c is
+pub cycle_in : (seen : List Port) (shown : List ℕ) (next from : ℕ) (y x : Bytes) (f : Found) → f ≡ found.Cycle → IsLineFound seen (slice_get shown) next from y f x → y ≡ cycle_line next ++ x
+cycle_in seen shown next from y x f c is = subst (λ (g : Found). IsLineFound seen (slice_get shown) next from y g x) c is
 
 pub stop_in : (ports seen : List Port) (values shown : List ℕ) (next from left : ℕ) (y : Bytes) → seen ≡ ports → shown ≡ values → StopsBefore (IsLineTo seen (slice_get shown) next from (length seen)) y left → StopsBefore (IsLineTo ports (slice_get values) next from (length ports)) y left
 stop_in ports seen values shown next from left y a b s =

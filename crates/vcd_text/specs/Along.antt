@@ -2,13 +2,13 @@
 use Rattle.std.specs.Prelude.{◌≡◌, ℕ, suc, ◌+◌, ◌<◌, ◌≤◌, ◌==◌, if◌then◌else◌, [], ◌∷◌, length}
 use Rattle.tapa_base.specs.Gaps.{Bytes}
 
--- how many bytes of a word stand at the front of a text, up to the first that differs
+-- the number of bytes that a word and a text have in common at their start
 abbrev pub common : Bytes → Bytes → ℕ
 common [] z = 0
 common (a ∷ w) [] = 0
 common (a ∷ w) (b ∷ z) = if a == b then suc (common w z) else 0
 
--- of these words none stands whole at the front of a text; the one that goes along furthest does so for n bytes
+-- the text begins with none of these words whole, and with at most n bytes of one
 pub record Stops (W : Bytes → Type 0) (z : Bytes) (n : ℕ) : Type 0 where
   pub word : Bytes
   pub is_word : W word

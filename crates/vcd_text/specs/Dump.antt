@@ -9,12 +9,12 @@ use Rattle.vcd_text.specs.Nets.{Net}
 
 -- ---- identifiers
 
--- the digits of a number to base 94, the lowest first, as the bytes from 33 on (18.2.1); at most so many
+-- at most the given number of digits of a number to base 94, the lowest first, as the bytes from 33 on (18.2.1)
 abbrev pub digits_94 : ℕ → ℕ → Bytes
 digits_94 zero k = []
 digits_94 (suc most) k = (33 + k % 94) ∷ (if nat_lt k 94 then [] else digits_94 most (k / 94))
 
--- the identifier of the net at a place, counted from 0; a number has fewer digits than its value and one more
+-- the identifier of the net at an index, counted from 0; it has at most k + 1 digits
 unfoldable pub identifier : ℕ → Bytes
 identifier k = digits_94 (suc k) k
 
@@ -26,7 +26,7 @@ net_type is_reg = if is_reg then codes "reg " else codes "wire "
 abbrev pub var_line : ℕ → Net → Bytes
 var_line k n = codes "$var " ++ (net_type n.is_reg ++ (decimal n.bits ++ (codes " " ++ (identifier k ++ (codes " " ++ (n.name ++ codes " $end\n"))))))
 
--- the lines of things by their places, from one on
+-- the lines of things by their indices, from a first one on
 abbrev pub lines_from : {A : Type 0} → (ℕ → A → Bytes) → ℕ → List A → Bytes
 lines_from line k [] = []
 lines_from line k (x ∷ xs) = line k x ++ lines_from line (suc k) xs
@@ -39,7 +39,7 @@ head_text top nets = codes "$timescale 1 ns $end\n$scope module " ++ (top ++ (co
 
 -- ---- values (18.2.2)
 
--- the binary digits of a number, without zeros in front; of 0 one digit; at most so many
+-- the binary digits of a number, without leading zeros; of 0 one digit; at most the given number of them
 abbrev pub bits_from : ℕ → ℕ → Bytes
 bits_from zero v = []
 bits_from (suc most) v = (if nat_lt v 2 then [] else bits_from most (v / 2)) ++ (48 + v % 2) ∷ []
@@ -54,7 +54,7 @@ value_text bits v = if bits == 1 then (48 + v) ∷ [] else (98 ∷ (binary v ++ 
 abbrev pub change_line : ℕ → ℕ → ℕ → Bytes
 change_line k bits v = value_text bits v ++ (identifier k ++ codes "\n")
 
--- the values of nets by cycle and place
+-- the values of nets by cycle and index
 abbrev pub Values : Type 0
 Values = ℕ → ℕ → ℕ
 
@@ -110,7 +110,7 @@ pub record IsDump (text : Bytes) : Type 0 where
 abbrev pub BeginsDump : Bytes → Type 0
 BeginsDump front = (rest : Bytes) × IsDump (front ++ rest)
 
--- behind bytes with which some dump begins: a byte with which none goes on, or the end of the text, where more would have to come
+-- after bytes with which some dump begins: a byte with which none goes on, or the end of the text, where more would have to come
 abbrev pub StopsAt : Bytes → Bytes → Type 0
 StopsAt before [] = IsDump before → ⊥
 StopsAt before (b ∷ behind) = BeginsDump (before ++ b ∷ []) → ⊥
@@ -135,9 +135,9 @@ abbrev pub IsOneDump : Type 0
 IsOneDump = (top other : Name) (nets others : List Net) (v w : Values) (last end : ℕ) (text : Bytes) → IsDumpOf top nets v last text
     → IsDumpOf other others w end text → IsSameDump nets others v w last end
 
--- a text is a dump, or it is told at one place that it is none
-abbrev pub IsDumpOrNone : Type 0
-IsDumpOrNone = (text : Bytes) (place : Place) → IsDump text → IsNoDumpAt text place → ⊥
+-- no text is a dump and also refused at a place as none
+abbrev pub IsNeverBoth : Type 0
+IsNeverBoth = (text : Bytes) (place : Place) → IsDump text → IsNoDumpAt text place → ⊥
 
 abbrev pub IsNoneOnce : Type 0
 IsNoneOnce = (text : Bytes) (place there : Place) → IsNoDumpAt text place → IsNoDumpAt text there → place ≡ there

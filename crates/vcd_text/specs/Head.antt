@@ -8,7 +8,7 @@ use Rattle.vlog_tree.specs.Table.{Name}
 use Rattle.vcd_text.specs.Dump.{net_type, identifier, var_line}
 use Rattle.vcd_text.specs.Lines.{head_end}
 
--- how many bytes at the front of a text have the form of a name
+-- how many bytes at the start of a text have the form of a name
 abbrev pub name_run : Bytes → ℕ
 name_run [] = 0
 name_run (b ∷ z) = if starts_name b then run goes_on z + 1 else 0
@@ -54,6 +54,6 @@ IsTopLine w = (x : Name) × IsName x × (w ≡ top_line x)
 abbrev pub IsHeadLineTo : List Port → ℕ → Bytes → Type 0
 IsHeadLineTo nets k w = (w ≡ head_end) ⊎ ((y : Bytes) × IsFromType nets k y × (w ≡ codes "$var " ++ y))
 
--- a net that is found: its name, its width, and what stands before and behind its line
+-- a net's line at the start of a text: the net's name, its width, and the rest of the text
 abbrev pub IsNetFound : List Port → ℕ → Name → ℕ → Bytes → Bytes → Type 0
 IsNetFound nets k x n text rest = MayName nets x × (1 ≤ n) × (n ≤ 128) × ((r : Bool) × (text ≡ var_line k (record { name = x; bits = n; is_reg = r }) ++ rest))

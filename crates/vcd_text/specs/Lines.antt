@@ -15,7 +15,7 @@ pub record MayFollow (nets : List Net) (x : Net) : Type 0 where
   pub few_bits : x.bits ≤ 128
   pub other : (k : ℕ) (n : Net) → slice_get nets k ≡ Some n → n.name ≡ x.name → ⊥
 
--- what stands behind the last net, with the line of cycle 0
+-- what comes after the last net, with the line of cycle 0
 abbrev pub head_end : Bytes
 head_end = codes "$upscope $end\n$enddefinitions $end\n#0\n"
 
@@ -24,11 +24,11 @@ abbrev pub is_new : Option ℕ → ℕ → Bool
 is_new None v = true
 is_new (Some u) v = not (v == u)
 
--- the value of so many bits where there was another or none
+-- a value of `bits` bits, other than the one before if there is one
 abbrev pub IsNewValue : ℕ → Option ℕ → ℕ → Type 0
 IsNewValue bits before v = (v < 2 ^ bits) × (is_new before v ≡ true)
 
--- a change of a net from the place k on and before the place j
+-- a change of a net from index k on and before index j
 pub record IsChangeAmong (nets : List Port) (before : ℕ → Option ℕ) (k j : ℕ) (w : Bytes) : Type 0 where
   pub place : ℕ
   pub net : Port
@@ -39,11 +39,11 @@ pub record IsChangeAmong (nets : List Port) (before : ℕ → Option ℕ) (k j :
   pub new_value : IsNewValue net.bits (before place) value
   pub is : w ≡ change_line place net.bits value
 
--- behind changes of a cycle: the line of the next one, or a change of a net from a place on
+-- after changes of a cycle: the line of the next one, or a change of a net from index k on and before index j
 abbrev pub IsLineTo : List Port → (ℕ → Option ℕ) → ℕ → ℕ → ℕ → Bytes → Type 0
 IsLineTo nets before next k j w = (w ≡ cycle_line next) ⊎ IsChangeAmong nets before k j w
 
--- the change of a net at the front of a text
+-- the change of a net at the start of a text
 pub record IsChangeAt (nets : List Port) (before : ℕ → Option ℕ) (k place value : ℕ) (text rest : Bytes) : Type 0 where
   pub net : Port
   pub from : k ≤ place
@@ -51,9 +51,9 @@ pub record IsChangeAt (nets : List Port) (before : ℕ → Option ℕ) (k place 
   pub new_value : IsNewValue net.bits (before place) value
   pub is : text ≡ change_line place net.bits value ++ rest
 
-abbrev pub IsFound : List Port → (ℕ → Option ℕ) → ℕ → ℕ → Bytes → Found → Bytes → Type 0
-IsFound nets before next k text Cycle rest = text ≡ cycle_line next ++ rest
-IsFound nets before next k text (Change place value) rest = IsChangeAt nets before k place value text rest
+abbrev pub IsLineFound : List Port → (ℕ → Option ℕ) → ℕ → ℕ → Bytes → Found → Bytes → Type 0
+IsLineFound nets before next k text Cycle rest = text ≡ cycle_line next ++ rest
+IsLineFound nets before next k text (Change place value) rest = IsChangeAt nets before k place value text rest
 
 -- each net has from 1 to 128 bits
 abbrev pub HaveBits : List Port → Type 0

@@ -15,7 +15,7 @@ abbrev pub value_lines : (ℕ → ℕ) → ℕ → Bytes
 value_lines q zero = value_line 0 (q 0)
 value_lines q (suc n) = value_lines q n ++ (if not (q (suc n) == q n) then value_line (suc n) (q (suc n)) else [])
 
--- the line of a change, where it is one of the net at a place
+-- the line of a change, where it is one of the net at an index
 abbrev pub line_of : ℕ → Change → Bytes
 line_of k c = if c.net == k then value_line c.cycle c.value else []
 

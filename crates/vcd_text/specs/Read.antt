@@ -11,14 +11,14 @@ abbrev pub value_after : List Change → ℕ → ℕ → ℕ → ℕ
 value_after [] k n v = v
 value_after (c ∷ cs) k n v = value_after cs k n (if (c.net == k) && nat_le c.cycle n then c.value else v)
 
--- the value of the net at a place in a cycle
+-- the value of the net at an index in a cycle
 abbrev pub value_of : List Change → ℕ → ℕ → ℕ
 value_of changes k n = value_after changes k n 0
 
 abbrev pub port_of : Net → Port
 port_of n = record { name = n.name; bits = n.bits }
 
--- the changes of a cycle, from the net at a place on
+-- the changes of a cycle, from the net at an index on
 abbrev pub changes_from : Values → ℕ → ℕ → List Net → List Change
 changes_from v n k [] = []
 changes_from v n k (x ∷ xs) = (if is_change v n k then record { cycle = n; net = k; value = v n k } ∷ [] else []) ++ changes_from v n (suc k) xs
@@ -42,5 +42,6 @@ pub record IsReadAs (text : Bytes) (ports : List Port) (last : ℕ) (changes : L
 -- the changes that are read give each net its value in each cycle
 abbrev pub ReadsValues : Type 0
 ReadsValues =
-    (top : List ℕ) (nets : List Net) (v : Values) (last : ℕ) (text : Bytes) (ports : List Port) (end : ℕ) (changes : List Change) → IsDumpOf top nets v last text → IsReadAs text ports end changes
+    (top : List ℕ) (nets : List Net) (v : Values) (last : ℕ) (text : Bytes) (ports : List Port) (end : ℕ) (changes : List Change) → IsDumpOf top nets v last text
+    → IsReadAs text ports end changes
     → (n k : ℕ) → n ≤ last → k < length nets → value_of changes k n ≡ v n k

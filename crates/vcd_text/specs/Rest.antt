@@ -1,4 +1,4 @@
--- What is left of a dump behind a part of it, and where a text stops that is left of none.
+-- The rest of a dump after a part of it, and where a text stops being such a rest.
 use Rattle.std.specs.Prelude.{◌≡◌, ℕ, zero, suc, ◌+◌, ◌^◌, ◌<◌, ◌≤◌, if◌then◌else◌, List, [], ◌∷◌, ◌++◌, length, map, drop, codes, Option, Some, slice_get}
 use Rattle.tapa_base.specs.declared.shape.Port.{Port}
 use Rattle.tapa_base.specs.Gaps.{Bytes}
@@ -38,12 +38,12 @@ pub record Fails (L : Texts) (z : Bytes) (n : ℕ) : Type 0 where
 abbrev pub FailsBefore : Texts → Bytes → ℕ → Type 0
 FailsBefore L z left = (n : ℕ) × (n + left ≡ length z) × Fails L z n
 
--- what is left behind a part of a text is enough for the whole: an answer and where it fails
+-- a text after its first part decides for the whole: its answer, and where it fails
 pub record Serves (L : Texts) (z : Bytes) (M : Texts) (y : Bytes) : Type 0 where
   pub found : (a : Answer) → M a y → L a z
   pub fails : (left : ℕ) → FailsBefore M y left → FailsBefore L z left
 
--- ---- behind some nets
+-- ---- after some nets
 
 pub record LeftOfHead (nets : List Net) (a : Answer) (z : Bytes) : Type 0 where
   pub more : List Net
@@ -56,7 +56,7 @@ pub record LeftOfHead (nets : List Net) (a : Answer) (z : Bytes) : Type 0 where
   pub is_last : a.last ≡ last
   pub are_changes : a.changes ≡ changes_to (nets ++ more) values last
 
--- ---- behind some changes of a cycle
+-- ---- after some changes of a cycle
 
 -- the values of nets in one cycle, and those before it where there are some
 abbrev pub Row : Type 0
@@ -79,11 +79,11 @@ abbrev pub row_changes : Known → Row → ℕ → ℕ → List Net → List Cha
 row_changes p q n k [] = []
 row_changes p q n k (x ∷ xs) = (if is_new (p k) (q k) then change_of n k (q k) ∷ [] else []) ++ row_changes p q n (suc k) xs
 
--- the rows behind the first
+-- the rows after the first
 abbrev pub rest_of : Values → Values
 rest_of u m = u (suc m)
 
--- the text and the changes of so many cycles behind one
+-- the text and the changes of a number of cycles after cycle n
 abbrev pub later_text : List Net → ℕ → Values → ℕ → Bytes
 later_text nets n u zero = []
 later_text nets n u (suc d) = (cycle_line (n + 1) ++ lines_from (row_line (known (u 0)) (u 1)) 0 nets) ++ later_text nets (n + 1) (rest_of u) d
@@ -92,7 +92,7 @@ abbrev pub later_changes : List Net → ℕ → Values → ℕ → List Change
 later_changes nets n u zero = []
 later_changes nets n u (suc d) = row_changes (known (u 0)) (u 1) (n + 1) 0 nets ++ later_changes nets (n + 1) (rest_of u) d
 
--- behind the turns of the nets before a place in a cycle, where values are known and changes are done
+-- after the turns of the nets before index k in cycle n, where values are known and changes are done
 pub record Left (nets : List Net) (n k : ℕ) (p : Known) (done : List Change) (a : Answer) (z : Bytes) : Type 0 where
   pub rows : Values
   pub more : ℕ
@@ -108,7 +108,7 @@ pub record Left (nets : List Net) (n k : ℕ) (p : Known) (done : List Change) (
 abbrev pub answer_of : Dump → Answer
 answer_of d = record { ports = d.nets.items; last = d.last; changes = d.changes.items }
 
--- a text fails with so many bytes left, unless memory ran out
+-- a text fails with this number of bytes left, unless memory ran out
 abbrev pub IsStopOf : Texts → Bytes → Halt → Type 0
 IsStopOf L z (Stopped left) = FailsBefore L z left
 IsStopOf L z OutOfMemory = Unit {0}

@@ -1,4 +1,4 @@
--- Nets that are found by their names.
+-- Nets that are looked up by their names.
 use Rattle.std.specs.Prelude.{◌≡◌, ℕ, List, map, Vec}
 use Rattle.std.specs.declared.alloc.Global.{Global}
 use Rattle.tapa_base.specs.declared.shape.Port.{Port}

@@ -1,9 +1,9 @@
-//! Words that stand at the front of a text, and how far it goes along with them.
+//! Words at the start of a text, and how far the text agrees with them.
 
 ghost use Rattle.std.specs.Prelude.{◌≡◌, ◌++◌, ◌∷◌, [], IfOk, IfErr, MatchOption};
 ghost use Rattle.vcd_text.specs.Along.{common, StopsBefore};
 
-/// How many bytes of a word stand at the front of a text, up to the first that differs.
+/// The number of bytes that a word and a text have in common at their start.
 fn along(word: &[u8], text: &[u8]) -> usize
     ensures { result ≡ common word.now text.now }
 {
@@ -14,7 +14,7 @@ fn along(word: &[u8], text: &[u8]) -> usize
     at
 }
 
-/// What stands behind a word at the front of a text, or how many bytes are left where the text stops going along with it.
+/// What comes after a word at the start of a text, or the number of bytes left where the text departs from it.
 pub(crate) fn expect<'a>(word: &[u8], text: &'a [u8]) -> Result<&'a [u8], usize>
     ensures found { IfOk result (λ rest. text.now ≡ word.now ++ rest.now) }
     ensures stop { IfErr result (λ left. StopsBefore (λ w. w ≡ word.now) text.now left) }
@@ -27,7 +27,7 @@ pub(crate) fn expect<'a>(word: &[u8], text: &'a [u8]) -> Result<&'a [u8], usize>
     }
 }
 
-/// The first byte of a text, and what stands behind it.
+/// The first byte of a text, and what comes after it.
 pub(crate) fn next_byte(text: &[u8]) -> Option<(u8, &[u8])>
     ensures { MatchOption result (text.now ≡ []) (λ p. text.now ≡ p.0 ∷ p.1.now) }
 {

@@ -10,7 +10,7 @@ use crate::identifier::identifier_at;
 use crate::number::value_at;
 use itoa::Buffer;
 
-// What stands behind an identifier and the end of its line.
+// What comes after an identifier and the end of its line.
 fn line_end(number: u32, text: &[u8]) -> Result<&[u8], usize>
     ensures found { IfOk result (λ rest. text.now ≡ (identifier number ++ codes "\n") ++ rest.now) }
     ensures stop { IfErr result (λ left. StopsBefore (λ w. w ≡ identifier number ++ codes "\n") text.now left) }
@@ -19,8 +19,8 @@ fn line_end(number: u32, text: &[u8]) -> Result<&[u8], usize>
     expect(b"\n", rest)
 }
 
-/// The value in the line of a change of the net of a number and of so many bits, another than the one before, and what
-/// stands behind the line; or how many bytes are left where the text stops going along with such a line.
+/// The value in the line of a change of the net of a number and of `bits` bits, other than the one before, and what
+/// comes after the line; or the number of bytes left where the text departs from such a line.
 pub(crate) fn change_at(
     before: Option<u128>,
     number: u32,
@@ -37,7 +37,7 @@ pub(crate) fn change_at(
     Ok((value, behind))
 }
 
-// What stands behind the digits of a number.
+// What comes after the digits of a number.
 pub(crate) fn digits_at(number: u64, text: &[u8]) -> Result<&[u8], usize>
     ensures found { IfOk result (λ rest. text.now ≡ decimal number ++ rest.now) }
     ensures stop { IfErr result (λ left. StopsBefore (λ w. w ≡ decimal number) text.now left) }
@@ -46,7 +46,7 @@ pub(crate) fn digits_at(number: u64, text: &[u8]) -> Result<&[u8], usize>
     expect(buffer.format(number).as_bytes(), text)
 }
 
-// What stands behind the digits of a number and the end of their line.
+// What comes after the digits of a number and the end of their line.
 fn number_end(number: u64, text: &[u8]) -> Result<&[u8], usize>
     ensures found { IfOk result (λ rest. text.now ≡ (decimal number ++ codes "\n") ++ rest.now) }
     ensures stop { IfErr result (λ left. StopsBefore (λ w. w ≡ decimal number ++ codes "\n") text.now left) }
@@ -55,7 +55,7 @@ fn number_end(number: u64, text: &[u8]) -> Result<&[u8], usize>
     expect(b"\n", rest)
 }
 
-/// What stands behind the line of a cycle, or how many bytes are left where the text stops going along with it.
+/// What comes after the line of a cycle, or the number of bytes left where the text departs from it.
 pub(crate) fn cycle_at(cycle: u64, text: &[u8]) -> Result<&[u8], usize>
     ensures found { IfOk result (λ rest. text.now ≡ cycle_line cycle ++ rest.now) }
     ensures stop { IfErr result (λ left. StopsBefore (λ w. w ≡ cycle_line cycle) text.now left) }

@@ -1,4 +1,4 @@
-//! What is read behind the head of a dump: the values of the first cycle, and the changes of later ones.
+//! What is read after the head of a dump: the values of the first cycle, and the changes of later ones.
 
 ghost use Rattle.std.specs.Prelude.{◌≡◌, ◌+◌, ◌<◌, ◌≤◌, ◌^◌, ℕ, List, [], None, length, map, slice_get, IfOk, IfErr};
 ghost use Rattle.vcd_text.specs.Nets.{Net};
@@ -13,7 +13,7 @@ use crate::line::{Found, next_line};
 use std::alloc::Global;
 use tapa_base::Port;
 
-/// The values of the first cycle, their changes, and what stands behind them.
+/// The values of the first cycle, their changes, and what comes after them.
 type First<'a> = (Vec<u128>, Vec<Change>, &'a [u8]);
 
 /// Reads the values of the first cycle.
@@ -26,7 +26,8 @@ pub(crate) fn read_first<'a>(
     requires bits { HaveBits nets.now }
     ensures values { IfOk result (λ r. HaveValues nets.now r.0.items) }
     ensures short { IfOk result (λ r. length r.2.now ≤ length text.now) }
-    ensures found { IfOk result (λ r. (xs : List Net) → nets.now ≡ map port_of xs → Serves (Left xs 0 0 (λ _. None) []) text.now (Left xs 0 (length xs) (slice_get r.0.items) r.1.items) r.2.now) }
+    ensures found { IfOk result (λ r. (xs : List Net) → nets.now ≡ map port_of xs
+        → Serves (Left xs 0 0 (λ _. None) []) text.now (Left xs 0 (length xs) (slice_get r.0.items) r.1.items) r.2.now) }
     ensures stop { IfErr result (λ h. (xs : List Net) → nets.now ≡ map port_of xs → IsStopOf (Left xs 0 0 (λ _. None) []) text.now h) }
 {
     let mut values = Vec::new(alloc);
@@ -45,7 +46,7 @@ pub(crate) fn read_first<'a>(
     Ok((values, changes, rest))
 }
 
-/// Reads the lines behind the first cycle, up to the end of the text.
+/// Reads the lines after the first cycle, up to the end of the text.
 pub(crate) fn read_cycles(
     nets: Vec<Port>,
     first: Vec<u128>,

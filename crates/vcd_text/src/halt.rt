@@ -8,7 +8,7 @@ use std::alloc::{AllocError, AllocFailed};
 /// Why a part of a dump is not read.
 #[derive(Clone, Copy)]
 pub(crate) enum Halt {
-    /// So many bytes of the text are left where no dump goes on.
+    /// The number of bytes left of the text where no dump goes on.
     Stopped(usize),
     OutOfMemory,
 }

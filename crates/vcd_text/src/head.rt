@@ -39,7 +39,7 @@ fn type_at(text: &[u8]) -> Result<(bool, &[u8]), usize>
     }
 }
 
-// The digits of a width and the blank behind them.
+// The digits of a width and the blank after them.
 fn one_width(width: u32, text: &[u8]) -> Result<&[u8], usize>
     ensures found { IfOk result (λ rest. text.now ≡ (decimal width ++ 32 ∷ []) ++ rest.now) }
     ensures stop { IfErr result (λ left. StopsBefore (λ w. w ≡ decimal width ++ 32 ∷ []) text.now left) }
@@ -48,7 +48,7 @@ fn one_width(width: u32, text: &[u8]) -> Result<&[u8], usize>
     expect(b" ", rest)
 }
 
-// A width and the blank behind it.
+// A width and the blank after it.
 fn width_at(text: &[u8]) -> Result<(u32, &[u8]), usize>
     ensures found { IfOk result (λ r. (1 ≤ r.0) × (r.0 ≤ 128) × (text.now ≡ (decimal r.0 ++ 32 ∷ []) ++ r.1.now)) }
     ensures stop { IfErr result (λ left. StopsBefore (IsWidthBelow 129) text.now left) }
@@ -114,7 +114,7 @@ fn may_name(nets: &NetTable, name: &[u8]) -> bool
     is_name(name) && nets.is_free(name)
 }
 
-// A name that no net has yet, and what stands behind the blank behind it.
+// A name that no net has yet, and what comes after the blank that follows it.
 fn name_at<'a>(nets: &NetTable, text: &'a [u8]) -> Result<(&'a [u8], &'a [u8]), usize>
     ensures found { IfOk result (λ r. MayName nets.now r.0.now × (text.now ≡ (r.0.now ++ 32 ∷ []) ++ r.1.now)) }
     ensures stop { IfErr result (λ left. StopsBefore (IsNameWord nets.now) text.now left) }
@@ -133,7 +133,7 @@ fn name_at<'a>(nets: &NetTable, text: &'a [u8]) -> Result<(&'a [u8], &'a [u8]), 
 /// The line that ends the head, with that of the first cycle.
 const HEAD_END: &[u8] = b"$upscope $end\n$enddefinitions $end\n#0\n";
 
-// What stands behind an identifier and the blank behind it.
+// What comes after an identifier and a blank.
 fn spaced_identifier(number: u32, text: &[u8]) -> Result<&[u8], usize>
     ensures found { IfOk result (λ rest. text.now ≡ (identifier number ++ 32 ∷ []) ++ rest.now) }
     ensures stop { IfErr result (λ left. StopsBefore (λ w. w ≡ identifier number ++ 32 ∷ []) text.now left) }
@@ -142,7 +142,7 @@ fn spaced_identifier(number: u32, text: &[u8]) -> Result<&[u8], usize>
     expect(b" ", rest)
 }
 
-/// From a name on to the end of its line: the name, and what stands behind the line.
+/// From a name on to the end of its line: the name, and what comes after the line.
 pub(crate) fn from_name<'a>(nets: &NetTable, text: &'a [u8]) -> Result<(&'a [u8], &'a [u8]), usize>
     ensures found { IfOk result (λ r. MayName nets.now r.0.now × (text.now ≡ (r.0.now ++ codes " $end\n") ++ r.1.now)) }
     ensures stop { IfErr result (λ left. StopsBefore (IsFromName nets.now) text.now left) }
@@ -210,8 +210,8 @@ fn var_at<'a>(
     Ok((net, behind))
 }
 
-/// The net that the line at the front of a text declares, or none at the end of the head, and what stands behind it; or how
-/// many bytes are left where the text stops going along with such a line.
+/// The net that the line at the start of a text declares, or none at the end of the head, and what comes after it; or the
+/// number of bytes left where the text departs from such a line.
 pub(crate) fn head_line<'a>(
     nets: &NetTable,
     text: &'a [u8],

@@ -6,8 +6,8 @@ ghost use Rattle.vcd_text.specs.Dump.{identifier};
 
 use crate::along::next_byte;
 
-/// What stands behind the identifier of the net of a number, or how many bytes are left where the text stops going along
-/// with it.
+/// What comes after the identifier of the net of a number, or the number of bytes left where the text departs
+/// from it.
 pub(crate) fn identifier_at(number: u32, text: &[u8]) -> Result<&[u8], usize>
     ensures found { IfOk result (λ rest. text.now ≡ identifier number ++ rest.now) }
     ensures stop { IfErr result (λ left. StopsBefore (λ w. w ≡ identifier number) text.now left) }

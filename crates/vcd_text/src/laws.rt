@@ -1,14 +1,14 @@
 //! Laws on dumps.
 
-ghost use Rattle.vcd_text.specs.Dump.{IsDumpOrNone, IsNoneOnce, IsOneDump};
+ghost use Rattle.vcd_text.specs.Dump.{IsNeverBoth, IsNoneOnce, IsOneDump};
 ghost use Rattle.vcd_text.specs.Read.{ReadsValues};
 
-/// A text is a dump, or it is told at a place that it is none, and never both.
-pub fn law_dump_or_none()
-    ensures { IsDumpOrNone }
+/// No text is a dump and also refused at a place as none.
+pub fn law_never_both()
+    ensures { IsNeverBoth }
 {}
 
-/// A text that is no dump is told so at one place.
+/// A text is refused at one place at most.
 pub fn law_none_once()
     ensures { IsNoneOnce }
 {}

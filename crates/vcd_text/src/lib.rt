@@ -19,7 +19,7 @@ mod table;
 mod value;
 
 pub use dump::{Change, Dump, VcdFault};
-pub use laws::{law_dump_or_none, law_none_once, law_one_dump, law_reads_values};
+pub use laws::{law_never_both, law_none_once, law_one_dump, law_reads_values};
 pub use net_lines::net_text;
 pub use net_place::place_of;
 pub use push::{push_change, push_cycle, push_var};

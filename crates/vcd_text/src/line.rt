@@ -1,8 +1,8 @@
-//! The line with which a dump goes on behind its first cycle.
+//! The line with which a dump goes on after its first cycle.
 
 ghost use Rattle.std.specs.Prelude.{◌≡◌, ◌+◌, ◌<◌, ◌^◌, ℕ, length, slice_get, IfOk, IfErr, IfSome};
 ghost use Rattle.vcd_text.specs.Along.{StopsBefore};
-ghost use Rattle.vcd_text.specs.Lines.{IsFound, IsLineTo, IsChangeAt, IsChangeAmong, HaveBits};
+ghost use Rattle.vcd_text.specs.Lines.{IsLineFound, IsLineTo, IsChangeAt, IsChangeAmong, HaveBits};
 
 use crate::change::{change_at, cycle_at};
 use tapa_base::Port;
@@ -14,13 +14,13 @@ pub(crate) enum Found {
     Change { net: usize, value: u128 },
 }
 
-// Bytes of a line in front of an identifier at most: `b`, the digits and a blank.
+// At most this many bytes of a line come before an identifier: `b`, the digits and a blank.
 const LONGEST_VALUE: usize = 130;
 
 // Digits of an identifier at most.
 const LONGEST_IDENTIFIER: usize = 5;
 
-// The number that an identifier at this place of a line would have.
+// The number that an identifier at this position of a line would have.
 fn number_in(line: &[u8], start: usize) -> usize {
     let mut number = 0usize;
     let mut scale = 1usize;
@@ -60,7 +60,7 @@ fn known_value(values: &[u128], net: usize) -> Option<u128>
     }
 }
 
-// The change of one net at the front of a text.
+// The change of one net at the start of a text.
 fn change_of<'a>(
     nets: &[Port],
     values: &[u128],
@@ -87,7 +87,7 @@ fn likely_change<'a>(
 ) -> Option<(Found, &'a [u8])>
     requires few { length nets.now < 2 ^ 32 }
     requires bits { HaveBits nets.now }
-    ensures { IfSome result (λ r. (next : ℕ) → IsFound nets.now (slice_get values.now) next from text.now r.0 r.1.now) }
+    ensures { IfSome result (λ r. (next : ℕ) → IsLineFound nets.now (slice_get values.now) next from text.now r.0 r.1.now) }
 {
     let net = likely_net(text);
     if net < from || net >= nets.len() {
@@ -99,8 +99,8 @@ fn likely_change<'a>(
     }
 }
 
-/// The line at the front of a text and what stands behind it, where values of all nets are known and the nets before a
-/// place have had their turn in this cycle; or how many bytes are left where the text stops going along with such a line.
+/// The line at the start of a text and what comes after it, where values of all nets are known and the nets before an index
+/// have had their turn in this cycle; or the number of bytes left where the text departs from such a line.
 pub(crate) fn next_line<'a>(
     nets: &[Port],
     values: &[u128],
@@ -110,7 +110,7 @@ pub(crate) fn next_line<'a>(
 ) -> Result<(Found, &'a [u8]), usize>
     requires few { length nets.now < 2 ^ 32 }
     requires bits { HaveBits nets.now }
-    ensures found { IfOk result (λ r. IsFound nets.now (slice_get values.now) next from text.now r.0 r.1.now) }
+    ensures found { IfOk result (λ r. IsLineFound nets.now (slice_get values.now) next from text.now r.0 r.1.now) }
     ensures stop { IfErr result (λ left. StopsBefore (IsLineTo nets.now (slice_get values.now) next from (length nets.now)) text.now left) }
 {
     let mut least = match cycle_at(next, text) {

@@ -34,7 +34,7 @@ fn push_line(text: &mut Vec<u8>, cycle: u64, value: u128) -> Result<(), AllocErr
     Ok(())
 }
 
-// The line of a change, where it is one of the net at a place.
+// The line of a change, where it is one of the net at an index.
 fn push_if(text: &mut Vec<u8>, change: &Change, net: usize) -> Result<(), AllocError>
     ensures { OnOk result (text.new.items ≡ text.old.items ++ line_of net change.now) }
 {
@@ -44,7 +44,7 @@ fn push_if(text: &mut Vec<u8>, change: &Change, net: usize) -> Result<(), AllocE
     Ok(())
 }
 
-/// The values of the net at a place, by the changes of a dump: a line `CYCLE VALUE` for cycle 0, and one for each cycle in
+/// The values of the net at an index, by the changes of a dump: a line `CYCLE VALUE` for cycle 0, and one for each cycle in
 /// which its value is another than in the cycle before, both in decimal.
 pub fn net_text(alloc: Global, changes: &[Change], net: usize) -> Result<Vec<u8>, AllocError>
     ensures lines { IfOk result (λ text. text.items ≡ lines_of net changes.now) }

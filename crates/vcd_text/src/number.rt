@@ -9,7 +9,7 @@ ghost use Rattle.vcd_text.specs.Digits.{IsDigits, AreDigits, AreNewDigits, IsOpe
 
 use crate::along::next_byte;
 
-/// What a byte behind binary digits is: the blank at the end, one more digit with the number that it gives, or neither.
+/// What a byte after binary digits is: the blank at the end, one more digit with the number that it gives, or neither.
 #[derive(Clone, Copy)]
 enum Step {
     End,
@@ -45,7 +45,7 @@ fn judge(before: Option<u128>, number: u128, room: u32, byte: u8) -> Step
     }
 }
 
-// The digits behind those of a number, of which there are at most so many, and the blank behind them.
+// The rest of the digits of a number, at most `room` of them, and the blank after them.
 fn more_digits(
     before: Option<u128>,
     number: u128,
@@ -75,7 +75,7 @@ fn is_zero(before: Option<u128>, byte: u8) -> bool
     byte == b'0' && is_new(before, 0)
 }
 
-// The blank behind the digit 0.
+// The blank after the digit 0.
 fn behind_zero(text: &[u8]) -> Result<(u128, &[u8]), usize>
     ensures found { IfOk result (λ r. (r.0 ≡ 0) × (text.now ≡ 32 ∷ r.1.now)) }
     ensures stop { IfErr result (λ left. StopsBefore (λ w. w ≡ 32 ∷ []) text.now left) }
@@ -86,7 +86,7 @@ fn behind_zero(text: &[u8]) -> Result<(u128, &[u8]), usize>
     }
 }
 
-// The binary digits of a value of at least two bits, and the blank behind them.
+// The binary digits of a value of at least two bits, and the blank after them.
 fn digits(before: Option<u128>, bits: u32, text: &[u8]) -> Result<(u128, &[u8]), usize>
     requires low { 2 ≤ bits }
     requires high { bits ≤ 128 }
@@ -124,7 +124,7 @@ fn one_digit(before: Option<u128>, text: &[u8]) -> Result<(u128, &[u8]), usize>
     }
 }
 
-// A value of at least two bits with the letter in front.
+// A value of at least two bits, with the letter before it.
 fn word(before: Option<u128>, bits: u32, text: &[u8]) -> Result<(u128, &[u8]), usize>
     requires low { 2 ≤ bits }
     requires high { bits ≤ 128 }
@@ -140,8 +140,8 @@ fn word(before: Option<u128>, bits: u32, text: &[u8]) -> Result<(u128, &[u8]), u
     digits(before, bits, rest)
 }
 
-/// A value of so many bits, another than the one before, at the front of a text, and what stands behind it; or how many
-/// bytes are left where the text stops going along with one.
+/// A value of `bits` bits, other than the one before, at the start of a text, and what comes after it; or the number of bytes
+/// left where the text departs from one.
 pub(crate) fn value_at(before: Option<u128>, bits: u32, text: &[u8]) -> Result<(u128, &[u8]), usize>
     requires low { 1 ≤ bits }
     requires high { bits ≤ 128 }

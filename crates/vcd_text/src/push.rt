@@ -1,4 +1,4 @@
-//! Lines of a dump behind a text.
+//! Lines of a dump, appended to a text.
 
 ghost use Rattle.std.specs.Prelude.{◌≡◌, ◌<◌, ◌≤◌, ◌^◌, ◌++◌, ◌∷◌, [], codes, decimal, OnOk};
 ghost use Rattle.vcd_text.specs.Dump.{identifier, binary, value_text, change_line, cycle_line, net_type, var_line};
@@ -29,7 +29,7 @@ fn push_binary(text: &mut Vec<u8>, number: u128) -> Result<(), AllocError>
     Ok(())
 }
 
-/// The value of a net of so many bits, where it fits them.
+/// The value of a net of `bits` bits, where it fits them.
 fn push_value(text: &mut Vec<u8>, bits: u32, value: u128) -> Result<(), AllocError>
     ensures { OnOk result (value < 2 ^ bits → text.new.items ≡ text.old.items ++ value_text bits value) }
 {
@@ -43,7 +43,7 @@ fn push_value(text: &mut Vec<u8>, bits: u32, value: u128) -> Result<(), AllocErr
     Ok(())
 }
 
-/// Puts the line of a net's change behind a text, for the net of a number and of so many bits, where the value fits them.
+/// Appends the line of a net's change to a text, for the net of a number and of `bits` bits, where the value fits them.
 /// Want of memory leaves a part of the line there.
 pub fn push_change(
     text: &mut Vec<u8>,
@@ -66,7 +66,7 @@ fn push_decimal(text: &mut Vec<u8>, number: u64) -> Result<(), AllocError>
     text.extend_from_slice(buffer.format(number).as_bytes())
 }
 
-/// Puts the line of a cycle behind a text. Want of memory leaves a part of it there.
+/// Appends the line of a cycle to a text. Want of memory leaves a part of it there.
 pub fn push_cycle(text: &mut Vec<u8>, cycle: u64) -> Result<(), AllocError>
     ensures { OnOk result (text.new.items ≡ text.old.items ++ cycle_line cycle) }
 {
@@ -86,7 +86,7 @@ fn push_type(text: &mut Vec<u8>, is_reg: bool) -> Result<(), AllocError>
     }
 }
 
-/// Puts the line that declares the net of a number behind a text. Want of memory leaves a part of it there.
+/// Appends the line that declares the net of a number to a text. Want of memory leaves a part of it there.
 pub fn push_var(
     text: &mut Vec<u8>,
     number: u64,

@@ -22,7 +22,7 @@ use crate::table::NetTable;
 use std::alloc::Global;
 use tapa_base::{Place, Port};
 
-// What stands behind the lines of the time scale and of the top's name.
+// What comes after the lines of the time scale and of the top's name.
 fn top_at(alloc: Global, text: &[u8]) -> Result<&[u8], usize>
     ensures found { IfOk result (λ rest. (x : List ℕ) × IsName x × (text.now ≡ top_line x ++ rest.now)) }
     ensures stop { IfErr result (λ left. StopsBefore IsTopLine text.now left) }
@@ -33,7 +33,7 @@ fn top_at(alloc: Global, text: &[u8]) -> Result<&[u8], usize>
     Ok(rest)
 }
 
-// The nets of the head, and what stands behind the line of the first cycle.
+// The nets of the head, and what comes after the line of the first cycle.
 fn read_nets(alloc: Global, text: &[u8]) -> Result<(Vec<Port>, &[u8]), Halt>
     requires { length text.now < 2 ^ 32 }
     ensures few { IfOk result (λ r. length r.0.items < 2 ^ 32) }
@@ -72,14 +72,14 @@ fn line_ends(text: &[u8]) -> usize
     text.iter().filter(|byte| **byte == b'\n').count()
 }
 
-// How many bytes stand behind the last of them.
+// The number of bytes after the last end of line.
 fn bytes_behind(text: &[u8]) -> usize
     ensures { result ≡ length (take_while (λ b. not (b == 10)) (reverse text.now)) }
 {
     text.iter().rev().take_while(|byte| **byte != b'\n').count()
 }
 
-// The place behind the last byte.
+// The place after the last byte.
 fn end_place(text: &[u8]) -> Place
     requires { length text.now < 2 ^ 32 - 1 }
     ensures { result ≡ place_of text.now }
@@ -109,7 +109,7 @@ fn fault_of(text: &[u8], halt: Halt) -> VcdFault
 }
 
 /// Reads a value change dump (IEEE 1364-2005, clause 18) in the spelling of this crate: nets, the last cycle and the
-/// changes. A text that is no such dump is `X1` at the first byte with which no dump goes on, or behind its last byte where
+/// changes. A text that is no such dump is `X1` at the first byte with which no dump goes on, or after its last byte where
 /// more would have to come.
 pub fn read_vcd(alloc: Global, text: &[u8]) -> Result<Dump, VcdFault>
     requires { length text.now < 2 ^ 32 - 1 }

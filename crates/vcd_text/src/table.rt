@@ -10,7 +10,7 @@ use std::alloc::{AllocError, Global};
 use std::marker::Model;
 use tapa_base::{Port, Text};
 
-/// Nets in order, each of which is found by its name.
+/// Nets in order, each of which can be looked up by its name.
 #[derive(Drop)]
 pub(crate) struct NetTable {
     nets: Vec<Port>,

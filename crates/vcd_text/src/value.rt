@@ -6,7 +6,7 @@ ghost use Rattle.vcd_text.specs.Read.{value_of};
 use crate::dump::Dump;
 
 impl Dump {
-    /// The value of the net at a place in a cycle.
+    /// The value of the net at an index in a cycle.
     pub fn value_at(&self, net: u32, cycle: u64) -> u128
         requires net { net < length self.now.nets.items }
         requires cycle { cycle ≤ self.now.last }

@@ -2,7 +2,7 @@
 use Rattle.std.specs.Prelude.{◌≡◌, ◌-◌, ℕ, List, [], ◌∷◌, ◌++◌, length, take}
 use Rattle.tapa_base.specs.Lists.{Has}
 
--- no end of line (LF) stands before the last byte
+-- no byte before the last one is an end of line (LF)
 abbrev pub IsLine : List ℕ → Type 0
 IsLine line = Has (take (length line - 1) line) 10 → ⊥
 

@@ -5,7 +5,7 @@ use Rattle.std.proofs.lemmas.Bool.{cases_eq}
 use Rattle.tapa_base.specs.Lists.{Has}
 use Rattle.vlog_tree.specs.Form.{ModuleTree}
 use Rattle.vlog_tree.specs.Table.{Name}
-use Rattle.vlog_tree.specs.Loops.{Edges, Reaches, Rests, port_of, instances, TextPlace, place_name, IsFirst, LiesOnLoop}
+use Rattle.vlog_tree.specs.Loops.{Edges, Reaches, Rests, port_of, instances, TextPlace, place_name, IsFirstIn, LiesOnLoop}
 use Rattle.vlog_comb_loops.specs.declared.suspects.Suspect.{Suspect}
 use Rattle.vlog_comb_loops.specs.declared.suspects.Loops.{Loops}
 use Rattle.vlog_comb_loops.specs.Search.{IsSearched, LoopsIn, IsSuspect, IsEvidence, IsJudged, AreJudged}
@@ -18,7 +18,7 @@ module _ (P : TextPlace → Type 0) where
   pub hits : (s : TextPlace) (xs : List TextPlace) → P s → IsSearched P (s ∷ xs) (Some (place_name s))
   hits s xs p = (s, record { before = []; after = xs; split = refl; none_before = λ y h. absurd h; this = p }, refl)
 
-  not_first : (s : TextPlace) (xs : List TextPlace) → (P s → ⊥) → (t : TextPlace) → IsFirst P xs t → IsFirst P (s ∷ xs) t
+  not_first : (s : TextPlace) (xs : List TextPlace) → (P s → ⊥) → (t : TextPlace) → IsFirstIn P xs t → IsFirstIn P (s ∷ xs) t
   not_first s xs miss t f = record {
     before = s ∷ f.before;
     after = f.after;
@@ -37,7 +37,7 @@ module _ (P : TextPlace → Type 0) where
 
   pub stays_first : (xs ys : List TextPlace) (n : Name) → IsSearched P xs (Some n) → IsSearched P (xs ++ ys) (Some n)
   stays_first xs ys n r =
-      let f : IsFirst P xs r.0 = r.1 in (
+      let f : IsFirstIn P xs r.0 = r.1 in (
         r.0,
         record {
           before = f.before;

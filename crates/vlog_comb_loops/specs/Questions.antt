@@ -12,7 +12,7 @@ use Rattle.vlog_net_graph.specs.Names.{texts}
 use Rattle.vlog_comb_loops.specs.declared.suspects.Suspect.{Suspect}
 use Rattle.vlog_comb_loops.specs.declared.questions.Questions.{Questions}
 
--- the place of a suspect, and the line of an instance in it, or none for the suspect's own names
+-- the index of a suspect, and the line of an instance in it, or none for the suspect's own names
 abbrev pub Question : Type 0
 Question = ℕ × Option ℕ
 
@@ -48,7 +48,8 @@ AsksPort q k lines x = (e : Question) (j : ℕ) (item : Item) (m i : Name) → H
 -- the names of a module's graph are asked for: its own, and those of ports of its instances
 pub record Asks (q : Questions) (at : ℕ) (k : ModuleTree) (names : List Name) : Type 0 where
   pub own : (x : Name) → Has names x → Has (asked_of q (port_of k.name x)) (at, None)
-  pub wires : (j : ℕ) (item : Item) (m i x : Name) → slice_get k.items j ≡ Some item → Has (item_instances item) (m, i) → Has names (port_of i x) → Has (asked_of q (port_of m x)) (at, Some j)
+  pub wires : (j : ℕ) (item : Item) (m i x : Name) → slice_get k.items j ≡ Some item → Has (item_instances item) (m, i) → Has names (port_of i x)
+      → Has (asked_of q (port_of m x)) (at, Some j)
 
 -- each suspect asks for the names of its module
 abbrev pub AsksAll : List ModuleTree → List Suspect → Questions → Type 0

@@ -3,7 +3,7 @@ use Rattle.std.specs.Prelude.{◌≡◌, ◌<◌, ◌⊎◌, ◌↔◌, ℕ, Lis
 use Rattle.tapa_base.specs.Lists.{Has}
 use Rattle.vlog_tree.specs.Form.{ModuleTree}
 use Rattle.vlog_tree.specs.Table.{Name}
-use Rattle.vlog_tree.specs.Loops.{Edges, Reaches, Rests, port_of, item_instances, instances, containment, TextPlace, place_name, IsFirst}
+use Rattle.vlog_tree.specs.Loops.{Edges, Reaches, Rests, port_of, item_instances, instances, containment, TextPlace, place_name, IsFirstIn}
 use Rattle.vlog_net_graph.specs.Names.{IsGraphOf, IsGraphListed}
 use Rattle.vlog_comb_loops.specs.Summaries.{module_edges}
 use Rattle.vlog_tree.specs.declared.tree.Item.{Item}
@@ -11,10 +11,10 @@ use Rattle.vlog_comb_loops.specs.Questions.{Question, AsksAll}
 use Rattle.vlog_comb_loops.specs.declared.suspects.Suspect.{Suspect}
 use Rattle.vlog_comb_loops.specs.declared.suspects.Loops.{Loops}
 
--- the name of the first place with a property, and none where no place has it
+-- the name of the first position with a property, and none where no position has it
 abbrev pub IsSearched : (TextPlace → Type 0) → List TextPlace → Option Name → Type 0
 IsSearched P places None = (s : TextPlace) → Has places s → P s → ⊥
-IsSearched P places (Some x) = (s : TextPlace) × IsFirst P places s × (place_name s ≡ x)
+IsSearched P places (Some x) = (s : TextPlace) × IsFirstIn P places s × (place_name s ≡ x)
 
 -- a module has a net of a module on a loop: its own, or a port of an instance
 abbrev pub LoopsIn : Edges → ModuleTree → Name → Name → Type 0
@@ -26,7 +26,7 @@ LoopsAt edges k None m x = (k.name ≡ m) × Reaches edges x x
 LoopsAt edges k (Some j) m x =
     (item : Item) × (slice_get k.items j ≡ Some item) × ((i : Name) × Has (item_instances item) (m, i) × Reaches edges (port_of i x) (port_of i x))
 
--- the graph of the module at a place, by edges that reach what rests
+-- the graph of the module at an index, by whose edges each net reaches all that it depends on
 pub record IsSuspect (ms : List ModuleTree) (is_top : Name → Bool) (s : Suspect) : Type 0 where
   pub tree : ModuleTree
   pub at : slice_get ms s.place ≡ Some tree
@@ -45,7 +45,7 @@ pub record IsJudged (edges : Edges) (place : ℕ) (old new : List Suspect) : Typ
   pub kept : (s : Suspect) → Has old s → Has new s
   pub judged : ((x : Name) → Reaches edges x x → ⊥) ⊎ ((s : Suspect) × Has new s × (s.place ≡ place))
 
--- the modules before a place were judged by their edges with these sums
+-- the modules before an index were judged by their edges with these sums
 pub record AreJudged (ms : List ModuleTree) (is_top : Name → Bool) (sums : List Edges) (place : ℕ) (suspects : List Suspect) : Type 0 where
   pub right : (s : Suspect) → Has suspects s → (m : ModuleTree) × (slice_get ms s.place ≡ Some m) × IsGraphOf (module_edges ms is_top sums m) s.graph × IsGraphListed s.graph
   pub others : (j : ℕ) (m : ModuleTree) → j < place → slice_get ms j ≡ Some m

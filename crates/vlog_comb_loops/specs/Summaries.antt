@@ -1,4 +1,4 @@
--- What the check of loops keeps of each module: which of its outputs rest on which of its inputs.
+-- What the check of loops keeps of each module: which of its outputs depend on which of its inputs.
 use Rattle.std.specs.Prelude.{◌≡◌, ◌↔◌, ℕ, List, [], ◌∷◌, ◌++◌, Bool, Some, bytes_eq, if◌then◌else◌, map, length, slice_get, get_or}
 use Rattle.std.specs.List.{flat_map}
 use Rattle.vlog_tree.specs.declared.table.Declaration.{Declaration}
@@ -45,12 +45,12 @@ IsUsed ms x = (p : ModuleTree) × (i : Name) × Has ms p × Has (instances p) (x
 abbrev pub IsClosedSum : List ModuleTree → (Name → Bool) → List Edges → ModuleTree → Edges → Type 0
 IsClosedSum ms is_top sums m sum = IsUsed ms m.name → (x y : Name) → IsPair (module_edges ms is_top sums m) (map port_declared m.ports) x y → Has sum (x, y)
 
--- the sums stand in the order of the modules
+-- the sums are in the order of the modules
 pub record AreSums (P : ModuleTree → Edges → Type 0) (ms : List ModuleTree) (sums : List Edges) : Type 0 where
   pub len : length sums ≡ length ms
   pub each : (at : ℕ) (m : ModuleTree) → slice_get ms at ≡ Some m → P m (get_or sums at [])
 
--- the sums say all that outputs rest on, and nothing more
+-- the sums say all that outputs depend on, and nothing more
 pub record AreRight (ms : List ModuleTree) (is_top : Name → Bool) (sums : List Edges) : Type 0 where
   pub sound : AreSums (IsSoundSum ms is_top) ms sums
   pub closed : AreSums (IsClosedSum ms is_top sums) ms sums

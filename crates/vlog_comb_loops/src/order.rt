@@ -5,7 +5,7 @@ use std::alloc::{AllocError, Global};
 use vlog_net_graph::NamedGraph;
 use vlog_tree::Module;
 
-// The place of each node in an order, and 0 for all where there is a cycle.
+// The index of each node in an order, and 0 for all where there is a cycle.
 fn ranks_of(alloc: Global, contains: &NamedGraph) -> Result<Vec<usize>, AllocError> {
     let mut ranks = vec![in alloc; 0; contains.graph.graph().len()]?;
     if let Order::PartsFirst(order) = order_nodes(alloc, contains.graph.graph())? {
@@ -18,7 +18,7 @@ fn ranks_of(alloc: Global, contains: &NamedGraph) -> Result<Vec<usize>, AllocErr
     Ok(ranks)
 }
 
-/// The places of modules behind their ranks, lower ranks first.
+/// The rank and the index of each module, lower ranks first.
 pub(crate) fn order_of(
     alloc: Global,
     contains: &NamedGraph,

@@ -24,7 +24,7 @@ fn is_among(pairs: &[(Text, Text)], pair: &(Text, Text)) -> bool
     false
 }
 
-// Whether pairs have a pair, which is looked for at a place first.
+// Whether pairs have a pair, which is looked for at an index first.
 fn has_pair(pairs: &[(Text, Text)], at: usize, pair: &(Text, Text)) -> bool
     ensures { (result ≡ true) ↔ Has pairs.now pair.now }
 {
@@ -36,7 +36,7 @@ fn has_pair(pairs: &[(Text, Text)], at: usize, pair: &(Text, Text)) -> bool
     is_among(pairs, pair)
 }
 
-// Puts those of other pairs that are missing behind the pairs that are there, and says whether any was missing.
+// Appends those of other pairs that are missing, and says whether any was missing.
 pub(crate) fn merge(
     pairs: &mut Vec<(Text, Text)>,
     mut others: Vec<(Text, Text)>,

@@ -1,4 +1,4 @@
-// Which questions tell whether a name lies on a loop.
+// Which questions decide whether a name lies on a loop.
 
 ghost use Rattle.std.specs.Prelude.{◌≡◌, ◌≢◌, ◌<◌, ◌↔◌, ◌+◌, ◌++◌, ◌∷◌, [], ℕ, List, true, Some, None, take, drop, length, slice_get, IfOk, OnOk};
 ghost use Rattle.tapa_base.specs.Lists.{Has};
@@ -16,7 +16,7 @@ use vlog_net_graph::{NamedGraph, dotted, insert_number};
 use vlog_scope::Library;
 use vlog_tree::{Item, Module};
 
-/// For each name a list of questions. A question is a place, and the line of an instance there, or no line.
+/// For each name a list of questions. A question is an index, and the line of an instance there, or no line.
 #[derive(Drop)]
 pub struct Questions {
     pub numbers: HashMap<Vec<u8>, usize>,
@@ -109,7 +109,7 @@ impl Questions {
     }
 }
 
-// A line's place under the name of the module that it has an instance of.
+// Notes a line under the name of the module that it has an instance of.
 fn ask_line(
     alloc: Global,
     questions: &mut Questions,
@@ -145,7 +145,7 @@ fn ask_lines(
     Ok(())
 }
 
-/// For each module's name the lines that have an instance of it, with the places of their modules.
+/// For each module's name the lines that have an instance of it, with the indices of their modules.
 pub(crate) fn uses_of(alloc: Global, modules: &[Module]) -> Result<Questions, AllocError>
     ensures { IfOk result (λ q. AreUses modules.now q) }
 {
@@ -157,7 +157,7 @@ pub(crate) fn uses_of(alloc: Global, modules: &[Module]) -> Result<Questions, Al
     Ok(uses)
 }
 
-// A line's place under the name of its instance.
+// Notes a line under the name of its instance.
 fn name_line(
     alloc: Global,
     named: &mut Questions,
@@ -275,7 +275,7 @@ fn right_of_dot(name: &[u8], dot: usize) -> &[u8]
     &name[dot + 1..]
 }
 
-// Each instance asks of the port whose wire has this name, where the dot between the two stands at a place.
+// Each instance asks of the port whose wire has this name, where the dot between the two is at an index.
 fn ask_at(
     alloc: Global,
     questions: &mut Questions,
@@ -383,7 +383,7 @@ fn ask_suspect(
 }
 
 /// The questions that the suspects give rise to, each under the name of a module and that of a net with a dot between them.
-/// A question is the place of a suspect, and the line of an instance of the module in it, or no line where the suspect is the
+/// A question is the index of a suspect, and the line of an instance of the module in it, or no line where the suspect is the
 /// module. Only nets are asked of that have a wire in the suspect's graph, so there are no more questions than such wires.
 pub(crate) fn questions_of(
     alloc: Global,

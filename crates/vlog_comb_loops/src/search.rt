@@ -37,7 +37,7 @@ fn judge(
     Ok(())
 }
 
-// The graphs of the modules that may have loops, put to others that are there, where no sum is found to be too small.
+// Adds the graphs of the modules that may have loops to the suspects; false where a sum was too small.
 fn judge_all(
     alloc: Global,
     library: &Library,
@@ -194,7 +194,7 @@ fn first_of_module<'a>(
     Ok(net)
 }
 
-/// The first name in the text that lies on a loop: a module that contains itself, or a net that rests on itself within
+/// The first name in the text that lies on a loop: a module that contains itself, or a net that depends on itself within
 /// a cycle. `root` is the name of the first module that no other contains.
 pub fn first_on_loop<'a>(
     alloc: Global,

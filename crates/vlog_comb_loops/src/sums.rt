@@ -1,4 +1,4 @@
-// Of each module which of its outputs rest on which of its inputs.
+// Of each module which of its outputs depend on which of its inputs.
 
 ghost use Rattle.std.specs.Prelude.{◌≡◌, ◌<◌, ◌≤◌, ◌↔◌, ◌⊎◌, ◌++◌, [], ℕ, true, false, length, slice_get, get_or, Some, None, IfOk, OnOk};
 ghost use Rattle.std.specs.List.{flat_map};
@@ -57,7 +57,7 @@ impl Sum {
     }
 }
 
-/// The pairs at a place, and none past the end.
+/// The pairs at an index, and none past the end.
 pub(crate) fn pairs_at(sums: &[Sum], place: usize) -> &[(Text, Text)]
     ensures { result.now ≡ get_or sums.now place [] }
 {
@@ -90,7 +90,7 @@ fn no_places(alloc: Global, count: usize) -> Result<Vec<Option<usize>>, AllocErr
     Ok(places)
 }
 
-// Notes the place of an input at the node that stands for it.
+// Notes the index of an input at the node that denotes it.
 fn set_place(
     places: &mut Vec<Option<usize>>,
     graph: &NamedGraph,
@@ -109,7 +109,7 @@ fn set_place(
     }
 }
 
-// Of each node the place of the input that it stands for.
+// For each node, the index of the input that it denotes.
 fn input_places(
     alloc: Global,
     graph: &NamedGraph,
@@ -136,7 +136,7 @@ fn place_at(places: &[Option<usize>], node: usize) -> Option<usize>
     }
 }
 
-// Puts a pair where there is an input at the place.
+// Puts a pair where there is an input at the index.
 fn add_input(
     alloc: Global,
     pairs: &mut Vec<(Text, Text)>,
@@ -321,7 +321,8 @@ pub(crate) fn renew(
     ensures more { OnOk result (room library.now sums.new.items ≤ room library.now sums.old.items) }
     ensures closed { IfOk result (λ r. r.steady ≡ true → (m : ModuleTree) → slice_get library.now at ≡ Some m
         → IsClosedSum library.now (is_named (option_copied root.entry)) sums.old.items m (get_or sums.old.items at [])) }
-    ensures graph { IfOk result (λ r. (m : ModuleTree) → slice_get library.now at ≡ Some m → IsGraphOf (module_edges library.now (is_named (option_copied root.entry)) sums.old.items m) r.graph) }
+    ensures graph { IfOk result (λ r. (m : ModuleTree) → slice_get library.now at ≡ Some m
+        → IsGraphOf (module_edges library.now (is_named (option_copied root.entry)) sums.old.items m) r.graph) }
     ensures listed { IfOk result (λ r. IsGraphListed r.graph) }
 {
     let m = &library.modules()[at];
@@ -334,7 +335,7 @@ pub(crate) fn renew(
     })
 }
 
-// Puts the places of modules behind others, where they are not marked.
+// Appends the indices of the modules of lines, where they are not marked.
 fn note_places(
     lines: &[(usize, Option<usize>)],
     marks: &mut Vec<bool>,
@@ -429,7 +430,7 @@ fn empty_sums(alloc: Global, count: usize) -> Result<Vec<Sum>, AllocError>
     Ok(sums)
 }
 
-// The places in an order that are those of modules which others contain.
+// The indices in an order that are those of modules which others contain.
 fn used_places(
     alloc: Global,
     modules: &[Module],

@@ -13,7 +13,7 @@ use vlog_net_graph::{NamedGraph, port_name};
 use vlog_scope::Library;
 use vlog_tree::{Item, Module};
 
-/// A module, by its place, whose graph was not seen to be without loops.
+/// A module, by its index, whose graph was not seen to be without loops.
 #[derive(Drop)]
 pub struct Suspect {
     pub place: usize,
@@ -128,7 +128,8 @@ fn question_loops(
 ) -> Result<bool, AllocError>
     requires { (is_top : List ℕ → Bool) × IsEvidence library.now is_top loops.now }
     ensures right { (is_top : List ℕ → Bool) → IsEvidence library.now is_top loops.now → IfOk result (λ b. b ≡ true → LiesOnLoop library.now is_top (owner.now, Some name.now)) }
-    ensures found { (is_top : List ℕ → Bool) → IsEvidence library.now is_top loops.now → IfOk result (λ b. LoopsBy library.now is_top loops.now.suspects.items owner.now name.now question → b ≡ true) }
+    ensures found { (is_top : List ℕ → Bool) → IsEvidence library.now is_top loops.now
+        → IfOk result (λ b. LoopsBy library.now is_top loops.now.suspects.items owner.now name.now question → b ≡ true) }
 {
     match loops.suspects.get(question.0) {
         Some(s) => {

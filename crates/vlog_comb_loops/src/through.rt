@@ -52,7 +52,7 @@ fn pairs_named<'a>(library: &Library, sums: &'a [Sum], name: &Text) -> &'a [(Tex
     }
 }
 
-// An instance's outputs rest on those inputs on which they rest inside.
+// An instance's outputs depend on those inputs on which they depend inside.
 fn add_through(
     alloc: Global,
     g: &mut GraphDraft,

@@ -1,4 +1,4 @@
-// A design: modules that break none of the rules, with the place of their top.
+// A design: modules that break none of the rules, with the index of their top.
 
 ghost use Rattle.std.specs.Prelude.{◌≡◌, ◌≤◌, ℕ, List, length, map, slice_get, Some, IfOk, IfErr, OnOk};
 ghost use Rattle.std.specs.Option.{option_copied};
@@ -21,7 +21,7 @@ use vlog_rules::Sound;
 use vlog_scope::{Library, Scope, copy_text};
 use vlog_tree::{Module, VFault};
 
-/// Modules that break none of the rules on names, widths, drivers, loops and the top, and the top's place among them.
+/// Modules that break none of the rules on names, widths, drivers, loops and the top, and the top's index among them.
 #[derive(Drop)]
 pub struct Design {
     sound: Sound,
@@ -72,7 +72,7 @@ fn check_outside(
     Ok(())
 }
 
-// The place of the top, where modules are a design.
+// The index of the top, where modules are a design.
 fn place_of_top(alloc: Global, library: &Library) -> Result<usize, VFault>
     requires sound { IsSound library.now }
     requires some { 1 ≤ length library.now }
@@ -102,7 +102,7 @@ impl Design {
         Ok(Design { sound, top })
     }
 
-    /// Modules of which it is known that they break no rule, with their top's place among them. Nothing is looked at again.
+    /// Modules of which it is known that they break no rule, with their top's index among them. Nothing is looked at again.
     pub fn of_known(alloc: Global, modules: Vec<Module>, top: usize) -> Result<Design, AllocError>
         requires { IsDesign modules.items top }
         ensures { IfOk result (λ d. (d.modules ≡ modules.items) × (d.top ≡ top)) }

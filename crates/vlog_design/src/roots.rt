@@ -80,7 +80,7 @@ pub(crate) fn count_roots(counts: &NameCounts, modules: &[Module]) -> usize
     count
 }
 
-/// The place of the first module that no other contains, and 0 where there is none.
+/// The index of the first module that no other contains, and 0 where there is none.
 pub(crate) fn root_place(counts: &NameCounts, modules: &[Module]) -> usize
     ensures { (names : List (List ℕ)) → CountsTo counts.now (times_in names) → (m : ModuleTree) (rest : List ModuleTree) → roots_among names modules.now ≡ m ∷ rest
         → slice_get modules.now result ≡ Some m }

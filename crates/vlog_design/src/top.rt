@@ -60,7 +60,7 @@ fn has_all_five(alloc: Global, ports: &Scope, label: &[u8]) -> Result<bool, Allo
     )
 }
 
-// Whether no port of this name stands before with other bits.
+// Whether no earlier port of this name has other bits.
 fn agrees(before: &NameBits, name: &[u8], bits: u32) -> bool
     ensures { (ports : List PortTree) → ((x : List ℕ) → value_in before.now x ≡ bits_before ports x) → result ≡ agrees_lem ports name.now bits }
 {

@@ -7,7 +7,7 @@ use Rattle.tapa_base.specs.Spans.{◌⨾◌, Each}
 use Rattle.vlog_lex.specs.Spans.{Part, Takes}
 use Rattle.vlog_lex.specs.Grammar.{SpellsName, SpellsAtom, SpellsCondition}
 
--- a step without what stands in it: an else and an end close what is open
+-- a step without its body: an else and an end close what is open
 abbrev pub SpellsStep : Step → Part
 SpellsStep (If c) = SpellsCondition c ⨾ Takes (codes "begin")
 SpellsStep Else = Takes (codes "end") ⨾ Takes (codes "else") ⨾ Takes (codes "begin")

@@ -1,5 +1,5 @@
 -- The grammar of the subset (IEEE 1364-2005, annex A, cut down to what the subset has). Each part says which words spell a tree,
--- from a place in the list of words to a later one. It neither prints nor reads.
+-- from a position in the list of words to a later one. It neither prints nor reads.
 use Rattle.std.specs.Prelude.{◌≡◌, ℕ, ◌+◌, List, [], ◌∷◌, ◌++◌, codes, if◌then◌else◌}
 use Rattle.vlog_tree.specs.declared.tree.Atom.{Atom}
 use Rattle.vlog_tree.specs.declared.tree.Atom.TheVariants.{Net, Part as PartSelect, Literal}
@@ -32,7 +32,7 @@ SpellsName x i j = IsName x × Takes x i j
 abbrev pub SpellsNumber : ℕ → Part
 SpellsNumber n = Is (IsNumber n)
 
--- the last of n places, which are counted from 0: it has the number n - 1, and there is no last of none
+-- the last of n bits or cells, which are counted from 0: the number n - 1; there is no last of none
 abbrev pub SpellsLastOf : ℕ → Part
 SpellsLastOf n i j = (last : ℕ) × (n ≡ last + 1) × SpellsNumber last i j
 
@@ -76,7 +76,7 @@ SpellsValue (Cell memory x) = SpellsName memory ⨾ Takes (codes "[") ⨾ Spells
 
 -- ---- blocks (clause 9)
 
--- the steps of a block as they stand in each other; each has the steps behind it last
+-- the steps of a block, nested; each has the steps after it last
 pub data Steps : Type 0 where
   no_step : Steps
   if_only : List ℕ → Steps → Steps → Steps
@@ -101,7 +101,8 @@ abbrev pub SpellsSteps : Steps → Part
 SpellsSteps no_step i j = i ≡ j
 SpellsSteps (if_only c p rest) i j = (SpellsCondition c ⨾ Takes (codes "begin") ⨾ SpellsSteps p ⨾ Takes (codes "end") ⨾ SpellsSteps rest) i j
 SpellsSteps (if_else c p q rest) i j =
-    (SpellsCondition c ⨾ Takes (codes "begin") ⨾ SpellsSteps p ⨾ Takes (codes "end") ⨾ Takes (codes "else") ⨾ Takes (codes "begin") ⨾ SpellsSteps q ⨾ Takes (codes "end") ⨾ SpellsSteps rest) i j
+    (SpellsCondition c ⨾ Takes (codes "begin") ⨾ SpellsSteps p ⨾ Takes (codes "end")
+    ⨾ Takes (codes "else") ⨾ Takes (codes "begin") ⨾ SpellsSteps q ⨾ Takes (codes "end") ⨾ SpellsSteps rest) i j
 SpellsSteps (assign x a rest) i j = (SpellsName x ⨾ Takes (codes "<=") ⨾ SpellsAtom a ⨾ Takes (codes ";") ⨾ SpellsSteps rest) i j
 SpellsSteps (store m x a rest) i j =
     (SpellsName m ⨾ Takes (codes "[") ⨾ SpellsName x ⨾ Takes (codes "]") ⨾ Takes (codes "<=") ⨾ SpellsAtom a ⨾ Takes (codes ";") ⨾ SpellsSteps rest) i j
@@ -112,7 +113,7 @@ SpellsBlock steps i j = (s : Steps) × (flat s ≡ steps) × (Takes (codes "begi
 
 -- ---- items (clauses 4, 6, 9 and 12)
 
--- a port joined by its name (12.3.6)
+-- a port connected by its name (12.3.6)
 abbrev pub SpellsConnection : Connection → Part
 SpellsConnection l = Takes (codes ".") ⨾ SpellsName l.port ⨾ Takes (codes "(") ⨾ SpellsName l.net ⨾ Takes (codes ")")
 

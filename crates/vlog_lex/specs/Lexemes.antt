@@ -1,5 +1,5 @@
 -- The words of a text of the subset (IEEE 1364-2005, clause 3). A text is gaps and words in turn, each judged in sight of the
--- text behind it: a word is the longest that begins where it stands. The definition doesn't say how they are found.
+-- text after it: a word is the longest that begins at its position. The definition doesn't say how they are computed.
 use Rattle.std.specs.Prelude.{◌≡◌, ℕ, ⊤, Bool, true, false, ◌&&◌, ◌||◌, ◌==◌, ◌⊎◌, List, [], ◌∷◌, ◌++◌, codes, bytes_eq}
 use Rattle.std.specs.List.{list_any}
 use Rattle.std.specs.Char.{is_digit}
@@ -9,7 +9,7 @@ use Rattle.vlog_tree.specs.Spelling.{Word}
 use Rattle.tapa_base.specs.Gaps.{Bytes, begins, IsBlank, IsLineComment, IsBlockComment}
 use Rattle.vlog_lex.specs.Numerals.{base_of, Sized, sized_word, IsSized}
 
--- a gap, in sight of the text behind it: white space or a comment (3.2, 3.3)
+-- a gap, in sight of the text after it: white space or a comment (3.2, 3.3)
 abbrev pub IsGap : Bytes → Bytes → Type 0
 IsGap bytes rest = IsBlank bytes ⊎ (IsLineComment bytes rest ⊎ IsBlockComment bytes)
 
@@ -45,7 +45,8 @@ pub record IsLiteralWord (bytes rest : Bytes) : Type 0 where
 -- the operators and punctuation of the subset (3.4)
 unfoldable pub signs : List Bytes
 signs =
-    codes "<=" ∷ codes "<<" ∷ codes ">>" ∷ codes "==" ∷ codes "!=" ∷ codes "(" ∷ codes ")" ∷ codes "[" ∷ codes "]" ∷ codes "{" ∷ codes "}" ∷ codes ";" ∷ codes ":" ∷ codes "," ∷ codes "." ∷ codes "="
+    codes "<=" ∷ codes "<<" ∷ codes ">>" ∷ codes "==" ∷ codes "!=" ∷ codes "(" ∷ codes ")" ∷ codes "[" ∷ codes "]" ∷ codes "{" ∷ codes "}"
+    ∷ codes ";" ∷ codes ":" ∷ codes "," ∷ codes "." ∷ codes "="
     ∷ codes "+" ∷ codes "-" ∷ codes "*" ∷ codes "/" ∷ codes "%" ∷ codes "&" ∷ codes "|" ∷ codes "^" ∷ codes "~" ∷ codes "?" ∷ codes "<" ∷ codes "@" ∷ []
 
 -- whether bytes are a sign
@@ -56,12 +57,12 @@ is_sign bytes = list_any (bytes_eq bytes) signs
 unfoldable pub is_sign_or_mark : Bytes → Bool
 is_sign_or_mark bytes = is_sign bytes || bytes_eq bytes (codes "//") || bytes_eq bytes (codes "/*")
 
--- the longest sign: with the byte behind it, it is no sign, and begins no comment
+-- the longest sign: with the byte after it, it is no sign, and begins no comment
 pub record IsSignWord (bytes rest : Bytes) : Type 0 where
   pub sign : is_sign bytes ≡ true
   pub longest : begins (λ b. is_sign_or_mark (bytes ++ b ∷ [])) rest ≡ false
 
--- a word, in sight of the text behind it
+-- a word, in sight of the text after it
 abbrev pub IsWord : Bytes → Bytes → Type 0
 IsWord bytes rest = IsNameWord bytes rest ⊎ (IsNumberWord bytes rest ⊎ (IsLiteralWord bytes rest ⊎ IsSignWord bytes rest))
 
@@ -72,7 +73,7 @@ pub data Piece : Type 0 where
   gap : Bytes → Piece
   word : Bytes → Piece
 
--- such a piece stands in sight of the text behind it
+-- what a piece must be, in sight of the text after it
 abbrev pub Stands : Piece → Bytes → Type 0
 Stands (gap bytes) rest = IsGap bytes rest
 Stands (word bytes) rest = IsWord bytes rest
@@ -87,7 +88,7 @@ abbrev pub text_of : List Piece → Bytes → Bytes
 text_of [] rest = rest
 text_of (p ∷ ps) rest = piece_bytes p ++ text_of ps rest
 
--- each piece stands where the one before it ends
+-- each piece is what it must be, in sight of the pieces after it
 abbrev pub StandInTurn : List Piece → Bytes → Type 0
 StandInTurn [] rest = ⊤
 StandInTurn (p ∷ ps) rest = Stands p (text_of ps rest) × StandInTurn ps rest

@@ -18,7 +18,7 @@ pub record Sized : Type 0 where
 abbrev pub sized_word : Sized → Word
 sized_word l = l.size ++ 39 ∷ l.letter ∷ l.digits
 
--- both numerals have digits, as many as one likes, and zeros may stand in front
+-- both numerals have at least one digit, and may begin with zeros
 abbrev pub IsSized : Sized → Type 0
 IsSized l = IsNumeral 10 l.size × IsNumeral (base_of l.letter) l.digits
 

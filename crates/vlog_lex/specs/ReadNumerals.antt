@@ -28,7 +28,7 @@ cells_behind w = clamped_cells (digits_value 10 w + 1)
 abbrev pub sized_atom : Word → ℕ → Word → Atom
 sized_atom size base digits = clamped_atom (Literal (digits_value 10 size) (digits_value base digits))
 
--- what a literal is behind its size
+-- the literal of a size and the word after it, or none
 abbrev pub based_of : Word → Word → Option Atom
 based_of size (quote ∷ letter ∷ digits) = if quote == 39 && is_numeral (base_of letter) digits then Some (sized_atom size (base_of letter) digits) else None
 based_of size _ = None

@@ -1,4 +1,4 @@
--- What the lexer finds in front of a text.
+-- What the lexer reads at the start of a text.
 use Rattle.std.specs.Prelude.{ℕ, ◌+◌, Bool, ◌&&◌, ◌||◌, if◌then◌else◌, ◌==◌, List, [], drop, slice_index, Option, Some, None, codes}
 use Rattle.tapa_syntax.specs.Comments.{closing}
 use Rattle.tapa_syntax.specs.Characters.{is_among, run}
@@ -42,7 +42,7 @@ sign_length b c = if is_pair b c then 2 else (if is_single b then 1 else 0)
 
 -- ---- pieces
 
--- a piece and its length, or none where nothing stands
+-- a piece and its length, or none where no piece begins
 abbrev pub Cut : Type 0
 Cut = Option (Sort × ℕ)
 

@@ -7,7 +7,7 @@ use Rattle.vlog_lex.specs.declared.cut.Sort.{Sort}
 use Rattle.vlog_lex.specs.declared.cut.Sort.TheVariants as sort
 use Rattle.vlog_lex.specs.declared.lexer.Lexeme.{Lexeme}
 
--- no blank, no comment and no word stands in front of these bytes
+-- no blank, no comment and no word begins at the first of these bytes
 abbrev pub NothingStands : Bytes → Type 0
 NothingStands z = (p : Piece) (rest : Bytes) → Stands p rest → z ≡ piece_bytes p ++ rest → ⊥
 
@@ -18,18 +18,18 @@ word_of text l = if nat_le l.from l.to && nat_le l.to (length text) then slice_r
 abbrev pub words_at : Bytes → List Lexeme → List Word
 words_at text lexemes = map (word_of text) lexemes
 
--- the words among pieces, as slices of a text in which so many bytes stand before them
+-- the words among pieces, as slices of a text in which the first piece begins at this byte
 abbrev pub slices_of : ℕ → List Piece → List Lexeme
 slices_of at [] = []
 slices_of at (gap bytes ∷ ps) = slices_of (at + length bytes) ps
 slices_of at (word bytes ∷ ps) = record { from = at; to = at + length bytes } ∷ slices_of (at + length bytes) ps
 
--- one piece more behind these words
+-- these words, and that of one more piece, where it is a word
 abbrev pub put_slice : List Lexeme → Sort → ℕ → ℕ → List Lexeme
 put_slice lexemes sort.Gap from to = lexemes
 put_slice lexemes sort.Word from to = lexemes ++ record { from = from; to = to } ∷ []
 
--- the pieces of a text as far as there are some: their words, and where nothing more stands
+-- the pieces of a text as far as there are some: their words, and the position where no more begins
 pub record IsScan (text : Bytes) (lexemes : List Lexeme) (end : ℕ) : Type 0 where
   pub pieces : List Piece
   pub behind : Bytes

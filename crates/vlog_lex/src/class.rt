@@ -68,7 +68,7 @@ pub fn worth(b: u8) -> u32
     }
 }
 
-/// The base that a letter of a literal stands for, and 0 where it stands for none.
+/// The base that a letter of a literal denotes, and 0 where it denotes none.
 pub fn base_of(letter: u8) -> u32
     ensures value { result ≡ numerals.base_of letter }
     ensures most { result ≤ 16 }
@@ -81,7 +81,7 @@ pub fn base_of(letter: u8) -> u32
     }
 }
 
-/// How many bytes of a class stand in front.
+/// The number of bytes of a class at the start of a text.
 #[tactic(auto, unfolding(tapa_syntax::specs::Characters::run))]
 pub fn run(class: Class, text: &[u8]) -> usize
     ensures value { result ≡ characters.run (is_in class) text.now }

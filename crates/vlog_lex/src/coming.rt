@@ -69,7 +69,7 @@ impl Coming {
         }
     }
 
-    /// What comes behind the first of the words.
+    /// What comes after the first of the words.
     pub fn rest(self) -> Coming
         ensures { result ≡ spec.rest_coming self }
     {

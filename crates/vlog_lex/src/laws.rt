@@ -44,7 +44,7 @@ pub fn law_flat_block()
     ensures { (steps : List StepTree) (i j : List Word) → SpellsBlock steps i j ↔ SpellsFlatBlock steps i j }
 {}
 
-/// A blank or a comment in front of a text leaves its tree.
+/// A blank or a comment before a text leaves its tree.
 pub fn law_gap_in_front()
     ensures { (bytes text : List ℕ) (ms : List ModuleTree) → IsGap bytes text → HasTree text ms → HasTree (bytes ++ text) ms }
 {}
@@ -55,7 +55,7 @@ pub fn law_one_bit_range()
         → SpellsItem (Wire 1 x) (codes "wire" ∷ codes "[" ∷ codes "0" ∷ codes ":" ∷ codes "0" ∷ codes "]" ∷ x ∷ codes ";" ∷ j) j }
 {}
 
-/// A literal may be written in each base, with zeros in front of its width.
+/// A literal may be written in each base, with zeros before its width.
 pub fn law_any_base()
     ensures { IsLiteral 8 255 (codes "8'd255") × IsLiteral 8 255 (codes "8'hFf") × IsLiteral 8 255 (codes "08'b11111111") }
 {}

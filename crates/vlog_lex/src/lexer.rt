@@ -15,7 +15,7 @@ pub struct Lexeme {
     pub to: u32,
 }
 
-/// The words of a text, and where the first byte stands that begins no word and no gap: behind the last byte, where there is
+/// The words of a text, and the position of the first byte that begins no word and no gap: that after the last byte, where there is
 /// none. A comment that is left open is no gap.
 #[derive(Drop)]
 pub struct Words {
@@ -54,7 +54,7 @@ fn put(lexemes: &mut Vec<Lexeme>, sort: Sort, from: u32, to: u32) -> Result<(), 
     Ok(())
 }
 
-/// The place of the byte behind so many, from 1:1 on.
+/// The place, from 1:1 on, of the byte at an offset.
 pub fn place_at(text: &[u8], at: u32) -> Place
     requires within { at ≤ length text.now }
     requires few { length text.now < 2 ^ 32 - 1 }

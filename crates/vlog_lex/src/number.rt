@@ -25,7 +25,7 @@ fn is_numeral(base: u32, word: &[u8]) -> bool
     !word.is_empty() && run(Class::DigitOf(base), word) == word.len()
 }
 
-/// Whether a word is a decimal number (IEEE 1364-2005, 3.5.1); zeros may stand in front.
+/// Whether a word is a decimal number (IEEE 1364-2005, 3.5.1), which may begin with zeros.
 pub fn is_number(word: &[u8]) -> bool
     ensures { result ≡ spec.is_number word.now }
 {
@@ -53,21 +53,21 @@ pub fn width_at(word: &[u8]) -> u32
     capped(word, 129)
 }
 
-/// The number of bits of which the word tells the last, counted from 0, cut like any other.
+/// The number of bits whose last index, counted from 0, is this word; cut like any other.
 pub fn width_behind(word: &[u8]) -> u32
     ensures { result ≡ spec.width_behind word.now }
 {
     capped(word, 128) + 1
 }
 
-/// The number of cells of which the word tells the last, counted from 0, cut where the rule refuses all that are larger.
+/// The number of cells whose last index, counted from 0, is this word; cut where the rule refuses all that are larger.
 pub fn cells_behind(word: &[u8]) -> u32
     ensures { result ≡ spec.cells_behind word.now }
 {
     capped(word, 1048576) + 1
 }
 
-/// The number with one more digit behind it, where 128 bits hold it.
+/// The number with one more digit at its end, where 128 bits hold it.
 fn with_digit(value: u128, base: u32, digit: u32) -> Option<u128>
     ensures { SomeIff result (value * base + digit < 2 ^ 128) (value * base + digit) }
 {
@@ -103,7 +103,7 @@ fn sized(size: &[u8], base: u32, digits: &[u8]) -> Atom
     }
 }
 
-/// What a literal is behind its size.
+/// The literal of a size and the word after it, or none.
 fn based(size: &[u8], behind: &[u8]) -> Option<Atom>
     ensures { result ≡ spec.based_of size.now behind.now }
 {

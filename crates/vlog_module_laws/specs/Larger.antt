@@ -27,7 +27,7 @@ pub record IsRightBeside (ms : List ModuleTree) (m : ModuleTree) : Type 0 where
   pub widths : first_violation (module_widths ms m) ≡ None
   pub drivers : first_violation (module_drives ms m) ≡ None
 
--- a list of modules is within each list that goes on behind it, and within each that begins with modules of other names
+-- a list of modules is within each list that continues it, and within each that begins with modules of other names
 abbrev pub FrontIsWithin : Type 0
 FrontIsWithin = (ms ns : List ModuleTree) → IsWithin ms (ms ++ ns)
 
@@ -50,7 +50,7 @@ RightStaysRight =
 abbrev pub RightHasInstances : Type 0
 RightHasInstances = (ms : List ModuleTree) (m : ModuleTree) → IsRightBeside ms m → HaveInstancesOf ms m
 
--- among more modules a net rests on just the nets on which it rested
+-- among more modules a net depends on just the nets on which it depended
 abbrev pub RestsStaysSame : Type 0
 RestsStaysSame =
     (ms all : List ModuleTree) (is_top is_top_of_all : Name → Bool) → IsWithin ms all → ((m : ModuleTree) → Has ms m → HaveInstancesOf ms m)

@@ -41,7 +41,7 @@ CellsTakeTheirBlocks =
     (m : ModuleTree) (run : ℕ → Cycle) (f : Follows m run) (w : ℕ) (x : Name) (k : ℕ) (b : List Step) → Has m.items (Memory w x k) → IsOwnBlock m.items x b
     → (n a : ℕ) → a < k → (run (suc n)).cell x a ≡ (run_steps f.sizes (run n) [] b (run n)).cell x a
 
--- a port of an instance has the number of the net that it is joined to
+-- a port of an instance has the number of the net that it is connected to
 abbrev pub ConnectionsHold : Type 0
 ConnectionsHold =
     (ms : List ModuleTree) (top : ModuleTree) (nets : ℕ → Path → Cycle) → Runs ms top nets → (n : ℕ) (path : Path) (m : ModuleTree) → module_at ms top path ≡ Some m

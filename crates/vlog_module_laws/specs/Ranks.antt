@@ -1,4 +1,4 @@
--- Modules whose nets fall in rank along all that they rest on have no loop.
+-- Modules whose nets fall in rank along all that they depend on have no loop.
 use Rattle.std.specs.Prelude.{◌≡◌, ℕ, ◌<◌, Bool, List, Some, map}
 use Rattle.vlog_tree.specs.declared.table.NetKind.TheVariants.{Input, Output}
 use Rattle.vlog_tree.specs.Form.{ModuleTree}
@@ -15,11 +15,11 @@ pub record FallsBy (ms : List ModuleTree) (is_top : Name → Bool) (m : ModuleTr
       → net_kind_of (map port_declared k.ports) x ≡ Output → net_kind_of (map port_declared k.ports) y ≡ Input → Rests ms is_top k x y
       → rank (port_of i y) < rank (port_of i x)
 
--- a net rests on nets of lower rank
+-- a net depends on nets of lower rank
 abbrev pub RestsOnLowerRanks : Type 0
 RestsOnLowerRanks = (ms : List ModuleTree) (is_top : Name → Bool) (m : ModuleTree) (rank : Name → ℕ) → FallsBy ms is_top m rank → (x y : Name) → Rests ms is_top m x y → rank y < rank x
 
--- so that none rests on itself
+-- so that none depends on itself
 abbrev pub RankedIsOnNoLoop : Type 0
 RankedIsOnNoLoop = (ms : List ModuleTree) (is_top : Name → Bool) (m : ModuleTree) (rank : Name → ℕ) → FallsBy ms is_top m rank → (x : Name) → Rests ms is_top m x x → ⊥
 

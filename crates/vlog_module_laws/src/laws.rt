@@ -36,7 +36,7 @@ pub fn law_lines()
     ensures connections { ConnectionsHold }
 {}
 
-/// Modules whose nets fall in rank along all that they rest on have no loop.
+/// Modules whose nets fall in rank along all that they depend on have no loop.
 pub fn law_no_loop_by_rank()
     ensures lower { RestsOnLowerRanks }
     ensures no_loop { RankedIsOnNoLoop }
@@ -54,7 +54,7 @@ pub fn law_larger()
     ensures instances { RightHasInstances }
 {}
 
-/// Among more modules a net rests on just the nets on which it rested.
+/// Among more modules a net depends on just the nets on which it depended.
 pub fn law_rests_in_larger()
     ensures { RestsStaysSame }
 {}

@@ -1,9 +1,9 @@
 -- The graph of all modules at once. Its nodes are the names of each module's own graph, each with the module's name and a dot before
--- it, so that an instance stands for its module: of all instances of a module each wire at an input is what the input rests on
--- inside, and each wire at an output rests on the output.
+-- it, so that the instances of a module share its nodes: an input of the module depends on the wire at it of each instance, and
+-- each wire at an output depends on the output.
 --
 -- By an example: module k has the ports `input a , output o`, and module p has a wire w and the line `k u ( .a ( w ) , .o ( w ) ) ;`.
--- Of p's own lines p.u.a rests on p.w, and p.w on p.u.o; of the instance k.a rests on p.u.a, and p.u.o on k.o.
+-- Of p's own lines p.u.a depends on p.w, and p.w on p.u.o; of the instance k.a depends on p.u.a, and p.u.o on k.o.
 use Rattle.std.specs.Prelude.{List, Bool, false, ◌++◌, Option, bytes_eq, if◌then◌else◌, map}
 use Rattle.std.specs.List.{flat_map}
 use Rattle.std.specs.Option.{option_map_or}
@@ -24,8 +24,8 @@ port_pair i e = (port_of i e.0, port_of i e.1)
 abbrev pub under : Name → Name × Name → Name × Name
 under front e = (front ++ e.0, front ++ e.1)
 
--- a port, with the name of its module or instance before it, and a net that it is linked to: an input rests on the net, and the net
--- on an output
+-- a port, with the name of its module or instance before it, and a net that it is connected to: an input depends on the net, and
+-- the net on an output
 abbrev pub port_edge : List Declaration → Name → Name → Name → Name × Name
 port_edge ports k p net = if net_kind_is_input (net_kind_of ports p) then (port_of k p, net) else (net, port_of k p)
 

@@ -8,7 +8,7 @@ use Rattle.number_graph.specs.Graphs.{Steps}
 use Rattle.vlog_net_graph.specs.declared.names.GraphDraft.{GraphDraft}
 use Rattle.vlog_net_graph.specs.declared.names.NamedGraph.{NamedGraph}
 
--- the numbers below a count stand for names, one for each, and their steps for the edges
+-- the numbers below a count denote names, one for each, and their steps denote the edges
 pub record IsNumbered (edges : Edges) (number : Name → Option ℕ) (R : ℕ → ℕ → Type 0) (count : ℕ) : Type 0 where
   pub below : (a : Name) (j : ℕ) → number a ≡ Some j → j < count
   pub distinct : (a b : Name) (j : ℕ) → number a ≡ Some j → number b ≡ Some j → a ≡ b
@@ -30,7 +30,7 @@ IsExtended old new = (a : Name) (j : ℕ) → old a ≡ Some j → new a ≡ Som
 abbrev pub texts : {A : Type 0} → List (Vec ℕ A) → List Name
 texts names = map (λ v. v.items) names
 
--- each name stands at its number
+-- each name is at its number
 abbrev pub AreListed : (Name → Option ℕ) → List Name → Type 0
 AreListed number names = (x : Name) (k : ℕ) → number x ≡ Some k → slice_get names k ≡ Some x
 

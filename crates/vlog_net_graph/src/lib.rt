@@ -1,5 +1,5 @@
-//! Graphs of nets by their names: what each net of a module rests on within a cycle, what all nets of all modules do, where
-//! each instance stands for its module, and which module contains which.
+//! Graphs of nets by their names: what each net of a module depends on within a cycle, what all nets of all modules do, where
+//! the instances of a module share its nodes, and which module contains which.
 #![tactic(auto)]
 
 mod containment;

@@ -1,4 +1,4 @@
-// What each net of a module rests on within a cycle by the module's own lines, as a graph of names.
+// What each net of a module depends on within a cycle by the module's own lines, as a graph of names.
 
 ghost use Rattle.std.specs.Prelude.{◌≡◌, ◌++◌, ◌∷◌, [], map, IfOk, OnOk};
 ghost use Rattle.std.specs.List.{flat_map};
@@ -36,7 +36,7 @@ pub fn port_name(alloc: Global, instance: &Text, port: &Text) -> Result<Vec<u8>,
     dotted(alloc, instance.bytes(), port.bytes())
 }
 
-/// One more edge: the first name rests on the second.
+/// One more edge: the first name depends on the second.
 pub fn add_edge(alloc: Global, g: &mut GraphDraft, from: &[u8], to: &[u8]) -> Result<(), AllocError>
     ensures { OnOk result (Adds g.old g.new ((from.now, to.now) ∷ [])) }
 {
@@ -66,7 +66,7 @@ fn joined(alloc: Global, front: &[u8], behind: &[u8]) -> Result<Vec<u8>, AllocEr
     Ok(name)
 }
 
-/// The name of an instance's port, with bytes in front.
+/// The name of an instance's port, with a prefix.
 #[tactic(auto, unfolding(vlog_tree::specs::Loops::port_of))]
 pub(crate) fn port_under(
     alloc: Global,
@@ -87,7 +87,7 @@ pub(crate) fn port_under(
     Ok(name)
 }
 
-// One more edge, of names with these bytes in front.
+// One more edge, of names with this prefix.
 fn add_under(
     alloc: Global,
     g: &mut GraphDraft,
@@ -169,7 +169,7 @@ fn add_atoms(
     Ok(())
 }
 
-// A driven net rests on the nets of its driver.
+// A driven net depends on the nets of its driver.
 fn add_value(
     alloc: Global,
     g: &mut GraphDraft,
@@ -198,7 +198,7 @@ fn add_value(
     }
 }
 
-// An instance's input rests on its net, and a net on the instance's output.
+// An instance's input depends on its net, and a net on the instance's output.
 #[tactic(auto, unfolding(vlog_tree::specs::Loops::connection_edge))]
 fn add_connection(
     alloc: Global,
@@ -276,7 +276,7 @@ fn add_lines(
     Ok(())
 }
 
-// What a memory gives rests on the place that it is asked for, where the top has ports for both.
+// A memory's read data depends on its address, where the top has ports for both.
 fn add_answer(
     alloc: Global,
     g: &mut GraphDraft,
@@ -343,8 +343,8 @@ fn is_top(root: Option<&Text>, name: &Text) -> bool
     }
 }
 
-/// What a module's own lines say, and at the top the memories outside: each net with what it rests on, of all names with these
-/// bytes in front. `root` is the name of the first module that no other contains.
+/// What a module's own lines say, and at the top the memories outside: each net with what it depends on, all names with this
+/// prefix. `root` is the name of the first module that no other contains.
 pub(crate) fn add_direct(
     alloc: Global,
     g: &mut GraphDraft,
@@ -360,8 +360,8 @@ pub(crate) fn add_direct(
     Ok(())
 }
 
-/// What a module's own lines say, and at the top the memories outside: each net with what it rests on. `root` is the name of the first
-/// module that no other contains.
+/// What a module's own lines say, and at the top the memories outside: each net with what it depends on. `root` is the name of the
+/// first module that no other contains.
 pub fn direct_draft(
     alloc: Global,
     library: &Library,

@@ -1,5 +1,5 @@
-// The graph of all modules at once, where each instance stands for its module. Where it has no cycle no module has a loop. Where it
-// has one there may be none: two instances of one module in a row are one module here.
+// The graph of all modules at once, where the instances of a module share its nodes. Where it has no cycle no module has a loop. Where
+// it has one there may be none: two instances of one module in a row are one module here.
 
 ghost use Rattle.std.specs.Prelude.{◌≡◌, ◌∷◌, ◌↔◌, [], ℕ, List, true, map, IfOk, OnOk};
 ghost use Rattle.std.specs.List.{flat_map};
@@ -34,8 +34,8 @@ fn add_own(
     Ok(())
 }
 
-// One more edge, of a port in the module of its instance and the net that it is linked to: an input rests on the net, and the net on
-// an output. The ports are those of that module, and the port's name has the given one before it.
+// One more edge, of a port in the module of its instance and the net that it is connected to: an input depends on the net, and the
+// net on an output. The ports are those of that module, and the port's name has the given one before it.
 fn add_port_edge(
     alloc: Global,
     g: &mut GraphDraft,
@@ -221,7 +221,7 @@ fn merged_draft(
     Ok(g)
 }
 
-/// Whether the graph of all modules at once has no cycle. Then no net of any module rests on itself. `root` is the name of the first
+/// Whether the graph of all modules at once has no cycle. Then no net of any module depends on itself. `root` is the name of the first
 /// module that no other contains. It takes time and memory as the lines and the ports of all instances do.
 pub fn merged_is_loopless(
     alloc: Global,

@@ -53,7 +53,7 @@ impl GraphDraft {
         }
     }
 
-    /// A graph of no names, with room for so many.
+    /// A graph of no names, with room for this number of them.
     pub fn with_room(alloc: Global, count: usize) -> Result<GraphDraft, AllocError>
         ensures graph { IfOk result (λ g. IsDraftOf [] g) }
         ensures listed { IfOk result (λ g. IsListed g) }
@@ -114,7 +114,7 @@ impl GraphDraft {
         }
     }
 
-    /// One more edge: the first name rests on the second.
+    /// One more edge: the first name depends on the second.
     pub fn add_edge(&mut self, alloc: Global, from: &[u8], to: &[u8]) -> Result<(), AllocError>
         ensures graph { OnOk result ((edges : Edges) → IsDraftOf edges self.old → IsDraftOf (edges ++ (from.now, to.now) ∷ []) self.new) }
         ensures listed { OnOk result (IsListed self.old → IsListed self.new) }

@@ -7,7 +7,7 @@ use Rattle.tapa_base.specs.Gaps.{Bytes}
 use Rattle.vlog_tree.specs.declared.fault.VFault.{VFault}
 use Rattle.vlog_tree.specs.declared.fault.VFault.TheVariants.{V1, V2, V3, V4, V5, V6, OutOfMemory}
 use Rattle.vlog_tree.specs.Form.{ModuleTree}
-use Rattle.vlog_tree.specs.Loops.{TextPlace, text_places, place_name, LiesOnLoop, IsFirst, TellsLoop, IsLoopless}
+use Rattle.vlog_tree.specs.Loops.{TextPlace, text_places, place_name, LiesOnLoop, IsFirstIn, TellsLoop, IsLoopless}
 use Rattle.vlog_tree.specs.Refused.{Refuses}
 use Rattle.vlog_tree.specs.Table.{Name}
 use Rattle.vlog_tree.specs.V6.{is_top}
@@ -27,10 +27,10 @@ module _ {A : Type 0} (P : A → Type 0) where
       let behind : before ++ x ∷ after ≡ other ++ y ∷ rest = cc in
       firsts before after x other rest y behind (λ v has. free v (inr has)) (λ v has. clear v (inr has)) p q
 
-  one_first : (xs : List A) (x y : A) → IsFirst P xs x → IsFirst P xs y → x ≡ y
+  one_first : (xs : List A) (x y : A) → IsFirstIn P xs x → IsFirstIn P xs y → x ≡ y
   one_first xs x y f g = firsts f.before f.after x g.before g.after y (sym f.split ∙ g.split) f.none_before g.none_before f.this g.this
 
-  in_list : (xs : List A) (x : A) → IsFirst P xs x → Has xs x
+  in_list : (xs : List A) (x : A) → IsFirstIn P xs x → Has xs x
   in_list xs x f = subst (λ l. Has l x) (sym f.split) (has_right f.before (x ∷ f.after) x (inl refl))
 
 -- ---- faults of modules

@@ -1,4 +1,4 @@
--- A design, read word by word. What a reader is behind each word, or none where it refuses the word.
+-- A design, read word by word: the reader after each word, or none where it refuses the word.
 use Rattle.std.specs.Prelude.{ℕ, Bool, true, false, ◌||◌, ◌==◌, if◌then◌else◌, List, [], ◌∷◌, ◌++◌, length, Option, Some, None, codes, bytes_eq}
 use Rattle.vlog_tree.specs.declared.tree.Step.{Step}
 use Rattle.vlog_tree.specs.declared.tree.Step.TheVariants.{If, Else, End}

@@ -1,5 +1,5 @@
--- With which words a reader may go on to a whole design, and with which modules it ends then, their numbers cut. Each is made
--- of what is left of the parts of the grammar that are open.
+-- The words with which a reader may go on to a whole design, and the modules that it has read then, their numbers cut. Each is made
+-- of the rest of the parts of the grammar that are open.
 use Rattle.std.specs.Prelude.{◌≡◌, ◌⊎◌, ℕ, ◌≤◌, true, false, List, [], ◌∷◌, ◌++◌, length, fold, codes}
 use Rattle.std.specs.List.{AllByRecursion}
 use Rattle.vlog_tree.specs.declared.tree.Atom.{Atom}
@@ -58,7 +58,7 @@ Named G i = (x : Word) × (j : List Word) × SpellsName x i j × G x j
 abbrev pub Numbered : (ℕ → Left) → Left
 Numbered G i = (n : ℕ) × (j : List Word) × SpellsNumber n i j × G n j
 
--- the last of n places
+-- the last of n bits or cells
 abbrev pub Counted : (ℕ → Left) → Left
 Counted G i = (n : ℕ) × (j : List Word) × SpellsLastOf n i j × G n j
 
@@ -82,7 +82,7 @@ put_step xs x = xs ++ clamped_step x ∷ []
 abbrev pub put_atom : List Atom → Atom → List Atom
 put_atom xs a = xs ++ clamped_atom a ∷ []
 
--- ---- what is left of modules; the words end with these modules
+-- ---- the rest of modules; the words end with these modules
 
 module _ (cs : List ModuleTree) where
   abbrev pub Modules : List ModuleTree → Left
@@ -91,7 +91,7 @@ module _ (cs : List ModuleTree) where
   abbrev pub Items : ModuleDraft → Left
   Items d i = (more : List ItemTree) × (j : List Word) × Each SpellsItem more i j × Words (codes "endmodule" ∷ []) (Modules (finished (fold put_item d more))) j
 
-  -- behind an item, and the words that end it
+  -- after an item, and the words that end it
   abbrev pub ItemBehind : List Word → ModuleDraft → ItemTree → Left
   ItemBehind ws d x = Words ws (Items (with_item d x))
 
@@ -196,7 +196,8 @@ module _ (cs : List ModuleTree) where
 
   abbrev pub MoreConnections : ModuleDraft → Joining → Left
   MoreConnections d q i =
-      (more : List Connection) × (j : List Word) × Each (λ l. Takes (codes ",") ⨾ SpellsConnection l) more i j × ItemBehind (codes ")" ∷ codes ";" ∷ []) d (joined (fold with_connection q more)) j
+      (more : List Connection) × (j : List Word) × Each (λ l. Takes (codes ",") ⨾ SpellsConnection l) more i j
+      × ItemBehind (codes ")" ∷ codes ";" ∷ []) d (joined (fold with_connection q more)) j
 
   abbrev pub JoinedNet : ModuleDraft → Joining → Word → Left
   JoinedNet d q p = Named (λ n. Words (codes ")" ∷ []) (MoreConnections d (with_connection q (connection_of p n))))

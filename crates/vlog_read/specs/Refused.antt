@@ -10,7 +10,7 @@ use Rattle.vlog_read.specs.declared.design.ParseFault.TheVariants.{Refused, OutO
 abbrev pub Begins : List Word → Type 0
 Begins words = (rest : List Word) × (ms : List ModuleTree) × SpellsDesign ms (words ++ rest)
 
--- Some design begins with so many of the words, and none with one more of them; where there is no more, the words are no design.
+-- Some design begins with the first words, and none with one more of them; where there is no more, the words are no design.
 pub record IsFirstRefused (words : List Word) (passed : ℕ) : Type 0 where
   pub within : passed ≤ length words
   pub begun : Begins (take passed words)

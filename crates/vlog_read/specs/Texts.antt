@@ -49,7 +49,7 @@ RefusesText text (V5 x) = RefusesTree text (V5 x)
 RefusesText text (V6 x) = RefusesTree text (V6 x)
 RefusesText text OutOfMemory = Unit {0}
 
--- how many bytes stand before the word behind so many
+-- the number of bytes before a word, and before the end where there is no word
 abbrev pub from_of : Option Lexeme → ℕ → ℕ
 from_of None end = end
 from_of (Some l) end = l.from

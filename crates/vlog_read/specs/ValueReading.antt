@@ -1,4 +1,4 @@
--- What a reader is behind each word of a value, or none where it refuses the word.
+-- The reader after each word of a value, or none where it refuses the word.
 use Rattle.std.specs.Prelude.{ℕ, Bool, ◌&&◌, nat_le, if◌then◌else◌, List, [], ◌∷◌, ◌++◌, length, Option, Some, None, codes, bytes_eq}
 use Rattle.vlog_tree.specs.declared.tree.Atom.{Atom}
 use Rattle.vlog_tree.specs.declared.tree.Atom.TheVariants.{Net, Part}
@@ -151,7 +151,7 @@ concat_next d y atoms w =
 abbrev pub step_behind : ModuleDraft → Steps → Step → Reader
 step_behind d s x = behind Semicolon (Block (StepStart d (with_step s x)))
 
--- behind an atom that is whole
+-- after an atom that is whole
 abbrev pub after_atom : ModuleDraft → Purpose → Atom → Reader
 after_atom d (First y) a = at (Value (ValueNext d y a))
 after_atom d (Inverted y) a = driven d Semicolon y (Invert a)

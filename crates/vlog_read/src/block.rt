@@ -1,4 +1,4 @@
-// Clocked blocks, from left to right. Steps that stand in each other are one flat list, so nothing goes deep.
+// Clocked blocks, from left to right. Nested steps are one flat list, so nothing goes deep.
 
 ghost use Rattle.std.specs.Prelude.{◌≡◌, ◌∷◌, IfOk};
 ghost use Rattle.vlog_read.specs.BlockReading as spec;
@@ -10,7 +10,7 @@ use tapa_base::Text;
 use vlog_lex::{Coming, Listed, Parts, is_name_word, name_of};
 use vlog_tree::{Block, Item, Step};
 
-/// The end of a part: behind it an `else` may come, unless it is one.
+/// The end of a part: after it an `else` may come, unless it is one.
 fn part_ended(
     alloc: Global,
     draft: Held<ModuleDraft>,
@@ -67,7 +67,7 @@ pub fn step_start(
     }
 }
 
-/// Behind the end of the part of an `if`: its `else`, or what stands behind the `if`.
+/// After the end of the part of an `if`: its `else`, or what comes after the `if`.
 pub fn after_end(
     alloc: Global,
     draft: Held<ModuleDraft>,

@@ -33,7 +33,7 @@ use vlog_tree::Module;
 /// Why words are no design.
 #[derive(Drop)]
 pub enum ParseFault {
-    /// How many words stand before the first that no design goes on with: all, where more would have to come.
+    /// How many words come before the first that no design goes on with: all, where more would have to come.
     Refused(usize),
     /// Memory is short. Nothing is said of the words.
     OutOfMemory,
@@ -223,7 +223,7 @@ fn word_at(text: &[u8], lexeme: Lexeme) -> &[u8]
 }
 
 /// The modules of the words of a text, with numbers cut where the rule on widths refuses all that are larger; or else how many
-/// words stand before the first that no design goes on with. One pass, without recursion.
+/// words come before the first that no design goes on with. One pass, without recursion.
 pub fn parse(alloc: Global, text: &[u8], lexemes: &[Lexeme]) -> Result<Vec<Module>, ParseFault>
     ensures tree { IfOk result (λ modules. (ms : List ModuleTree) × SpellsDesign ms (words_at text.now lexemes.now) × (modules.items ≡ map clamped ms)) }
     ensures refused { IfErr result (λ e. Refuses (words_at text.now lexemes.now) e) }

@@ -136,7 +136,7 @@ pub fn instance_name(
     Ok(Some(Reader::item(Coming::ParenDot, ItemState::ConnectionPort(draft, joining))))
 }
 
-/// The port that is joined by its name (IEEE 1364-2005, 12.3.6).
+/// The port that is connected by its name (IEEE 1364-2005, 12.3.6).
 pub fn connection_port(
     alloc: Global,
     draft: Held<ModuleDraft>,
@@ -155,7 +155,7 @@ pub fn connection_port(
     )))
 }
 
-/// The net that a port is joined to.
+/// The net that a port is connected to.
 pub fn connection_net(
     alloc: Global,
     draft: Held<ModuleDraft>,

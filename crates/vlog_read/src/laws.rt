@@ -18,8 +18,8 @@ pub fn law_one_place()
     ensures { (text : List ℕ) (place other : PlaceTree) → IsRefusedAt text place → IsRefusedAt text other → place ≡ other }
 {}
 
-/// What is printed of a design is read as that design, with its top: the text has no other tree, and nothing but want of memory
-/// stands against it.
+/// What is printed of a design is read as that design, with its top: the text has no other tree, and only want of memory
+/// refuses it.
 pub fn law_printed()
     ensures same { (d e : DesignTree) → IsDesign d.modules d.top → IsDesign e.modules e.top → HasTree (spelling d.modules) e.modules → e ≡ d }
     ensures taken { (d : DesignTree) (e : VFaultTree) → IsDesign d.modules d.top → RefusesText (spelling d.modules) e → e ≡ fault.OutOfMemory }

@@ -85,7 +85,7 @@ pub fn range_high(draft: Held<ModuleDraft>, declared: Declared, word: &[u8]) -> 
     }
 }
 
-/// A reader behind the name of a port.
+/// A reader after the name of a port.
 fn port_named(
     draft: Held<ModuleDraft>,
     direction: Direction,
@@ -102,7 +102,7 @@ fn port_named(
     Ok(Reader::head(Coming::Nothing, HeadState::PortNext(draft)))
 }
 
-/// A reader behind a range and a name.
+/// A reader after a range and a name.
 fn named(
     draft: Held<ModuleDraft>,
     declared: Declared,

@@ -15,7 +15,7 @@ use vlog_design::Design;
 use vlog_lex::{Words, place_at, scan};
 use vlog_tree::{Module, VFault};
 
-/// How many bytes stand before the word behind so many, or before the end of what is cut into words.
+/// The number of bytes before the next word, after the given number of words; or before the end of what is cut into words.
 fn bytes_before(words: &Words, passed: usize) -> u32
     ensures { result ≡ refused_at words.now.lexemes.items passed words.now.end }
 {
@@ -25,7 +25,7 @@ fn bytes_before(words: &Words, passed: usize) -> u32
     }
 }
 
-/// The words are refused behind so many.
+/// The fault of the first word that is refused, after the given number of words.
 fn refused(text: &[u8], words: &Words, passed: usize) -> VFault
     requires few { length text.now < 2 ^ 32 - 1 }
     requires scan { IsScan text.now words.now.lexemes.items words.now.end }
@@ -36,7 +36,7 @@ fn refused(text: &[u8], words: &Words, passed: usize) -> VFault
     VFault::V1(place_at(text, at))
 }
 
-/// The words spell modules, up to where nothing more stands.
+/// The design of words that spell modules, or the fault at the first byte that begins no word.
 fn checked(
     alloc: Global,
     text: &[u8],
@@ -56,9 +56,9 @@ fn checked(
     Design::of(alloc, modules)
 }
 
-/// The design of a text, which is its one tree; or else why there is none. `VFault::V1` tells the place of the first word that no
-/// design goes on with, of the first byte that begins no word, or behind the last byte where more would have to come: some design
-/// begins with the words before it. `V2` to `V6` tell the first name by the tree. Numbers may have as many digits as one likes.
+/// The design of a text, which is its one tree; or else why there is none. `VFault::V1` has the place of the first word that no
+/// design goes on with, of the first byte that begins no word, or after the last byte where more would have to come: some design
+/// begins with the words before it. `V2` to `V6` have the first name by the tree. Numbers may have any number of digits.
 pub fn read(alloc: Global, text: &[u8]) -> Result<Design, VFault>
     requires { length text.now < 2 ^ 32 - 1 }
     ensures refused { IfErr result (λ e. RefusesText text.now e) }

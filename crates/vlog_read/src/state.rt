@@ -116,7 +116,7 @@ pub enum State {
     Block(BlockState),
 }
 
-/// What must come, and what is chosen behind that. It is moved at each word, so what is read so far is held elsewhere.
+/// What must come, and what is chosen after that. It is moved at each word, so what is read so far is kept elsewhere.
 #[derive(Drop)]
 pub struct Reader {
     pub coming: Coming,
@@ -157,7 +157,7 @@ impl Reader {
         Reader { coming, state }
     }
 
-    /// A reader in front of an atom.
+    /// A reader before an atom.
     pub fn atom(
         alloc: Global,
         coming: Coming,
@@ -170,7 +170,7 @@ impl Reader {
         Ok(Reader::value(coming, ValueState::AtomStart(draft, purpose)))
     }
 
-    /// A reader behind an item, before the words that end it.
+    /// A reader after an item, before the words that end it.
     pub fn item_behind(
         coming: Coming,
         draft: Held<ModuleDraft>,
@@ -225,7 +225,7 @@ pub fn discard(state: State) {
 }
 
 impl Reader {
-    /// The reader behind this word, where it must come.
+    /// The reader after this word, where it must come.
     pub fn expected(self, word: &[u8]) -> Option<Reader>
         ensures { result ≡ spec.expected self.coming self.state word.now }
     {

@@ -10,7 +10,7 @@ use tapa_base::Text;
 use vlog_lex::{Coming, Listed, is_name_word, is_number, literal_of, name_of, width_at};
 use vlog_tree::{Atom, Atoms, BinaryOp, Item, Step, Value};
 
-/// A reader behind what drives a net, and the words that end it.
+/// A reader after what drives a net, and the words that end it.
 fn driven(
     draft: Held<ModuleDraft>,
     coming: Coming,
@@ -188,7 +188,7 @@ pub fn value_next(
     }
 }
 
-/// Behind an atom of a concatenation: one more, or the end behind two at least.
+/// After an atom of a concatenation: one more, or the end after two at least.
 pub fn concat_next(
     alloc: Global,
     draft: Held<ModuleDraft>,
@@ -209,7 +209,7 @@ pub fn concat_next(
     }
 }
 
-/// The word behind what drives a net.
+/// The word after what drives a net.
 fn driven_by(
     draft: Held<ModuleDraft>,
     coming: Coming,
@@ -223,7 +223,7 @@ fn driven_by(
     Ok(reader.expected(word))
 }
 
-/// The semicolon behind what drives a net.
+/// The semicolon after what drives a net.
 fn ended(
     draft: Held<ModuleDraft>,
     net: Text,
@@ -235,7 +235,7 @@ fn ended(
     driven_by(draft, Coming::Semicolon, net, value, word)
 }
 
-/// The semicolon behind a step.
+/// The semicolon after a step.
 fn stepped(
     draft: Held<ModuleDraft>,
     steps: Held<Steps>,
@@ -277,7 +277,7 @@ fn store(memory: Text, index: Text, value: Atom) -> Step
     }
 }
 
-/// The colon behind the first of two atoms between which one is chosen.
+/// The colon after the first of two atoms between which one is chosen.
 fn first_chosen(
     alloc: Global,
     draft: Held<ModuleDraft>,
@@ -331,7 +331,7 @@ pub fn atom_end(
     }
 }
 
-/// Behind a name where an atom stands: a part of the net, the cell of a memory, or the whole net.
+/// After a name that begins an atom: a part of the net, the cell of a memory, or the whole net.
 pub fn atom_next(
     alloc: Global,
     draft: Held<ModuleDraft>,
@@ -348,7 +348,7 @@ pub fn atom_next(
     }
 }
 
-/// The index of a memory, which stands alone behind the net that it drives.
+/// The index of a memory, whose cell alone drives the net.
 fn cell_index(
     alloc: Global,
     draft: Held<ModuleDraft>,

@@ -11,8 +11,8 @@ use Rattle.vlog_values.specs.declared.moment.Circuit.{Circuit}
 use Rattle.vlog_values.specs.declared.moment.Held.{Held}
 use Rattle.vlog_values.specs.declared.moment.Moment.{Moment}
 use Rattle.vlog_ref_cycle.specs.Numbers.{all_numbers, number_at}
-use Rattle.vlog_ref_cycle.specs.Moments.{HeldIs, IsRunAt, run_at, InRuns}
-use Rattle.vlog_ref_cycle.specs.Next.{item_nets, reads_of, ReadsAre, Fits, ShowsNet, ShowsCells, Shows, IsAlike, IsCopy, net_shape, memory_shape}
+use Rattle.vlog_ref_cycle.specs.Moments.{HeldIs, IsRunAt, run_at, InEachRun}
+use Rattle.vlog_ref_cycle.specs.Next.{item_nets, reads_of, ReadsAre, Fits, ShowsNet, TellsCells, Shows, IsAlike, IsCopy, net_shape, memory_shape}
 use Rattle.vlog_ref_cycle.proofs.Later.{held_next}
 
 copies_fit : (s : Sizes) (ks js : List MemoryCells) → AllTwo IsCopy ks js → AllByRecursion (λ (k : MemoryCells). s.cells k.name ≡ length k.cells.items) ks → AllByRecursion (λ (k : MemoryCells). s.cells k.name ≡ length k.cells.items) js
@@ -22,11 +22,11 @@ copies_fit s (k ∷ ks) [] i h = absurd i
 copies_fit s (k ∷ ks) (j ∷ js) i h =
     (ap (λ x. s.cells x) i.0.0 ∙ h.0 ∙ ap (λ l. length l) (sym i.0.1), copies_fit s ks js i.1 h.1)
 
-copy_cells : (c : Cycle) (k j : MemoryCells) → IsCopy k j → ShowsCells c k → ShowsCells c j
+copy_cells : (c : Cycle) (k j : MemoryCells) → IsCopy k j → TellsCells c k → TellsCells c j
 copy_cells c k j i h a low =
     ap (λ x. c.cell x a) i.0 ∙ h a (subst (λ l. a < length l) i.1 low) ∙ ap (λ l. get_or l a 0) (sym i.1)
 
-copies_show : (c : Cycle) (ks js : List MemoryCells) → AllTwo IsCopy ks js → AllByRecursion (ShowsCells c) ks → AllByRecursion (ShowsCells c) js
+copies_show : (c : Cycle) (ks js : List MemoryCells) → AllTwo IsCopy ks js → AllByRecursion (TellsCells c) ks → AllByRecursion (TellsCells c) js
 copies_show c [] [] i h = tt
 copies_show c [] (j ∷ js) i h = absurd i
 copies_show c (k ∷ ks) [] i h = absurd i
@@ -52,7 +52,7 @@ module _ (h k j : Held) (path : k.path.items ≡ h.path.items) (nets : k.nets.it
   -- what blocks leave on a copy is what the original holds in the next cycle
   pub copy_next : (c : Circuit) (now : Moment) (m : ModuleTree) → module_at c.modules.now c.top.now h.path.items ≡ Some m → (depth : ℕ) (ns : List NetNumber) → all_numbers (number_at c now depth h.path.items) (reads_of m) ≡ Some ns
       → ((s : Sizes) (old next : Cycle) → ReadsAre ns old (flat_map item_nets m.items) → Fits s k → Shows k next → Shows j (run_items s old m.items next))
-      → InRuns c now (λ env nets. HeldIs c.modules.now c.top.now (nets now.cycle) h → HeldIs c.modules.now c.top.now (nets (suc now.cycle)) j)
+      → InEachRun c now (λ env nets. HeldIs c.modules.now c.top.now (nets now.cycle) h → HeldIs c.modules.now c.top.now (nets (suc now.cycle)) j)
   copy_next c now m at_m depth ns e leaves = λ env run q i. copied env run q i where
     copied : (env : Environment) (run : ℕ → Path → Cycle) → IsRunAt c now env run → HeldIs c.modules.now c.top.now (run now.cycle) h → HeldIs c.modules.now c.top.now (run (suc now.cycle)) j
     copied env run (run_at r a) i =

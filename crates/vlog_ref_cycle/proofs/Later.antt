@@ -18,8 +18,8 @@ use Rattle.vlog_values.specs.declared.moment.OutsideMemory.{OutsideMemory}
 use Rattle.vlog_values.specs.declared.moment.Held.{Held}
 use Rattle.vlog_values.specs.declared.moment.Moment.{Moment}
 use Rattle.vlog_ref_cycle.specs.Numbers.{all_numbers, net_within}
-use Rattle.vlog_ref_cycle.specs.Moments.{RegisterIs, MemoryIs, HeldIs, ScalarIs, OutsideIs, IsAt, IsRunAt, run_at, InRuns}
-use Rattle.vlog_ref_cycle.specs.Next.{stored_cells, IsAfterStore, item_nets, reads_of, ReadsAre, Fits, ShowsNet, ShowsCells, Shows, IsAlike, net_shape, memory_shape}
+use Rattle.vlog_ref_cycle.specs.Moments.{RegisterIs, MemoryIs, HeldIs, ScalarIs, OutsideIs, IsAt, IsRunAt, run_at, InEachRun}
+use Rattle.vlog_ref_cycle.specs.Next.{stored_cells, IsAfterStore, item_nets, reads_of, ReadsAre, Fits, ShowsNet, TellsCells, Shows, IsAlike, net_shape, memory_shape}
 use Rattle.vlog_ref_cycle.proofs.Options.{cons_same}
 use Rattle.vlog_ref_cycle.proofs.Sound.{numbers_read, read_found}
 use Rattle.vlog_ref_cycle.proofs.Within.{number_is}
@@ -29,7 +29,7 @@ module _ (items : List Item) (c d r : Cycle) where
   shows_registers [] h = tt
   shows_registers (k ∷ ks) h = (h.0.1, shows_registers ks h.1)
 
-  shows_memories : (ks : List MemoryCells) → AllByRecursion (MemoryIs items c) ks → AllByRecursion (ShowsCells c) ks
+  shows_memories : (ks : List MemoryCells) → AllByRecursion (MemoryIs items c) ks → AllByRecursion (TellsCells c) ks
   shows_memories [] h = tt
   shows_memories (k ∷ ks) h = (h.0.1, shows_memories ks h.1)
 
@@ -49,7 +49,7 @@ module _ (items : List Item) (c d r : Cycle) where
         let has : Has items (Reg k.bits k.name) = subst (λ z. Has items (Reg k.bits z)) (sym a) (subst (λ z. Has items (Reg z n.name)) (sym b) h.0.0) in
         ((has, takes_net k.bits k.name has ∙ s.0), registers_next rs ks q.1 h.1 s.1)
 
-    memories_next : (rs ks : List MemoryCells) → map memory_shape ks ≡ map memory_shape rs → AllByRecursion (MemoryIs items c) rs → AllByRecursion (ShowsCells r) ks → AllByRecursion (MemoryIs items d) ks
+    memories_next : (rs ks : List MemoryCells) → map memory_shape ks ≡ map memory_shape rs → AllByRecursion (MemoryIs items c) rs → AllByRecursion (TellsCells r) ks → AllByRecursion (MemoryIs items d) ks
     memories_next [] [] e h s = tt
     memories_next [] (k ∷ ks) e h s = cc
     memories_next (n ∷ rs) [] e h s = cc
@@ -110,9 +110,9 @@ module _ (env : Environment) (run : ℕ → Cycle) (n : ℕ) (labels : List Port
 
 -- a moment that is made of what stands in the next cycle is the next moment
 pub at_next : (c : Circuit) (now after : Moment) → after.cycle ≡ now.cycle + 1 → after.scalars.items ≡ now.scalars.items
-    → InRuns c now (λ env nets. AllByRecursion (HeldIs c.modules.now c.top.now (nets (suc now.cycle))) after.held.items)
-    → InRuns c now (λ env nets. AllTwo (IsAfterStore (nets now.cycle [])) now.outside.items after.outside.items)
-    → InRuns c now (λ env nets. IsAt c.modules.now c.top.now env nets after)
+    → InEachRun c now (λ env nets. AllByRecursion (HeldIs c.modules.now c.top.now (nets (suc now.cycle))) after.held.items)
+    → InEachRun c now (λ env nets. AllTwo (IsAfterStore (nets now.cycle [])) now.outside.items after.outside.items)
+    → InEachRun c now (λ env nets. IsAt c.modules.now c.top.now env nets after)
 at_next c now after e s held outside = λ env nets q. next_at env nets q (at_of env nets q) where
   at_of : (env : Environment) (nets : ℕ → Path → Cycle) → IsRunAt c now env nets → IsAt c.modules.now c.top.now env nets now
   at_of env nets (run_at r a) = a

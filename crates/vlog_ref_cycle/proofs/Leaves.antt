@@ -12,7 +12,7 @@ use Rattle.vlog_tree.specs.Table.{Name}
 use Rattle.vlog_tree.specs.Grounded.{AllTwo}
 use Rattle.vlog_values.specs.declared.numbers.NetNumber.{NetNumber}
 use Rattle.vlog_values.specs.declared.numbers.MemoryCells.{MemoryCells}
-use Rattle.vlog_ref_cycle.specs.Next.{put_net, IsStored, ShowsNet, ShowsCells, net_shape, memory_shape}
+use Rattle.vlog_ref_cycle.specs.Next.{put_net, IsStored, ShowsNet, TellsCells, net_shape, memory_shape}
 
 pub shows_put : (c : Cycle) (x : Name) (v : ℕ) (ns : List NetNumber) → AllByRecursion (ShowsNet c) ns → AllByRecursion (ShowsNet (put x v c)) (map (put_net x v) ns)
 shows_put c x v [] h = tt
@@ -47,7 +47,7 @@ module _ (s : Sizes) (m : Name) (a v : ℕ) (c : Cycle) where
   size_at k e true n b = ap (λ w. true && (b == a) && nat_lt a w) (ap (λ z. s.cells z) (sym ((bytes_decides k.name m).0 n)) ∙ e)
   size_at k e false n b = refl
 
-  one_stored : (k j : MemoryCells) → IsStored m a v k j → s.cells k.name ≡ length k.cells.items → ShowsCells c k → ShowsCells (store s m a v c) j
+  one_stored : (k j : MemoryCells) → IsStored m a v k j → s.cells k.name ≡ length k.cells.items → TellsCells c k → TellsCells (store s m a v c) j
   one_stored k j i e h b low =
       let cells = cond (bytes_eq k.name m && nat_lt a (length k.cells.items)) (set k.cells.items a v) k.cells.items in
       let below : b < length cells = subst (λ z. b < length z) i.1 low in
@@ -56,7 +56,7 @@ module _ (s : Sizes) (m : Name) (a v : ℕ) (c : Cycle) where
       ∙ stored_case k.cells.items (c.cell k.name) a v h (bytes_eq k.name m) (nat_lt a (length k.cells.items)) refl b below
       ∙ ap (λ z. get_or z b 0) (sym i.1)
 
-  pub shows_store : (ks js : List MemoryCells) → AllTwo (IsStored m a v) ks js → AllByRecursion (λ (k : MemoryCells). s.cells k.name ≡ length k.cells.items) ks → AllByRecursion (ShowsCells c) ks → AllByRecursion (ShowsCells (store s m a v c)) js
+  pub shows_store : (ks js : List MemoryCells) → AllTwo (IsStored m a v) ks js → AllByRecursion (λ (k : MemoryCells). s.cells k.name ≡ length k.cells.items) ks → AllByRecursion (TellsCells c) ks → AllByRecursion (TellsCells (store s m a v c)) js
   shows_store [] [] i e h = tt
   shows_store [] (j ∷ js) i e h = absurd i
   shows_store (k ∷ ks) [] i e h = absurd i

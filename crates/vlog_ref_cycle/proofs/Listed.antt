@@ -7,7 +7,7 @@ use Rattle.vlog_values.specs.declared.moment.Circuit.{Circuit}
 use Rattle.vlog_values.specs.declared.moment.Held.{Held}
 use Rattle.vlog_values.specs.declared.moment.OutsideMemory.{OutsideMemory}
 use Rattle.vlog_values.specs.declared.moment.Moment.{Moment}
-use Rattle.vlog_ref_cycle.specs.Moments.{HeldIs, IsAt, IsRunAt, run_at, InRuns}
+use Rattle.vlog_ref_cycle.specs.Moments.{HeldIs, IsAt, IsRunAt, run_at, InEachRun}
 use Rattle.vlog_tree.specs.Cycle.{Cycle, Path}
 use Rattle.vlog_tree.specs.Environment.{Environment}
 use Rattle.vlog_ref_cycle.specs.Next.{IsAfterStore}
@@ -29,10 +29,10 @@ passed f xs i x b low is t inv = step (λ r. list_all f r) xs i x b low is inv �
 module _ (c : Circuit) (now : Moment) (i : ℕ) where
   -- one more instance
   pub held_more : (h k : Held) (out more : List Held) → i < length now.held.items → h ≡ get_or now.held.items i h
-      → InRuns c now (λ env nets. AllByRecursion (HeldIs c.modules.now c.top.now (nets (suc now.cycle))) out)
-      → InRuns c now (λ env nets. HeldIs c.modules.now c.top.now (nets now.cycle) h → HeldIs c.modules.now c.top.now (nets (suc now.cycle)) k)
+      → InEachRun c now (λ env nets. AllByRecursion (HeldIs c.modules.now c.top.now (nets (suc now.cycle))) out)
+      → InEachRun c now (λ env nets. HeldIs c.modules.now c.top.now (nets now.cycle) h → HeldIs c.modules.now c.top.now (nets (suc now.cycle)) k)
       → more ≡ out ++ k ∷ []
-      → InRuns c now (λ env nets. AllByRecursion (HeldIs c.modules.now c.top.now (nets (suc now.cycle))) more)
+      → InEachRun c now (λ env nets. AllByRecursion (HeldIs c.modules.now c.top.now (nets (suc now.cycle))) more)
   held_more h k out more low is inv one e = λ env nets q. more_held env nets q (at_of env nets q) where
     at_of : (env : Environment) (nets : ℕ → Path → Cycle) → IsRunAt c now env nets → IsAt c.modules.now c.top.now env nets now
     at_of env nets (run_at r a) = a
@@ -45,9 +45,9 @@ module _ (c : Circuit) (now : Moment) (i : ℕ) where
 
   -- one more memory around the design
   pub outside_more : (m k : OutsideMemory) (out more : List OutsideMemory) → i < length now.outside.items → m ≡ get_or now.outside.items i m
-      → InRuns c now (λ env nets. AllTwo (IsAfterStore (nets now.cycle [])) (take i now.outside.items) out)
-      → InRuns c now (λ env nets. IsAfterStore (nets now.cycle []) m k)
+      → InEachRun c now (λ env nets. AllTwo (IsAfterStore (nets now.cycle [])) (take i now.outside.items) out)
+      → InEachRun c now (λ env nets. IsAfterStore (nets now.cycle []) m k)
       → more ≡ out ++ k ∷ []
-      → InRuns c now (λ env nets. AllTwo (IsAfterStore (nets now.cycle [])) (take (i + 1) now.outside.items) more)
+      → InEachRun c now (λ env nets. AllTwo (IsAfterStore (nets now.cycle [])) (take (i + 1) now.outside.items) more)
   outside_more m k out more low is inv one e = λ env nets q.
       taken_more (IsAfterStore (nets now.cycle [])) now.outside.items i m out more k low is (inv env nets q) (one env nets q) e

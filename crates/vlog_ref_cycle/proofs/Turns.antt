@@ -21,7 +21,7 @@ use Rattle.vlog_values.specs.declared.numbers.NetNumber.{NetNumber}
 use Rattle.vlog_values.specs.declared.numbers.MemoryCells.{MemoryCells}
 use Rattle.vlog_values.specs.Numbers.{net_in, cycle_of}
 use Rattle.vlog_values.specs.declared.moment.Held.{Held}
-use Rattle.vlog_ref_cycle.specs.Next.{put_net, IsStored, ShowsNet, ShowsCells, Shows, ReadsAre, Fits, IsAlike, memory_shape, StepLeaves}
+use Rattle.vlog_ref_cycle.specs.Next.{put_net, IsStored, ShowsNet, TellsCells, Shows, ReadsAre, Fits, IsAlike, memory_shape, StepLeaves}
 use Rattle.vlog_ref_cycle.proofs.Options.{cons_same}
 use Rattle.vlog_ref_cycle.proofs.Leaves.{shows_put, shows_store}
 
@@ -77,10 +77,10 @@ module _ (old next : Cycle) (nets : List NetNumber) where
 
   -- what a write to a memory leaves
   pub store_leaves : (s : Sizes) (m x : Name) (a : Atom) (at v : ℕ) → at ≡ net_in nets x → v ≡ atom_value (cycle_of nets []) a → ReadsAre nets old (x ∷ atom_nets a)
-      → (ks js : List MemoryCells) → AllTwo (IsStored m at v) ks js → AllByRecursion (λ (k : MemoryCells). s.cells k.name ≡ length k.cells.items) ks → AllByRecursion (ShowsCells next) ks → AllByRecursion (ShowsCells (store s m (old.net x) (atom_value old a) next)) js
+      → (ks js : List MemoryCells) → AllTwo (IsStored m at v) ks js → AllByRecursion (λ (k : MemoryCells). s.cells k.name ≡ length k.cells.items) ks → AllByRecursion (TellsCells next) ks → AllByRecursion (TellsCells (store s m (old.net x) (atom_value old a) next)) js
   store_leaves s m x a at v e f reads ks js is fits h =
-      subst (λ b. AllByRecursion (ShowsCells (store s m b (atom_value old a) next)) js) (e ∙ sym (reads x (inl refl)))
-      (subst (λ w. AllByRecursion (ShowsCells (store s m at w next)) js) (f ∙ sym (atom_same old (cycle_of nets []) a (λ z q. reads z (inr q)))) (shows_store s m at v next ks js is fits h))
+      subst (λ b. AllByRecursion (TellsCells (store s m b (atom_value old a) next)) js) (e ∙ sym (reads x (inl refl)))
+      (subst (λ w. AllByRecursion (TellsCells (store s m at w next)) js) (f ∙ sym (atom_same old (cycle_of nets []) a (λ z q. reads z (inr q)))) (shows_store s m at v next ks js is fits h))
 
 module _ (s : Sizes) (old : Cycle) where
   -- a step that runs leaves what it writes, and one that does not run changes nothing

@@ -25,7 +25,7 @@ use Rattle.vlog_values.specs.declared.moment.Moment.{Moment}
 use Rattle.vlog_ref_cycle.specs.Sources.{RuleTree, SourceTree, held_at, assigned, output_of, joined_to, net_read, given_number, same_number, can_drive, rdata_source, ack_source, scalar_source, memory_of, input_source, outer_source, output_source, line_source, register_source, source_of}
 use Rattle.vlog_ref_cycle.specs.Numbers.{by_rule, all_numbers, net_within, number_at}
 use Rattle.vlog_values.specs.declared.moment.Circuit.{Circuit}
-use Rattle.vlog_ref_cycle.specs.Moments.{RegisterIs, MemoryIs, HeldIs, ScalarIs, OutsideIs, IsAt, IsRunAt, run_at, InRuns}
+use Rattle.vlog_ref_cycle.specs.Moments.{RegisterIs, MemoryIs, HeldIs, ScalarIs, OutsideIs, IsAt, IsRunAt, run_at, InEachRun}
 use Rattle.vlog_ref_cycle.proofs.Options.{and_then_some, map_some, cond_some}
 use Rattle.vlog_ref_cycle.proofs.Sound.{held_found, net_found, outside_found, driver_found, numbers_read, IsOutput, output_found, joined_found, Gives, given_gives, same_gives, cells_give, driver_gives}
 
@@ -168,7 +168,7 @@ module _ (ms : List ModuleTree) (top : ModuleTree) (env : Environment) (nets : �
       let u = and_then_some (all_numbers (net_within ms top now d t.0.path) t.0.reads) (by_rule t.0.rule) v t.2 in
       source_gives path x t.0 t.1 u.0 v (numbers_read (nets n t.0.path) (net_within ms top now d t.0.path) (λ y w k. number_is d t.0.path y w k) t.0.reads u.0 u.1) u.2
 
-pub runs_number : (c : Circuit) (now : Moment) (d : ℕ) (path : Path) (x : Name) (o : Option ℕ) → o ≡ number_at c now d path x → IfSome o (λ v. InRuns c now (λ env nets. (nets now.cycle path).net x ≡ v))
+pub runs_number : (c : Circuit) (now : Moment) (d : ℕ) (path : Path) (x : Name) (o : Option ℕ) → o ≡ number_at c now d path x → IfSome o (λ v. InEachRun c now (λ env nets. (nets now.cycle path).net x ≡ v))
 runs_number c now d path x None e = tt
 runs_number c now d path x (Some v) e = λ env nets q. at_run env nets q where
   at_run : (env : Environment) (nets : ℕ → Path → Cycle) → IsRunAt c now env nets → (nets now.cycle path).net x ≡ v

@@ -1,4 +1,4 @@
--- What it is for a run to be at a moment.
+-- What it is for a run to be in the state of a cycle snapshot.
 use Rattle.std.specs.Prelude.{◌≡◌, ℕ, ◌<◌, Bool, List, Some, length, get_or, slice_get, slice_index, slice_index_or, [], ◌&&◌, is_some}
 use Rattle.std.specs.List.{AllByRecursion}
 use Rattle.tapa_base.specs.declared.shape.Port.{Port}
@@ -50,20 +50,20 @@ pub record OutsideIs (env : Environment) (run : ℕ → Cycle) (n : ℕ) (labels
   pub cells : o.cells.items ≡ cells_at run o.name (slice_index_or env.memories place []) n
   pub bits : o.ready.items ≡ slice_index_or env.ready place []
 
--- a run in an environment is at this moment: all that stands in it is what the run has in its cycle
+-- a run in an environment is at this snapshot: all that the snapshot has is what the run has in its cycle
 pub record IsAt (ms : List ModuleTree) (top : ModuleTree) (env : Environment) (nets : ℕ → Path → Cycle) (now : Moment) : Type 0 where
   pub held : AllByRecursion (HeldIs ms top (nets now.cycle)) now.held.items
   pub scalars : AllByRecursion (ScalarIs env (shape_of top).scalars) now.scalars.items
   pub outside : AllByRecursion (OutsideIs env (λ n. nets n []) now.cycle (shape_of top).memories) now.outside.items
 
--- a run of a design in an environment that is at this moment
+-- a run of a design in an environment that is at this snapshot
 pub data IsRunAt (c : Circuit) (now : Moment) (env : Environment) (nets : ℕ → Path → Cycle) : Type 0 where
   run_at : RunsIn c.modules.now c.top.now env nets → IsAt c.modules.now c.top.now env nets now → IsRunAt c now env nets
 
--- what holds in each run, in any environment, that is at this moment
-abbrev pub InRuns : Circuit → Moment → (Environment → (ℕ → Path → Cycle) → Type 0) → Type 0
-InRuns c now P = (env : Environment) (nets : ℕ → Path → Cycle) → IsRunAt c now env nets → P env nets
+-- what is true of each run, in any environment, that is at this snapshot
+abbrev pub InEachRun : Circuit → Moment → (Environment → (ℕ → Path → Cycle) → Type 0) → Type 0
+InEachRun c now P = (env : Environment) (nets : ℕ → Path → Cycle) → IsRunAt c now env nets → P env nets
 
--- what a stream's wires have is known, by as many steps as a depth allows
+-- what a stream's wires have is known, in a number of steps up to a depth
 abbrev pub stream_known : Circuit → Moment → ℕ → Name → Bool
 stream_known c now d x = is_some (number_at c now d [] (s_wr x)) && is_some (number_at c now d [] (s_rdy x)) && is_some (number_at c now d [] (s_din x))

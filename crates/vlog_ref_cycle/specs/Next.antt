@@ -43,11 +43,11 @@ item_nets (Instance m i connections) = []
 abbrev pub ShowsNet : Cycle → NetNumber → Type 0
 ShowsNet c n = c.net n.name ≡ n.number
 
-abbrev pub ShowsCells : Cycle → MemoryCells → Type 0
-ShowsCells c m = (a : ℕ) → a < length m.cells.items → c.cell m.name a ≡ get_or m.cells.items a 0
+abbrev pub TellsCells : Cycle → MemoryCells → Type 0
+TellsCells c m = (a : ℕ) → a < length m.cells.items → c.cell m.name a ≡ get_or m.cells.items a 0
 
 abbrev pub Shows : Held → Cycle → Type 0
-Shows h c = AllByRecursion (ShowsNet c) h.nets.items × AllByRecursion (ShowsCells c) h.memories.items
+Shows h c = AllByRecursion (ShowsNet c) h.nets.items × AllByRecursion (TellsCells c) h.memories.items
 
 -- the same registers and memories, whatever their numbers
 abbrev pub net_shape : NetNumber → Name × ℕ
@@ -67,7 +67,7 @@ pub record IsSameMemory (o j : OutsideMemory) : Type 0 where
   pub ready : j.ready.items ≡ o.ready.items
   pub cells : length j.cells.items ≡ length o.cells.items
 
--- a later moment has all that this one has, whatever the numbers
+-- a later snapshot has all that this one has, whatever the numbers
 pub record IsKept (now after : Moment) : Type 0 where
   pub held : AllTwo IsAlike now.held.items after.held.items
   pub scalars : after.scalars.items ≡ now.scalars.items
@@ -88,7 +88,7 @@ IsCopy k j = (j.name ≡ k.name) × (j.cells.items ≡ k.cells.items)
 abbrev pub ReadsAre : List NetNumber → Cycle → List Name → Type 0
 ReadsAre nets old names = (z : Name) → Has names z → old.net z ≡ net_in nets z
 
--- memories have as many cells as the sizes say
+-- each memory has the number of cells that the sizes say
 abbrev pub Fits : Sizes → Held → Type 0
 Fits s h = AllByRecursion (λ (k : MemoryCells). s.cells k.name ≡ length k.cells.items) h.memories.items
 

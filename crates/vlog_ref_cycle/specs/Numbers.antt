@@ -1,4 +1,4 @@
--- The number of a net, by as many steps as a depth allows.
+-- The number of a net, in a number of steps up to a depth.
 use Rattle.std.specs.Prelude.{ℕ, zero, suc, List, [], ◌∷◌, Option, Some, None, unwrap_or, slice_get, nat_le, if◌then◌else◌}
 use Rattle.std.specs.Option.{option_map}
 use Rattle.vlog_tree.specs.Form.{ModuleTree}

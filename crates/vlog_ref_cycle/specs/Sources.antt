@@ -50,7 +50,7 @@ abbrev pub assigned : List Item → Name → Option Value
 assigned [] x = None
 assigned (it ∷ items) x = or_else (assigned_in it x) (assigned items x)
 
--- the first port, no input, that is joined to a net
+-- the first port, no input, that is connected to a net
 abbrev pub connection_out : List Declaration → List Connection → Name → Option Name
 connection_out ports [] x = None
 connection_out ports (l ∷ ls) x = if bytes_eq l.net x && not (net_kind_is_input (net_kind_of ports l.port)) then Some l.port else connection_out ports ls x
@@ -71,7 +71,7 @@ output_of ms (it ∷ items) x = or_else (output_in ms it x) (output_of ms items 
 abbrev pub pair_of : Bor Name × Bor Name → Name × Name
 pair_of p = (p.0.now, p.1.now)
 
--- the net that a port is joined to
+-- the net that a port is connected to
 abbrev pub connection_in : List Connection → Name → Option Name
 connection_in [] x = None
 connection_in (l ∷ ls) x = if bytes_eq l.port x then Some l.net else connection_in ls x
@@ -84,7 +84,7 @@ joined_in (Reg w y) i x = None
 joined_in (Memory w y n) i x = None
 joined_in (Always b) i x = None
 
--- the net that a port of an instance is joined to
+-- the net that a port of an instance is connected to
 abbrev pub joined_to : List Item → Name → Name → Option Name
 joined_to [] i x = None
 joined_to (it ∷ items) i x = or_else (joined_in it i x) (joined_to items i x)
@@ -135,7 +135,7 @@ given_number n = record { path = []; reads = []; rule = given n }
 abbrev pub same_number : Path → Name → SourceTree
 same_number path x = record { path = path; reads = record { name = x; bits = 0; number = 0 } ∷ []; rule = same }
 
--- a driver's value, where each name in it stands for what has a width
+-- a driver's value, where each name in it denotes what has a width
 abbrev pub can_drive : List Declaration → List MemoryCells → Name → Value → Bool
 can_drive ds memories x e = net_kind_is_read (net_kind_of ds x) && are_read ds (map (net_read ds) (value_nets e)) && has_cells memories e
 
@@ -160,13 +160,13 @@ abbrev pub scalar_source : List NetNumber → Option Name → Option SourceTree 
 scalar_source vs None others = others
 scalar_source vs (Some x) others = option_map (λ (v : NetNumber). given_number v.number) (first_net vs x)
 
--- what stands around the design gives an input of the top
+-- the environment of the design gives an input of the top
 abbrev pub input_source : Moment → Name → Option SourceTree
 input_source now x =
     if bytes_eq x rst then Some (given_number (if now.cycle == 0 then 1 else 0))
     else scalar_source now.scalars.items (scalar_of x) (ack_source now.cycle now.outside.items (ack_of x) (rdata_source now.outside.items (rdata_of x)))
 
--- an input of an instance is joined to a net around it
+-- an input of an instance is connected to a net of the module around it
 abbrev pub outer_source : List ModuleTree → ModuleTree → Moment → Path → Name → Option SourceTree
 outer_source ms top now [] x = input_source now x
 outer_source ms top now (i ∷ path) x = and_then (module_at ms top path) (λ m. option_map (same_number path) (joined_to m.items i x))
@@ -183,7 +183,7 @@ abbrev pub register_source : Option NetNumber → Option SourceTree → Option S
 register_source None others = others
 register_source (Some r) others = Some (given_number r.number)
 
--- A net is a register, or it has the number of its driver, of an output of an instance, or of what it is joined to outside.
+-- A net is a register, or it has the number of its driver, of an output of an instance, or of what it is connected to outside.
 abbrev pub source_of : List ModuleTree → ModuleTree → Moment → Path → Name → Option SourceTree
 source_of ms top now path x =
     and_then (held_at now.held.items path) (λ h. and_then (module_at ms top path) (λ m.

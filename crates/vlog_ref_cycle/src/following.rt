@@ -4,7 +4,7 @@ ghost use Rattle.std.specs.Prelude.{◌≡◌, ◌==◌, ◌&&◌, if◌then◌e
 ghost use Rattle.std.specs.List.{list_all, AllByRecursion};
 ghost use Rattle.vlog_tree.specs.Grounded.{AllTwo};
 ghost use Rattle.vlog_tree.specs.Environment.{set_cell};
-ghost use Rattle.vlog_ref_cycle.specs.Moments.{InRuns, HeldIs, IsAt};
+ghost use Rattle.vlog_ref_cycle.specs.Moments.{InEachRun, HeldIs, IsAt};
 ghost use Rattle.vlog_ref_cycle.specs.Next.{held_known, outside_known, next_known, stored_cells, IsAfterStore, IsCopy, IsAlike, IsSameMemory, IsKept};
 
 use crate::blocks::{block_reads, run_items};
@@ -72,7 +72,7 @@ fn held_after(
 ) -> Result<Option<Held>, AllocError>
     ensures known { IfOk result (λ o. is_some o ≡ held_known design.now now.now depth h.now) }
     ensures alike { IfOk result (λ o. IfSome o (λ k. IsAlike h.now k)) }
-    ensures value { IfOk result (λ o. IfSome o (λ k. InRuns design.now now.now
+    ensures value { IfOk result (λ o. IfSome o (λ k. InEachRun design.now now.now
         (λ env nets. HeldIs design.now.modules.now design.now.top.now (nets now.now.cycle) h.now
         → HeldIs design.now.modules.now design.now.top.now (nets (suc now.now.cycle)) k))) }
 {
@@ -99,7 +99,7 @@ fn all_held_after(
 ) -> Result<Option<Vec<Held>>, AllocError>
     ensures known { IfOk result (λ o. is_some o ≡ list_all (held_known design.now now.now depth) now.now.held.items) }
     ensures alike { IfOk result (λ o. IfSome o (λ v. AllTwo IsAlike now.now.held.items v.items)) }
-    ensures value { IfOk result (λ o. IfSome o (λ v. InRuns design.now now.now (λ env nets. AllByRecursion (HeldIs design.now.modules.now design.now.top.now (nets (suc now.now.cycle))) v.items))) }
+    ensures value { IfOk result (λ o. IfSome o (λ v. InEachRun design.now now.now (λ env nets. AllByRecursion (HeldIs design.now.modules.now design.now.top.now (nets (suc now.now.cycle))) v.items))) }
 {
     let mut out = Vec::new(alloc);
     for h in &now.held {
@@ -131,7 +131,7 @@ fn top_cells(
 ) -> Result<Option<Vec<u128>>, AllocError>
     ensures known { IfOk result (λ o. is_some o ≡ outside_known design.now now.now depth m.now) }
     ensures size { IfOk result (λ o. IfSome o (λ v. length v.items ≡ length m.now.cells.items)) }
-    ensures value { IfOk result (λ o. IfSome o (λ v. InRuns design.now now.now (λ env nets. v.items ≡ stored_cells (nets now.now.cycle []) m.now.name m.now.cells.items))) }
+    ensures value { IfOk result (λ o. IfSome o (λ v. InEachRun design.now now.now (λ env nets. v.items ≡ stored_cells (nets now.now.cycle []) m.now.name m.now.cells.items))) }
 {
     let label = m.name.bytes();
     let Some(ack) = top_number(alloc, design, now, ack_name(alloc, label)?, depth)? else {
@@ -160,7 +160,7 @@ fn outside_after(
 ) -> Result<Option<OutsideMemory>, AllocError>
     ensures known { IfOk result (λ o. is_some o ≡ outside_known design.now now.now depth m.now) }
     ensures same { IfOk result (λ o. IfSome o (λ j. IsSameMemory m.now j)) }
-    ensures value { IfOk result (λ o. IfSome o (λ j. InRuns design.now now.now (λ env nets. IsAfterStore (nets now.now.cycle []) m.now j))) }
+    ensures value { IfOk result (λ o. IfSome o (λ j. InEachRun design.now now.now (λ env nets. IsAfterStore (nets now.now.cycle []) m.now j))) }
 {
     match top_cells(alloc, design, now, m, depth)? {
         Some(cells) => {
@@ -180,7 +180,7 @@ fn all_outside_after(
 ) -> Result<Option<Vec<OutsideMemory>>, AllocError>
     ensures known { IfOk result (λ o. is_some o ≡ list_all (outside_known design.now now.now depth) now.now.outside.items) }
     ensures same { IfOk result (λ o. IfSome o (λ v. AllTwo IsSameMemory now.now.outside.items v.items)) }
-    ensures value { IfOk result (λ o. IfSome o (λ v. InRuns design.now now.now (λ env nets. AllTwo (IsAfterStore (nets now.now.cycle [])) now.now.outside.items v.items))) }
+    ensures value { IfOk result (λ o. IfSome o (λ v. InEachRun design.now now.now (λ env nets. AllTwo (IsAfterStore (nets now.now.cycle [])) now.now.outside.items v.items))) }
 {
     let mut out = Vec::new(alloc);
     for m in &now.outside {
@@ -202,7 +202,7 @@ pub fn next(
     ensures known { IfOk result (λ o. is_some o ≡ next_known design.now now.now depth) }
     ensures cycle { IfOk result (λ o. IfSome o (λ after. after.cycle ≡ now.now.cycle + 1)) }
     ensures kept { IfOk result (λ o. IfSome o (λ after. IsKept now.now after)) }
-    ensures value { IfOk result (λ o. IfSome o (λ after. InRuns design.now now.now (λ env nets. IsAt design.now.modules.now design.now.top.now env nets after))) }
+    ensures value { IfOk result (λ o. IfSome o (λ after. InEachRun design.now now.now (λ env nets. IsAt design.now.modules.now design.now.top.now env nets after))) }
 {
     if now.cycle == u64::MAX {
         return Ok(None);

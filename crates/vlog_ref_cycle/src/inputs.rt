@@ -1,4 +1,4 @@
-// What stands around a design gives its top's inputs.
+// What a design's environment gives its top's inputs.
 
 ghost use Rattle.std.specs.Prelude.{◌≡◌, ◌==◌, IfOk, if◌then◌else◌, bytes_eq};
 ghost use Rattle.std.specs.Option.{option_map, option_copied};
@@ -109,7 +109,7 @@ fn scalar<'a>(alloc: Global, now: &'a Moment, x: &Text) -> Result<Option<Source<
     }
 }
 
-/// What stands around the design gives an input of the top.
+/// What the environment gives an input of the top.
 pub(crate) fn input_source<'a>(
     alloc: Global,
     now: &'a Moment,

@@ -1,5 +1,5 @@
 //! What a design of the Verilog subset does in a cycle, computed as it is defined: the number of any net from what the
-//! registers and memories hold and from what stands around the design, and what they hold in the next cycle.
+//! registers and memories hold and from the environment, and what they hold in the next cycle.
 #![tactic(auto)]
 
 mod blocks;

@@ -46,7 +46,7 @@ pub(crate) fn assigned<'a>(items: &'a [Item], x: &Text) -> Option<&'a Value>
     None
 }
 
-// The first port, no input, that is joined to a net.
+// The first port, no input, that is connected to a net.
 fn connection_out<'a>(ports: &Scope, connections: &'a [Connection], x: &Text) -> Option<&'a Text>
     ensures { option_copied result ≡ connection_out_lem ports.now connections.now x.now }
 {
@@ -140,7 +140,7 @@ fn joined_in<'a>(item: &'a Item, instance: &Text, x: &Text) -> Option<&'a Text>
     }
 }
 
-/// The net that a port of an instance is joined to.
+/// The net that a port of an instance is connected to.
 pub(crate) fn joined_to<'a>(items: &'a [Item], instance: &Text, x: &Text) -> Option<&'a Text>
     ensures { option_copied result ≡ joined_to_lem items.now instance.now x.now }
 {

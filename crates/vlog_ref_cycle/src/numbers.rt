@@ -2,7 +2,7 @@
 
 ghost use Rattle.std.specs.Prelude.{◌≡◌, IfOk, IfSome, unwrap_or, slice_get, Vec};
 ghost use Rattle.vlog_ref_cycle.specs.Sources.{rule_tree};
-ghost use Rattle.vlog_ref_cycle.specs.Moments.{InRuns};
+ghost use Rattle.vlog_ref_cycle.specs.Moments.{InEachRun};
 ghost use Rattle.vlog_ref_cycle.specs.Numbers.{first_number, by_rule as by_rule_lem, all_numbers as all_numbers_lem, number_at};
 ghost use Rattle.std.specs.Option.{option_map};
 ghost use Rattle.std.specs.declared.alloc.Global.{Global};
@@ -84,8 +84,8 @@ pub(crate) fn all_numbers(
 
 /// The number of a net in a cycle, by at most some steps from net to net.
 ///
-/// `None` where the net or one that it rests on has no number: the steps are too few; nothing drives it, as the clock; its
-/// instance is none of the design, or the moment leaves that out, or the scalar or memory that it is read from; its driver
+/// `None` where the net or one that it depends on has no number: the steps are too few; nothing drives it, as the clock; its
+/// instance is none of the design, or the snapshot leaves that out, or the scalar or memory that it is read from; its driver
 /// reads what is no net; or its driver's value is not below 2^128, or is to have more than 128 bits.
 #[tactic(auto, using(crate::proofs::Within::runs_number, crate::proofs::Within::number_found, crate::proofs::Within::number_unread, crate::proofs::Within::number_unknown, crate::proofs::Within::number_zero))]
 #[cycle(net_number)]
@@ -98,7 +98,7 @@ pub fn net_number(
     depth: u32,
 ) -> Result<Option<u128>, AllocError>
     ensures within { IfOk result (λ o. o ≡ number_at design.now now.now depth path.now name.now) }
-    ensures value { IfOk result (λ o. IfSome o (λ v. InRuns design.now now.now (λ env nets. (nets now.now.cycle path.now).net name.now ≡ v))) }
+    ensures value { IfOk result (λ o. IfSome o (λ v. InEachRun design.now now.now (λ env nets. (nets now.now.cycle path.now).net name.now ≡ v))) }
 {
     if depth == 0 {
         return Ok(None);

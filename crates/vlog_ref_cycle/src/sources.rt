@@ -158,7 +158,7 @@ fn line<'a>(
 }
 
 /// What gives a net its number: it is a register, or it has that of its driver, of an output of an instance, or of what
-/// it is joined to outside.
+/// it is connected to outside.
 pub(crate) fn source_of<'a>(
     alloc: Global,
     design: &'a Circuit<'a>,

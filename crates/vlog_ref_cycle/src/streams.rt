@@ -4,8 +4,8 @@ ghost use Rattle.std.specs.Prelude.{◌≡◌, ◌≤◌, ◌++◌, ◌↔◌, �
 ghost use Rattle.std.specs.Option.{option_to_list};
 ghost use Rattle.std.specs.Str.{IsAscii};
 ghost use Rattle.vlog_tree.specs.Labels.{s_din, done};
-ghost use Rattle.vlog_tree.specs.Environment.{carried, tokens, token_of as token_of_lem, IsDone};
-ghost use Rattle.vlog_ref_cycle.specs.Moments.{InRuns, stream_known};
+ghost use Rattle.vlog_tree.specs.Environment.{carried, tokens, token_of as token_of_lem, RaisesDone};
+ghost use Rattle.vlog_ref_cycle.specs.Moments.{InEachRun, stream_known};
 ghost use Rattle.vlog_ref_cycle.specs.Numbers.{number_at};
 
 use crate::numbers::net_number;
@@ -24,7 +24,7 @@ pub(crate) fn top_number(
 ) -> Result<Option<u128>, AllocError>
     requires { IsAscii name.items }
     ensures within { IfOk result (λ o. o ≡ number_at design.now now.now depth [] name.items) }
-    ensures value { IfOk result (λ o. IfSome o (λ v. InRuns design.now now.now (λ env nets. (nets now.now.cycle []).net name.items ≡ v))) }
+    ensures value { IfOk result (λ o. IfSome o (λ v. InEachRun design.now now.now (λ env nets. (nets now.now.cycle []).net name.items ≡ v))) }
 {
     net_number(alloc, design, now, &[], &Text::new(name), depth)
 }
@@ -50,7 +50,7 @@ fn carries_number(
 ) -> Result<Option<Option<u128>>, AllocError>
     ensures known { IfOk result (λ o. is_some o ≡ stream_known design.now now.now depth label.now) }
     ensures first { IfOk result (λ o. IfSome o (λ t. now.now.cycle ≡ 0 → t ≡ None)) }
-    ensures value { IfOk result (λ o. IfSome o (λ t. InRuns design.now now.now
+    ensures value { IfOk result (λ o. IfSome o (λ t. InEachRun design.now now.now
         (λ env nets. (k : ℕ) → now.now.cycle ≡ suc k → carried (λ n. nets n []) label.now (suc k) ≡ carried (λ n. nets n []) label.now k ++ option_to_list t))) }
 {
     let label = label.bytes();
@@ -99,7 +99,7 @@ pub fn carries(
     requires high { stream.now.bits ≤ 65 }
     ensures known { IfOk result (λ o. is_some o ≡ stream_known design.now now.now depth stream.now.name) }
     ensures first { IfOk result (λ o. IfSome o (λ t. now.now.cycle ≡ 0 → t ≡ None)) }
-    ensures value { IfOk result (λ o. IfSome o (λ t. InRuns design.now now.now
+    ensures value { IfOk result (λ o. IfSome o (λ t. InEachRun design.now now.now
         (λ env nets. (k : ℕ) → now.now.cycle ≡ suc k
         → tokens stream.now.bits (λ n. nets n []) stream.now.name (suc k) ≡ tokens stream.now.bits (λ n. nets n []) stream.now.name k ++ option_to_list t))) }
 {
@@ -126,7 +126,7 @@ pub fn is_done(
     depth: u32,
 ) -> Result<Option<bool>, AllocError>
     ensures known { IfOk result (λ o. is_some o ≡ is_some (number_at design.now now.now depth [] done)) }
-    ensures value { IfOk result (λ o. IfSome o (λ b. InRuns design.now now.now (λ env nets. IsTrue b ↔ IsDone (λ n. nets n []) now.now.cycle))) }
+    ensures value { IfOk result (λ o. IfSome o (λ b. InEachRun design.now now.now (λ env nets. IsTrue b ↔ RaisesDone (λ n. nets n []) now.now.cycle))) }
 {
     match top_number(alloc, design, now, done_name(alloc)?, depth)? {
         Some(n) => Ok(Some(now.cycle > 0 && n == 1)),

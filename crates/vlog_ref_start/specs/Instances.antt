@@ -32,12 +32,12 @@ line_places ms path (Always b) = []
 abbrev pub inner_places : List ModuleTree → PlaceTree → List PlaceTree
 inner_places ms p = flat_map (line_places ms p.0) p.1.items
 
--- those to which so many names lead
+-- those to which a path of n names leads
 abbrev pub places_at : List ModuleTree → ModuleTree → ℕ → List PlaceTree
 places_at ms top zero = ([], top) ∷ []
 places_at ms top (suc n) = flat_map (inner_places ms) (places_at ms top n)
 
--- those to which fewer names lead
+-- those to which a path of fewer than n names leads
 abbrev pub places_below : List ModuleTree → ModuleTree → ℕ → List PlaceTree
 places_below ms top zero = []
 places_below ms top (suc n) = places_below ms top n ++ places_at ms top n

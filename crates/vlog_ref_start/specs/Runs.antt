@@ -1,4 +1,4 @@
--- How the moments that are computed begin and go on, and that they are those of a run.
+-- How the snapshots that are computed begin and go on, and that they are those of a run.
 use Rattle.std.specs.Prelude.{◌≡◌, ℕ, ◌+◌, ◌<◌, ◌≤◌, ◌^◌, List, Some, false, slice_get, IsTrue}
 use Rattle.vlog_tree.specs.Form.{ModuleTree}
 use Rattle.vlog_tree.specs.Refused.{IsDesign}
@@ -10,11 +10,11 @@ use Rattle.vlog_run_laws.specs.runs.Filled.{IsFilled}
 use Rattle.vlog_values.specs.declared.moment.Circuit.{Circuit}
 use Rattle.vlog_values.specs.declared.moment.Moment.{Moment}
 use Rattle.vlog_ref_cycle.specs.Numbers.{net_within}
-use Rattle.vlog_ref_cycle.specs.Moments.{InRuns, IsAt}
+use Rattle.vlog_ref_cycle.specs.Moments.{InEachRun, IsAt}
 use Rattle.vlog_ref_cycle.specs.Next.{IsKept, next_known}
 use Rattle.vlog_ref_start.specs.Whole.{IsWhole, HasNoMore}
 
--- The moment of cycle 0 of each run in an environment in which every register and every cell begins with a number, cut to
+-- The snapshot of cycle 0 of each run in an environment in which every register and every cell begins with a number, cut to
 -- its width. It leaves out nothing, and has nothing but parts of the design.
 pub record IsStart (ms : List ModuleTree) (top : ModuleTree) (env : Environment) (fill : ℕ) (now : Moment) : Type 0 where
   pub cycle : now.cycle ≡ 0
@@ -22,18 +22,18 @@ pub record IsStart (ms : List ModuleTree) (top : ModuleTree) (env : Environment)
   pub whole : IsWhole ms top now
   pub no_more : HasNoMore ms top now
 
--- what is said of a moment that is computed as the next one
+-- what is said of a snapshot that is computed as the next one
 pub record IsNextOf (c : Circuit) (now after : Moment) : Type 0 where
   pub cycle : after.cycle ≡ now.cycle + 1
   pub kept : IsKept now after
-  pub runs : InRuns c now (λ env nets. IsAt c.modules.now c.top.now env nets after)
+  pub runs : InEachRun c now (λ env nets. IsAt c.modules.now c.top.now env nets after)
 
--- a moment that is computed from the first one, step by step
+-- a snapshot that is computed from the first one, step by step
 pub data IsComputed (c : Circuit) (first : Moment) : Moment → Type 0 where
   at_first : IsComputed c first first
   at_next : {now after : Moment} → IsComputed c first now → IsNextOf c now after → IsComputed c first after
 
--- a moment is that of a run: enough steps give each net its number in this cycle, and all that the next moment needs
+-- a snapshot is that of a run: enough steps give each net its number in this cycle, and all that the next snapshot needs
 pub record IsMomentOf (c : Circuit) (env : Environment) (nets : ℕ → Path → Cycle) (now : Moment) : Type 0 where
   pub at : IsAt c.modules.now c.top.now env nets now
   pub numbers : (path : Path) (m : ModuleTree) (x : Name) → module_at c.modules.now c.top.now path ≡ Some m → IsTrue (net_kind_is_read (net_kind_of (declared m) x)) → is_clk x ≡ false

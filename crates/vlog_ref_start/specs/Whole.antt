@@ -18,13 +18,13 @@ pub record HoldsAll (m : ModuleTree) (h : Held) : Type 0 where
   pub registers : (w : ℕ) (x : Name) → Has m.items (Reg w x) → IsTrue (is_some (first_net h.nets.items x))
   pub memories : (w : ℕ) (x : Name) (n : ℕ) → Has m.items (Memory w x n) → IsTrue (is_some (first_memory h.memories.items x))
 
--- a moment has what each instance of the design holds, and each scalar and each memory around it
+-- a snapshot has the state of each instance of the design, and each scalar and each memory around it
 pub record IsWhole (ms : List ModuleTree) (top : ModuleTree) (now : Moment) : Type 0 where
   pub held : (path : Path) (m : ModuleTree) → module_at ms top path ≡ Some m → (h : Held) × (held_at now.held.items path ≡ Some h) × HoldsAll m h
   pub scalars : (l : Port) → Has (shape_of top).scalars l → IsTrue (is_some (first_net now.scalars.items l.name))
   pub outside : (l : Port) → Has (shape_of top).memories l → IsTrue (is_some (memory_of now.outside.items l.name))
 
--- a moment has nothing but parts of the design: each path leads to a module, and each memory around it is one of the top's
+-- a snapshot has nothing but parts of the design: each path leads to a module, and each memory around it is one of the top's
 pub record HasNoMore (ms : List ModuleTree) (top : ModuleTree) (now : Moment) : Type 0 where
   pub held : (h : Held) → Has now.held.items h → IsTrue (is_some (module_at ms top h.path.items))
   pub outside : (o : OutsideMemory) → Has now.outside.items o → (l : Port) × Has (shape_of top).memories l × (l.name ≡ o.name)

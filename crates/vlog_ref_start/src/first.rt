@@ -1,4 +1,4 @@
-// The first moment of a design's runs.
+// The first snapshot of a design's runs.
 
 ghost use Rattle.std.specs.Prelude.{◌≡◌, IfOk};
 ghost use Rattle.vlog_tree.specs.Form.{ModuleTree};
@@ -12,8 +12,8 @@ use std::alloc::{AllocError, Global};
 use vlog_design::{Design, Env};
 use vlog_values::Moment;
 
-/// The moment of cycle 0, in which every register and every cell of the design holds `fill` modulo 2 to the power of its
-/// width, and around the design stands what is given.
+/// The snapshot of cycle 0, in which every register and every cell of the design holds `fill` modulo 2 to the power of its
+/// width, and the environment is the given one.
 pub fn first_moment(
     alloc: Global,
     design: &Design,

@@ -1,4 +1,4 @@
-// What stands around a design in cycle 0.
+// The environment of a design in cycle 0.
 
 ghost use Rattle.std.specs.Prelude.{◌≡◌, ◌∷◌, ◌++◌, [], map, IfOk, OnOk, slice_index, slice_index_or};
 ghost use Rattle.vlog_ref_start.specs.Outside.{labelled_from, outside_tree, outside_from};

@@ -15,7 +15,7 @@ use tapa_base::Text;
 use vlog_scope::{Library, NameCounts, Scope, count_of, count_one};
 use vlog_tree::{Connection, Declaration, Item, Module, NetKind, Step};
 
-// Counts what stands at a place once more, where there is such a place.
+// Adds one to the count at an index, cut at 2, where there is such an index.
 #[tactic(auto, using(std::proofs::lemmas::List::set_past))]
 fn count_place(counts: &mut Vec<u8>, place: usize)
     ensures { counts.new.items ≡ slice_set counts.old.items place (min (get_or counts.old.items place 0 + 1) 2) }
@@ -57,7 +57,8 @@ fn count_connections(scope: &Scope, counts: &mut Vec<u8>, ports: &Scope, connect
 
 #[tactic(auto, using(crate::proofs::Counts::no_name_more))]
 fn count_line(scope: &Scope, counts: &mut Vec<u8>, library: &Library, item: &Item)
-    ensures { (names : List (List ℕ)) → CountsPlaces scope.now counts.old.items (times_in names) → CountsPlaces scope.now counts.new.items (times_in (names ++ line_driven library.now item.now)) }
+    ensures { (names : List (List ℕ)) → CountsPlaces scope.now counts.old.items (times_in names)
+        → CountsPlaces scope.now counts.new.items (times_in (names ++ line_driven library.now item.now)) }
 {
     match item {
         Item::Assign { net: x, .. } => count_net(scope, counts, x),

@@ -1,4 +1,4 @@
-//! Three rules of modules, each with the first name that breaks it: names (known, single, of the right net kind), widths, and
+//! Three rules of modules, each with the first name that breaks it: names (known, declared once, of the right net kind), widths, and
 //! drivers. `Sound` are modules that break none of them.
 #![tactic(auto)]
 

@@ -135,7 +135,7 @@ fn all_fit(scope: &Scope, atoms: &[Atom]) -> bool
     atoms.iter().all(|a| atom_fits(scope, a))
 }
 
-// Whether the atoms have so many bits together.
+// Whether the atoms together have this number of bits.
 fn have_bits(scope: &Scope, bits: u64, atoms: &[Atom]) -> bool
     ensures { result ≡ (sum (map (bits_of_atom scope.now) atoms.now) == bits) }
 {

@@ -1,4 +1,4 @@
-//! Laws of runs of a design: there is exactly one from each power-up in each environment, no net waits for itself, and every number
+//! Laws of runs of a design: there is exactly one from each power-up in each environment, no net depends on itself, and every number
 //! fits its width.
 #![tactic(auto)]
 

@@ -1,4 +1,4 @@
--- The places of names, by chains or in a tree that is in order of the names.
+-- The indices of names, by chains or in a tree that is in order of the names.
 use Rattle.std.specs.Prelude.{◌≡◌, ℕ, Bool, List, Vec, map}
 use Rattle.std.specs.BTreeMap.{BTreeMap, get_by}
 use Rattle.std.specs.Ordering.{nat_cmp}
@@ -14,11 +14,11 @@ use Rattle.vlog_scope.specs.Chains.{IsChained, AreShort}
 abbrev pub place_by : {A : Type 0} → BTreeMap (Vec ℕ A) (ℕ × Bool) → Places
 place_by names x = get_by (λ key. slice_cmp nat_cmp x key.items) names
 
--- a tree has the first place of each name of a list
+-- a tree has the first index of each name of a list
 abbrev pub AreNamePlaces : {A : Type 0} → List Declaration → BTreeMap (Vec ℕ A) (ℕ × Bool) → Type 0
 AreNamePlaces ds names = (x : Name) → place_by names x ≡ places_from 0 (map declaration_name ds) x
 
--- each of both ways leads to the first place of each name of a list; no chain is long
+-- each of both ways leads to the first index of each name of a list; no chain is long
 abbrev pub HasPlaces : List Declaration → NamePlaces → Type 0
 HasPlaces ds (Chained chains) = IsChained 0 ds chains.heads.items chains.nexts.items × AreShort chains.heads.items chains.nexts.items
 HasPlaces ds (Ordered names) = AreNamePlaces ds names

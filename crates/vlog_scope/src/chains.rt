@@ -1,5 +1,5 @@
-// The places of names in a list of declarations, by a hash of the name. Names of one hash are on one chain: from its head, the first
-// place, each place leads to the next. No name is copied, and names that differ in their last byte have heads next to one another.
+// The indices of names in a list of declarations, by a hash of the name. Names of one hash are on one chain: from its head, the first
+// index, each index leads to the next. No name is copied, and names that differ in their last byte have heads next to one another.
 
 ghost use Rattle.std.specs.Prelude.{◌≡◌, ◌<◌, ◌≤◌, ℕ, suc, false, nat_lt, Some, None, length, map, drop, is_some, IfSome, IfOk};
 ghost use Rattle.vlog_tree.specs.Table.{declaration_name};
@@ -9,10 +9,10 @@ ghost use Rattle.vlog_scope.specs.Chains.{hash_from, chain_of, name_at, IsChaine
 use std::alloc::{AllocError, Global};
 use vlog_tree::Declaration;
 
-/// The most places of a chain that is walked.
+/// The most indices of a chain that is walked.
 const LONGEST: usize = 32;
 
-/// By the number of a chain its head, and by a place the next one; a number past the last place is none.
+/// By the number of a chain its head, and by an index the next one; a number past the last index is none.
 #[derive(Drop)]
 pub struct Chains {
     pub heads: Vec<usize>,
@@ -37,7 +37,7 @@ fn chain_at(name: &[u8], count: usize) -> usize
     hash_of(name) as usize & (count - 1)
 }
 
-// A power of two, at least twice as many as names, up to a limit.
+// A power of two, at least twice the number of names, up to a limit.
 fn chain_count(names: usize) -> usize
     ensures { 0 < result }
 {
@@ -58,7 +58,7 @@ fn no_chains(alloc: Global, declarations: &[Declaration]) -> Result<Chains, Allo
     Ok(Chains { heads, nexts })
 }
 
-// Puts the place before all others on its chain, as its head.
+// Puts the index before all others on its chain, as its head.
 fn link(chains: &mut Chains, declarations: &[Declaration], place: usize)
     requires chained { IsChained (suc place) declarations.now chains.old.heads.items chains.old.nexts.items }
     requires within { place < length declarations.now }
@@ -69,7 +69,7 @@ fn link(chains: &mut Chains, declarations: &[Declaration], place: usize)
     chains.heads[chain] = place;
 }
 
-/// The places of all declarations.
+/// The indices of all declarations.
 pub(crate) fn chains_of(alloc: Global, declarations: &[Declaration]) -> Result<Chains, AllocError>
     ensures { IfOk result (λ c. IsChained 0 declarations.now c.heads.items c.nexts.items) }
 {
@@ -82,7 +82,7 @@ pub(crate) fn chains_of(alloc: Global, declarations: &[Declaration]) -> Result<C
     Ok(chains)
 }
 
-// Whether a chain goes on for more than so many places.
+// Whether a chain has more than the given number of indices.
 fn is_longer(nexts: &[usize], head: usize, most: usize) -> bool
     ensures { result ≡ nat_lt (further nexts.now most head) (length nexts.now) }
 {
@@ -106,14 +106,14 @@ fn is_one_long(heads: &[usize], nexts: &[usize]) -> bool
     false
 }
 
-/// Whether a chain has more than `LONGEST` places; with ordinary names none has.
+/// Whether a chain has more than `LONGEST` indices; with ordinary names none has.
 pub(crate) fn has_long_chain(chains: &Chains) -> bool
     ensures { result ≡ false → AreShort chains.now.heads.items chains.now.nexts.items }
 {
     is_one_long(&chains.heads, &chains.nexts)
 }
 
-// The first place that has a name, from a place of its chain on.
+// The first index that has a name, from an index of its chain on.
 fn walk(chains: &Chains, declarations: &[Declaration], name: &[u8], from: usize) -> Option<usize>
     requires chained { IsChained 0 declarations.now chains.now.heads.items chains.now.nexts.items }
     requires on { from < length declarations.now → chain_of (length chains.now.heads.items) (name_at declarations.now from) ≡ chain_of (length chains.now.heads.items) name.now }
@@ -133,7 +133,7 @@ fn walk(chains: &Chains, declarations: &[Declaration], name: &[u8], from: usize)
     None
 }
 
-/// The first place that has a name.
+/// The first index that has a name.
 pub(crate) fn first_place(
     chains: &Chains,
     declarations: &[Declaration],
@@ -150,7 +150,7 @@ pub(crate) fn first_place(
     walk(chains, declarations, name, chains.heads[chain])
 }
 
-/// Whether a name stands once more behind a place that has it.
+/// Whether a name is declared once more after an index that has it.
 pub(crate) fn is_again(
     chains: &Chains,
     declarations: &[Declaration],

@@ -1,4 +1,4 @@
-//! Tables of the names of modules: which a module declares, where each is declared first, what it stands for, and the modules by
+//! Tables of the names of modules: which a module declares, where each is declared first, what it denotes, and the modules by
 //! their names.
 #![tactic(auto)]
 

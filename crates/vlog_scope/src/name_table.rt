@@ -1,4 +1,4 @@
-// The first place of each name of a list.
+// The first index of each name of a list.
 
 ghost use Rattle.std.specs.Prelude.{◌≡◌, ◌+◌, ℕ, List, IfOk, OnOk, Some, bytes_eq, min, if◌then◌else◌};
 ghost use Rattle.vlog_scope.specs.NameTable.{with_name, place_in, count_in, value_in};
@@ -6,17 +6,17 @@ ghost use Rattle.vlog_scope.specs.NameTable.{with_name, place_in, count_in, valu
 use std::alloc::{AllocError, Global};
 use std::collections::HashMap;
 
-/// From a name to the first place at which a list has it, and whether the list has it once more.
+/// From a name to the first index at which a list has it, and whether the list has it once more.
 pub type NameTable = HashMap<Vec<u8>, (usize, bool)>;
 
-/// The first place of a name.
+/// The first index of a name, and whether the list has it once more.
 pub fn find_name(table: &NameTable, name: &[u8]) -> Option<(usize, bool)>
     ensures { result ≡ place_in table.now name.now }
 {
     table.get(name).copied()
 }
 
-/// Gives a name a value, and tells the one that it had.
+/// Gives a name a value, and returns the one that it had.
 fn put<V: Drop>(
     alloc: Global,
     table: &mut HashMap<Vec<u8>, V>,
@@ -31,7 +31,7 @@ fn put<V: Drop>(
     Ok(before)
 }
 
-/// Puts a name in front of those that are there. Most names are new, so it is looked up once, by putting it in.
+/// Puts a name before those that are there. Most names are new, so it is looked up once, by putting it in.
 pub fn add_before(
     alloc: Global,
     table: &mut NameTable,
@@ -71,14 +71,14 @@ pub fn count_one(alloc: Global, counts: &mut NameCounts, name: &[u8]) -> Result<
 /// From names to numbers of bits.
 pub type NameBits = HashMap<Vec<u8>, u32>;
 
-/// The number of bits that stands with a name, if one does.
+/// The number of bits of a name, if the table has it.
 pub fn bits_of_name(table: &NameBits, name: &[u8]) -> Option<u32>
     ensures { result ≡ value_in table.now name.now }
 {
     table.get(name).copied()
 }
 
-/// Gives a name its bits, in place of those that it had.
+/// Gives a name its bits, instead of those that it had.
 pub fn set_bits(
     alloc: Global,
     table: &mut NameBits,

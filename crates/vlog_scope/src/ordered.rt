@@ -1,4 +1,4 @@
-// The places of names in a list of declarations, in a tree that is in order of the names: a look-up takes no longer whatever the names
+// The indices of names in a list of declarations, in a tree that is in order of the names: a look-up takes no longer whatever the names
 // are. Each name is copied.
 
 ghost use Rattle.std.specs.Prelude.{◌≡◌, ◌<◌, List, ℕ, suc, Some, None, map, drop, length, is_some, IfOk, IfSome, OnOk};
@@ -11,10 +11,10 @@ use std::alloc::{AllocError, Global};
 use std::collections::BTreeMap;
 use vlog_tree::Declaration;
 
-/// From a name to the first place at which a list has it, and whether the list has it once more.
+/// From a name to the first index at which a list has it, and whether the list has it once more.
 pub type OrderedNames = BTreeMap<Vec<u8>, (usize, bool)>;
 
-// Puts a name in front of those that are there.
+// Puts a name before those that are there.
 fn put_before(
     alloc: Global,
     names: &mut OrderedNames,
@@ -29,7 +29,7 @@ fn put_before(
     Ok(())
 }
 
-/// The places of all declarations.
+/// The indices of all declarations.
 pub(crate) fn ordered_of(
     alloc: Global,
     declarations: &[Declaration],
@@ -45,7 +45,7 @@ pub(crate) fn ordered_of(
     Ok(names)
 }
 
-/// The first place of a name, and whether it stands once more behind.
+/// The first index of a name, and whether the list has it once more.
 pub(crate) fn place_of(names: &OrderedNames, name: &[u8]) -> Option<(usize, bool)>
     ensures { result ≡ place_by names.now name.now }
 {

@@ -1,4 +1,4 @@
-// The places of names in a list of declarations: on chains, and in order of the names where a chain is long. A text may be written so
+// The indices of names in a list of declarations: on chains, and in order of the names where a chain is long. A text may be written so
 // that all its names have one hash; in order of the names a look-up takes no longer for it.
 
 ghost use Rattle.std.specs.Prelude.{◌≡◌, ◌<◌, suc, Some, None, length, map, drop, is_some, IfSome, IfOk};
@@ -12,7 +12,7 @@ use crate::ordered::{OrderedNames, ordered_of, place_of};
 use std::alloc::{AllocError, Global};
 use vlog_tree::Declaration;
 
-/// Where the names of a list of declarations stand.
+/// The indices of the names of a list of declarations.
 #[derive(Drop)]
 pub enum NamePlaces {
     /// By the hashes of the names.
@@ -22,7 +22,7 @@ pub enum NamePlaces {
 }
 
 impl NamePlaces {
-    /// The places of all declarations.
+    /// The indices of all declarations.
     pub(crate) fn of(alloc: Global, declarations: &[Declaration]) -> Result<NamePlaces, AllocError>
         ensures { IfOk result (HasPlaces declarations.now) }
     {
@@ -33,7 +33,7 @@ impl NamePlaces {
         Ok(NamePlaces::Chained(chains))
     }
 
-    /// The first place that has a name.
+    /// The first index that has a name.
     pub(crate) fn first(&self, declarations: &[Declaration], name: &[u8]) -> Option<usize>
         requires { HasPlaces declarations.now self.now }
         ensures within { IfSome result (λ p. p < length declarations.now) }
@@ -51,7 +51,7 @@ impl NamePlaces {
         }
     }
 
-    /// The first place that has a name, and whether the name stands once more behind it.
+    /// The first index that has a name, and whether the name is declared once more after it.
     pub(crate) fn find(&self, declarations: &[Declaration], name: &[u8]) -> Option<(usize, bool)>
         requires { HasPlaces declarations.now self.now }
         ensures { result ≡ places_from 0 (map declaration_name declarations.now) name.now }

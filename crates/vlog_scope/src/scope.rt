@@ -1,4 +1,4 @@
-// The names that a module declares, with a table of their places.
+// The names that a module declares, with a table of their indices.
 
 ghost use Rattle.std.specs.Prelude.{◌≡◌, ◌<◌, ◌++◌, ◌∷◌, [], suc, Some, None, map, drop, is_some, IfOk, IfSome, OnOk, length, get_or};
 ghost use Rattle.vlog_scope.specs.NameTable.{places_from};
@@ -190,24 +190,25 @@ impl Scope {
         &self.declarations
     }
 
-    /// The first place of a name, and whether it is declared once more.
+    /// The first index of a name, and whether it is declared once more.
     pub fn place(&self, name: &Text) -> Option<(usize, bool)>
         ensures { result ≡ places_from 0 (map declaration_name self.now) name.now }
     {
         self.places.find(&self.declarations, name.bytes())
     }
 
-    /// The first place of a name.
+    /// The first index of a name.
     pub fn first_place(&self, name: &[u8]) -> Option<usize>
         ensures within { IfSome result (λ p. p < length self.now) }
         ensures named { IfSome result (λ p. name_at self.now p ≡ name.now) }
-        ensures found { IfSome result (λ p. places_from 0 (map declaration_name self.now) name.now ≡ Some (p, is_some (places_from (suc p) (map declaration_name (drop (suc p) self.now)) name.now))) }
+        ensures found { IfSome result (λ p. places_from 0 (map declaration_name self.now) name.now
+            ≡ Some (p, is_some (places_from (suc p) (map declaration_name (drop (suc p) self.now)) name.now))) }
         ensures none { result ≡ None → places_from 0 (map declaration_name self.now) name.now ≡ None }
     {
         self.places.first(&self.declarations, name)
     }
 
-    // What a name stands for, where it is declared.
+    // What a name denotes, where it is declared.
     fn found(&self, name: &[u8]) -> Option<&Declaration>
         ensures some { IfSome result (λ d. d.now ≡ find_name self.now name.now) }
         ensures none { result ≡ None → find_name self.now name.now ≡ unknown }
@@ -219,7 +220,7 @@ impl Scope {
         }
     }
 
-    /// What bytes stand for as a name.
+    /// What bytes denote as a name.
     pub fn net_kind(&self, name: &[u8]) -> NetKind
         ensures { result ≡ net_kind_of self.now name.now }
     {
@@ -229,7 +230,7 @@ impl Scope {
         }
     }
 
-    /// The bits of what bytes stand for as a name.
+    /// The bits of what bytes denote as a name.
     pub fn bits(&self, name: &[u8]) -> u32
         ensures { result ≡ bits_of self.now name.now }
     {
@@ -249,7 +250,7 @@ impl Scope {
         }
     }
 
-    /// What a name stands for, and its bits.
+    /// What a name denotes, and its bits.
     pub fn find(&self, name: &Text) -> (NetKind, u32)
         ensures net_kind { result.0 ≡ net_kind_of self.now name.now }
         ensures bits { result.1 ≡ bits_of self.now name.now }

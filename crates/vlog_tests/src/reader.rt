@@ -1,5 +1,5 @@
-// A text of modules. Lines that begin with `//:` say what stands around them, and `//= C D` shows what they do in at most C cycles, each net by at most
-// D steps. Behind it `//: fill N` and `//= C D` show the same text from another number at power-up, until a line of a further text.
+// A text of modules. Lines that begin with `//:` give the environment, and `//= C D` shows what the modules do in at most C cycles, each net by at
+// most D steps. After it `//: fill N` and `//= C D` show the same text from another number at power-up, until a line of a further text.
 
 use crate::line::{Fault, Line};
 use crate::simulated::simulated;
@@ -9,7 +9,7 @@ use std::mem;
 use vlog_design::{Design, Env};
 use vlog_read::read;
 
-/// The text so far, whether it is run, what stands around the top, the number at power-up, and the nets that are shown.
+/// The text so far, whether it is run, the environment of the top, the number at power-up, and the nets that are shown.
 #[derive(Drop)]
 pub(crate) struct Reader {
     text: String,
@@ -46,7 +46,7 @@ fn bits(alloc: Global, line: &mut Line) -> Result<Vec<bool>, Fault> {
     Ok(all)
 }
 
-// A net, and behind it the names of the instances on the way to it, the innermost first.
+// A net, and after it the names of the instances on the way to it, the innermost first.
 fn row(alloc: Global, line: &mut Line) -> Result<Row, Fault> {
     let net = line.name(alloc)?;
     let mut path = Vec::new(alloc);

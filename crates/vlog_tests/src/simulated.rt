@@ -35,7 +35,7 @@ fn push_memories(
     Ok(())
 }
 
-// Goes on until a design is done, in at most so many cycles.
+// Goes on until a design is done, for at most `cycles` cycles.
 fn run_on(
     alloc: Global,
     sim: &mut Sim,
@@ -52,7 +52,7 @@ fn run_on(
     Ok(())
 }
 
-// What a simulator shows that stands at the first cycle. It owns nothing of the design, so that little is dropped at its exits.
+// What a simulator at the first cycle shows. It owns nothing of the design, so that little is dropped at its exits.
 fn shown(
     alloc: Global,
     sim: &mut Sim,
@@ -68,7 +68,7 @@ fn shown(
     Ok(text)
 }
 
-/// What the simulator shows until a design is done, in at most so many cycles.
+/// What the simulator shows until a design is done, for at most `cycles` cycles.
 pub(crate) fn simulated(
     alloc: Global,
     design: Design,

@@ -77,7 +77,7 @@ fn push_memories(alloc: Global, to: &mut String, now: &Moment) -> Result<(), All
     Ok(())
 }
 
-/// Runs a design until it is done, at most so many cycles: the numbers of the rows and the tokens of the streams in each
+/// Runs a design until it is done, for at most `cycles` cycles: the numbers of the rows and the tokens of the streams in each
 /// cycle, then what the memories around it hold, and in which cycle it ended.
 pub(crate) fn table(
     alloc: Global,

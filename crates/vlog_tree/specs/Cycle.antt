@@ -166,7 +166,7 @@ abbrev pub module_at : List ModuleTree → ModuleTree → Path → Option Module
 module_at ms top [] = Some top
 module_at ms top (x ∷ path) = and_then (module_at ms top path) (λ m. and_then (child_of m.items x) (module_named ms))
 
--- a port of an instance has the number of the net that it is joined to
+-- a port of an instance has the number of the net that it is connected to
 abbrev pub Connected : (Path → Cycle) → Path → Item → Type 0
 Connected nets path (Instance m i connections) = AllByRecursion (λ l. (nets (i ∷ path)).net l.port ≡ (nets path).net l.net) connections
 Connected nets path (Wire w x) = Unit {0}

@@ -1,4 +1,4 @@
--- What stands around a design, and what its streams and memories carry.
+-- The environment of a design, and what its streams and memories carry.
 use Rattle.std.specs.Prelude.{◌≡◌, ℕ, zero, suc, ◌-◌, ◌^◌, ◌<◌, ◌≤◌, Bool, true, false, ◌&&◌, List, [], ◌∷◌, ◌++◌, Option, Some, None, length, unwrap_or, slice_get}
 use Rattle.std.specs.Prelude.{slice_index, slice_index_or, slice_set, map, nat_le, nat_lt, ◌==◌, if◌then◌else◌, bytes_eq}
 use Rattle.std.specs.List.{flat_map}
@@ -120,5 +120,5 @@ token_of w d = if nat_lt d (2 ^ (w - 1)) then Datum d else Eot
 abbrev pub tokens : ℕ → (ℕ → Cycle) → Name → ℕ → List Token
 tokens w run x n = map (token_of w) (carried run x n)
 
-abbrev pub IsDone : (ℕ → Cycle) → ℕ → Type 0
-IsDone run n = (1 ≤ n) × ((run n).net done ≡ 1)
+abbrev pub RaisesDone : (ℕ → Cycle) → ℕ → Type 0
+RaisesDone run n = (1 ≤ n) × ((run n).net done ≡ 1)

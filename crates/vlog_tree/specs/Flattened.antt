@@ -39,7 +39,7 @@ abbrev pub lines_of : Option ModuleTree → List Item
 lines_of None = []
 lines_of (Some m) = m.items
 
--- at the top's ports what a memory answers depends on the place that it is asked for
+-- at the top's ports a memory's read data depends on its address
 abbrev pub memory_parts : Bool → List Declaration → Name → List FlatNet
 memory_parts false ports x = []
 memory_parts true ports x = map (λ y. ([], y)) (asked_port ports x)

@@ -75,7 +75,7 @@ is_input Output = false
 abbrev pub is_port : PortDecl → Bool
 is_port p = nat_le 1 p.width && is_name p.name
 
--- names are names, each list has as many parts as the grammar asks for, and the steps of each block are nested
+-- names are names, each list has the number of parts that the grammar asks for, and the steps of each block are nested
 abbrev pub is_module : ModuleTree → Bool
 is_module m = is_name m.name && nat_le 1 (length m.ports) && list_all is_port m.ports && list_all is_item m.items
 

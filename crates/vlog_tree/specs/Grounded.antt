@@ -1,4 +1,4 @@
--- Lists of one length, walks along parts, loops, and what rests on parts that come to an end.
+-- Lists of one length, walks along parts, loops, and things whose chains of parts all come to an end.
 use Rattle.std.specs.Prelude.{◌≡◌, ℕ, zero, suc, ◌⊎◌, List, [], ◌∷◌}
 use Rattle.tapa_base.specs.Lists.{Has}
 
@@ -17,6 +17,6 @@ Walk {N} parts (suc n) a b = (c : N) × Has (parts a) c × Walk parts n c b
 abbrev pub OnLoop : {N : Type 0} → (N → List N) → N → Type 0
 OnLoop parts a = (n : ℕ) × Walk parts (suc n) a a
 
--- each of its parts comes to an end, and then it does
+-- all chains of parts from here come to an end
 pub data IsGrounded {N : Type 0} (parts : N → List N) : N → Type 0 where
   grounded : {a : N} → ((b : N) → Has (parts a) b → IsGrounded parts b) → IsGrounded parts a

@@ -35,7 +35,7 @@ rst = codes "rst"
 unfoldable pub done : Name
 done = codes "done"
 
--- the label between a front and an end, which isn't empty
+-- the label in a name, between a prefix and a suffix; it isn't empty
 unfoldable pub label_in : Name → Name → Name → Option Name
 label_in front end x =
     if nat_le (length front) (length x) && bytes_eq (take (length front) x) front

@@ -2,10 +2,10 @@
 --
 -- The definitions by an example: module k has the ports `input a , output o` and the line `assign o = a ;`, and module p has
 -- a wire w and the line `k u ( .a ( w ) , .o ( w ) ) ;`.
---   direct_edges  what the lines of one module say: in k that o rests on a, in p that u.a rests on w, and w on u.o
---   Rests         the same through any number of lines and instances: u.o rests on u.a, since o does on a inside k, so w on w
---   LiesOnLoop    w of p, which rests on itself, and a and o of k, which do so as the wires u.a and u.o of p
---   IsFirst       of these places the first in the text, here a of k, whose name is told
+--   direct_edges  what the lines of one module say: in k that o depends on a, in p that u.a depends on w, and w on u.o
+--   Rests         dependence through any number of lines and instances: u.o depends on u.a, since o does on a inside k, so w on w
+--   LiesOnLoop    w of p, which depends on itself, and a and o of k, which do so as the wires u.a and u.o of p
+--   IsFirstIn       the first of these in the text, here a of k, whose name is reported
 use Rattle.std.specs.Prelude.{◌≡◌, ◌⊎◌, Bool, true, false, List, [], ◌∷◌, ◌++◌, Option, Some, None, if◌then◌else◌, map, filter}
 use Rattle.std.specs.List.{flat_map}
 use Rattle.vlog_tree.specs.declared.tree.Atom.{Atom}
@@ -28,7 +28,7 @@ atom_nets (Net x) = x ∷ []
 atom_nets (Part x high low) = x ∷ []
 atom_nets (Literal w n) = []
 
--- the nets of a driver; a cell depends on its place
+-- the nets of a driver; a memory cell depends on its address
 abbrev pub value_nets : Value → List Name
 value_nets (Plain a) = atom_nets a
 value_nets (Invert a) = atom_nets a
@@ -42,7 +42,7 @@ value_nets (Cell m x) = x ∷ []
 unfoldable pub port_of : Name → Name → Name
 port_of i p = i ++ 46 ∷ p
 
--- pairs of a thing and a thing that it rests on
+-- pairs of a thing and a thing that it depends on
 abbrev pub Edges : Type 0
 Edges = List (Name × Name)
 
@@ -50,7 +50,7 @@ Edges = List (Name × Name)
 unfoldable pub connection_edge : List Declaration → Name → Connection → Name × Name
 connection_edge ports i l = if net_kind_is_input (net_kind_of ports l.port) then (port_of i l.port, l.net) else (l.net, port_of i l.port)
 
--- a driven net rests on the nets of its driver; an assigned register rests on nothing of its own cycle
+-- a driven net depends on the nets of its driver; an assigned register depends on nothing of its own cycle
 abbrev pub line_edges : List ModuleTree → Item → Edges
 line_edges ms (Assign x e) = map (λ y. (x, y)) (value_nets e)
 line_edges ms (Instance m i connections) = map (connection_edge (map port_declared (ports_of ms m)) i) connections
@@ -59,8 +59,8 @@ line_edges ms (Reg w x) = []
 line_edges ms (Memory w x n) = []
 line_edges ms (Always b) = []
 
--- among the ports of the top an input m_X_rdata rests on the port m_X_addr, since a memory answers for the place that it is
--- asked for; wires of these names are wires like all others
+-- among the ports of the top an input m_X_rdata depends on the port m_X_addr, since a memory's read data is that of its
+-- address; wires of these names are wires like all others
 abbrev pub asked_port : List Declaration → Name → List Name
 asked_port ports x = if net_kind_is_input (net_kind_of ports x) then filter (has_port ports) (address_of x) else []
 
@@ -87,8 +87,8 @@ item_instances (Always b) = []
 abbrev pub instances : ModuleTree → List (Name × Name)
 instances m = flat_map item_instances m.items
 
--- In a module one net rests on another in the same cycle, through any number of lines and instances. An instance's output
--- rests on those inputs on which it rests inside.
+-- In a module one net depends on another in the same cycle, through any number of lines and instances. An instance's output
+-- depends on those inputs on which it depends inside.
 pub data Rests (ms : List ModuleTree) (is_top : Name → Bool) : ModuleTree → Name → Name → Type 0 where
   directly : {m : ModuleTree} {x y : Name} → Has (direct_edges ms is_top m) (x, y) → Rests ms is_top m x y
   through : {m : ModuleTree} {a b : Name} (k : ModuleTree) (kn i x y : Name) → Has (instances m) (kn, i) → module_named ms kn ≡ Some k
@@ -107,7 +107,7 @@ containment ms = flat_map own_containment ms
 abbrev pub Reaches : Edges → Name → Name → Type 0
 Reaches edges a b = Chain (λ x y. Has edges (x, y)) a b
 
--- a place in the text: a module's name, or with it a name that it declares
+-- a position in the text: a module's name, or with it a name that it declares
 abbrev pub TextPlace : Type 0
 TextPlace = Name × Option Name
 
@@ -121,7 +121,7 @@ own_places m = (m.name, None) ∷ map (λ (d : Declaration). (m.name, Some d.nam
 abbrev pub text_places : List ModuleTree → List TextPlace
 text_places ms = flat_map own_places ms
 
--- A module's name is wrong where the module contains itself. A net is where it rests on itself in its module, and a port
+-- A module's name is wrong where the module contains itself. A net is where it depends on itself in its module, and a port
 -- also where it does so as a wire of a module that has an instance of its own.
 abbrev pub LiesOnLoop : List ModuleTree → (Name → Bool) → TextPlace → Type 0
 LiesOnLoop ms is_top (m, None) = Reaches (containment ms) m m
@@ -130,7 +130,7 @@ LiesOnLoop ms is_top (m, Some x) =
     ⊎ ((k : ModuleTree) × (i : Name) × Has ms k × Has (instances k) (m, i) × Rests ms is_top k (port_of i x) (port_of i x))
 
 -- the first of a list with a property
-pub record IsFirst {A : Type 0} (P : A → Type 0) (xs : List A) (x : A) : Type 0 where
+pub record IsFirstIn {A : Type 0} (P : A → Type 0) (xs : List A) (x : A) : Type 0 where
   pub before : List A
   pub after : List A
   pub split : xs ≡ before ++ x ∷ after
@@ -139,7 +139,7 @@ pub record IsFirst {A : Type 0} (P : A → Type 0) (xs : List A) (x : A) : Type 
 
 -- the first name that lies on a loop
 abbrev pub TellsLoop : List ModuleTree → (Name → Bool) → Name → Type 0
-TellsLoop ms is_top x = (s : TextPlace) × IsFirst (LiesOnLoop ms is_top) (text_places ms) s × (place_name s ≡ x)
+TellsLoop ms is_top x = (s : TextPlace) × IsFirstIn (LiesOnLoop ms is_top) (text_places ms) s × (place_name s ≡ x)
 
 -- no name lies on a loop
 abbrev pub IsLoopless : List ModuleTree → (Name → Bool) → Type 0

@@ -51,7 +51,8 @@ strong1_to_unsigned =
 
 unfoldable pub use_to_xor : List (List ℕ)
 use_to_xor =
-    codes "use" ∷ codes "uwire" ∷ codes "vectored" ∷ codes "wait" ∷ codes "wand" ∷ codes "weak0" ∷ codes "weak1" ∷ codes "while" ∷ codes "wire" ∷ codes "wor" ∷ codes "xnor" ∷ codes "xor" ∷ []
+    codes "use" ∷ codes "uwire" ∷ codes "vectored" ∷ codes "wait" ∷ codes "wand" ∷ codes "weak0" ∷ codes "weak1" ∷ codes "while"
+    ∷ codes "wire" ∷ codes "wor" ∷ codes "xnor" ∷ codes "xor" ∷ []
 
 -- whether a text is one of a list of words
 abbrev pub is_among : List (List ℕ) → List ℕ → Bool

@@ -106,7 +106,7 @@ abbrev pub indent : ℕ → List ℕ
 indent zero = []
 indent (suc n) = 32 ∷ 32 ∷ indent n
 
--- one word more: a blank before it, or two for each that is open where it begins a line, and an end of line behind it
+-- one word more: a blank before it, or two for each that is open where it begins a line, and an end of line after it
 unfoldable pub lay_word : Page → Word → Page
 lay_word page w =
     let inner = if closes w then page.depth - 1 else page.depth in

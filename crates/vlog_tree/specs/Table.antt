@@ -1,4 +1,4 @@
--- What the names of a module stand for.
+-- What the names of a module denote.
 use Rattle.std.specs.Prelude.{ℕ, Bool, true, false, ◌||◌, List, [], ◌∷◌, ◌++◌, Option, Some, None, codes, nat_le, if◌then◌else◌, bytes_eq, map, count_by, not, is_some}
 use Rattle.vlog_tree.specs.declared.tree.Item.{Item}
 use Rattle.vlog_tree.specs.declared.tree.Item.TheVariants.{Wire, Reg, Memory, Assign, Always, Instance}
@@ -63,7 +63,7 @@ cells_of ds x = (find_name ds x).cells
 abbrev pub is_doubled_name : List Declaration → Name → Bool
 is_doubled_name ds x = nat_le 2 (count_by (λ d. bytes_eq d.name x) ds)
 
--- how often a name stands in a list
+-- how often a name is in a list
 abbrev pub times_in : List Name → Name → ℕ
 times_in names x = count_by (λ y. bytes_eq y x) names
 

@@ -24,7 +24,7 @@ is_width w = nat_le 1 w && nat_le w 128
 abbrev pub is_cell_count : ℕ → Bool
 is_cell_count n = nat_le 1 n && nat_le n 1048576
 
--- a net or a memory can be used only where its own line is right: then every number past the limits can stand for every other
+-- a net or a memory can be used only where its own line is right, so numbers past the limits need not be kept apart
 abbrev pub net_fits : List Declaration → Name → Bool
 net_fits ds x = is_width (bits_of ds x)
 

@@ -47,12 +47,12 @@ has_port ports x = net_kind_is_read (net_kind_of ports x)
 unfoldable pub has_all_five : List Declaration → Name → Bool
 has_all_five ports x = has_port ports (m_ack x) && has_port ports (m_rdata x) && has_port ports (m_addr x) && has_port ports (m_wdata x) && has_port ports (m_we x)
 
--- the bits of the port of this name, among ports the last of which stands first
+-- the bits of the port of this name, in a list of ports whose last one comes first
 abbrev pub bits_before : List PortDecl → Name → Option ℕ
 bits_before [] x = None
 bits_before (p ∷ ps) x = if bytes_eq p.name x then Some p.width else bits_before ps x
 
--- no port of this name stands before with other bits
+-- no earlier port of this name has other bits
 abbrev pub agrees : List PortDecl → Name → ℕ → Bool
 agrees before x bits = option_map_or (λ b. b == bits) (bits_before before x) true
 

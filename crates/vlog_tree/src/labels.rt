@@ -9,7 +9,7 @@ ghost use Rattle.vlog_tree.specs.Labels.{wdata_of as wdata_lem, we_of as we_lem,
 use std::alloc::{AllocError, Global};
 use tapa_base::Text;
 
-// The label between a front and an end, which isn't empty.
+// The label in a name, between a prefix and a suffix; it isn't empty.
 #[tactic(auto, unfolding(crate::specs::Labels::label_in))]
 fn label_in<'a>(front: &[u8], end: &[u8], x: &'a [u8]) -> Option<&'a [u8]>
     ensures value { option_copied result ≡ label_lem front.now end.now x.now }

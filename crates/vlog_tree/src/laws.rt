@@ -45,12 +45,12 @@ pub fn law_one_solution()
 {}
 
 /// Where numbers past the limits are cut the rule on widths finds the same at each name, so a reader over machine numbers
-/// tells the same first name.
+/// reports the same first name.
 pub fn law_clamped_widths()
     ensures { (ms : List ModuleTree) → v3_uses (map clamped ms) ≡ v3_uses ms }
 {}
 
-/// A design is refused with no rule: nothing but want of memory stands against it.
+/// No rule refuses a design: only want of memory does.
 pub fn law_design_is_not_refused()
     ensures { (ms : List ModuleTree) (top : ℕ) (e : VFault) → IsDesign ms top → Refuses ms e → e ≡ OutOfMemory }
 {}

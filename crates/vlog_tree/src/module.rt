@@ -9,7 +9,7 @@ use std::alloc::{AllocError, Global};
 use std::marker::Model;
 use tapa_base::Text;
 
-/// A module: names are names and no keywords, each list has as many parts as the grammar asks for, and the steps of
+/// A module: names are names and no keywords, each list has the number of parts that the grammar asks for, and the steps of
 /// each block are nested.
 #[derive(Drop)]
 pub struct Module {

@@ -1,8 +1,8 @@
-// What the names of a module stand for.
+// What the names of a module denote.
 
 use tapa_base::Text;
 
-/// What a name stands for.
+/// What a name denotes.
 #[derive(Clone, Copy, PartialEq, Eq, Debug)]
 pub enum NetKind {
     Unknown,

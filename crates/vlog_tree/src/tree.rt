@@ -103,7 +103,7 @@ impl Model for Block {
     ghost view = { λ b. b.steps.items };
 }
 
-/// A port of an instance, and the net that it is joined to.
+/// A port of an instance, and the net that it is connected to.
 #[derive(Drop)]
 pub struct Connection {
     pub port: Text,

@@ -1,5 +1,5 @@
-//! The value of one driver of the Verilog subset, computed as it is defined; what the names of a module stand for, and what a
-//! design holds in a cycle.
+//! The value of one driver of the Verilog subset, computed as it is defined; what the names of a module denote, and the state of a
+//! design in a cycle.
 #![tactic(auto)]
 
 mod moment;

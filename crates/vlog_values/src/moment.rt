@@ -1,4 +1,4 @@
-// What a design holds in a cycle.
+// The state of a design in a cycle.
 
 use crate::numbers::{MemoryCells, NetNumber};
 use tapa_base::Text;
@@ -11,7 +11,7 @@ pub struct Circuit<'a> {
     pub top: &'a Module,
 }
 
-/// What one instance holds: the names of the instances on the way to it, the innermost first, and the numbers of its
+/// The state of one instance: the names of the instances on the way to it, the innermost first, and the numbers of its
 /// registers and of its memories' cells.
 #[derive(Drop)]
 pub struct Held {
@@ -20,7 +20,7 @@ pub struct Held {
     pub memories: Vec<MemoryCells>,
 }
 
-/// A memory that stands around a design: its label, its cells, and its ready bits from cycle 1 on.
+/// A memory outside a design: its label, its cells, and its ready bits from cycle 1 on.
 #[derive(Drop)]
 pub struct OutsideMemory {
     pub name: Text,
@@ -28,7 +28,7 @@ pub struct OutsideMemory {
     pub ready: Vec<bool>,
 }
 
-/// A cycle of a design: what each instance holds in it, and the scalars, by their labels, and memories around it.
+/// A cycle snapshot of a design: the state of each instance, and the scalars, by their labels, and memories around it.
 #[derive(Drop)]
 pub struct Moment {
     pub cycle: u64,

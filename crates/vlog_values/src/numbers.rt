@@ -1,4 +1,4 @@
-// Numbers of the nets and memories of a module in one cycle, found by name.
+// Numbers of the nets and memories of a module in one cycle, looked up by name.
 
 ghost use Rattle.std.specs.Prelude.{◌≡◌, ◌<◌, ◌^◌, length, get_or, nat_lt, if◌then◌else◌};
 ghost use Rattle.std.specs.Option.{option_copied};

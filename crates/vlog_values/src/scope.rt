@@ -1,4 +1,4 @@
-// What the names of a module stand for, found line by line.
+// What the names of a module denote, looked up line by line.
 
 ghost use Rattle.std.specs.Prelude.{◌≡◌, ◌∷◌, ◌++◌, [], map};
 ghost use Rattle.vlog_tree.specs.Table.{declared, items_declared, port_declared, net_kind_of, bits_of, net_kind_is_read, net_kind_is_input};
@@ -126,7 +126,7 @@ impl<'a> Scope<'a> {
         Scope { ports, items: &[] }
     }
 
-    /// What a name stands for.
+    /// What a name denotes.
     #[tactic(auto, using(crate::proofs::Named::found_kind, crate::proofs::Named::no_kind))]
     pub fn net_kind(&self, name: &[u8]) -> NetKind
         ensures { result ≡ net_kind_of self.now name.now }
@@ -137,7 +137,7 @@ impl<'a> Scope<'a> {
         }
     }
 
-    /// How many bits what a name stands for has.
+    /// The bits of what a name denotes.
     #[tactic(auto, using(crate::proofs::Named::found_bits, crate::proofs::Named::no_bits))]
     pub fn bits(&self, name: &[u8]) -> u32
         ensures { result ≡ bits_of self.now name.now }

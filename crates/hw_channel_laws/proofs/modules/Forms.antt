@@ -18,11 +18,11 @@ use Rattle.vlog_tree.specs.Form.{is_atom, is_value, is_connection, IsModule}
 use Rattle.vlog_tree.specs.Table.{Name}
 use Rattle.vlog_tree.specs.Labels.{rst}
 use Rattle.vlog_module_laws.proofs.Labelled.{early_name}
-use Rattle.hw_build.specs.Elements.{Element, Input, Output, Outlet, Wire, Link, Register, Memory, Block, Instance, built, copied, reset_or, reset_or_set, stored}
+use Rattle.hw_build.specs.Elements.{Element, Input, Output, Outlet, Wire, InstanceWire, Register, Memory, Block, Instance, built, copied, reset_or, reset_or_set, stored}
 use Rattle.hw_build.specs.Forms.{is_element}
 use Rattle.hw_build.proofs.Forms.{built_form, all_append, yes_and}
 use Rattle.hw_channel_lines.specs.Names.{channel_name, fifo_name, relay_name}
-use Rattle.hw_channel_lines.specs.Texts.{joined_to, of_net, two, with_number, step_elements, step_tree, first_part, second_of_two, second_of_three, third_part, relay_ends, even_elements, even_tree, odd_elements, odd_tree, fifo_elements, fifo_tree, plain_tree, relayed_tree, channel_ports, fifo_ends, relayed_inside}
+use Rattle.hw_channel_lines.specs.Texts.{connected_to, of_net, two, with_number, step_elements, step_tree, first_part, second_of_two, second_of_three, third_part, relay_connections, even_elements, even_tree, odd_elements, odd_tree, fifo_elements, fifo_tree, plain_tree, relayed_tree, channel_ports, fifo_connections, relayed_inside}
 use Rattle.hw_build.specs.Widths.{bits_for}
 use Rattle.hw_channel_laws.proofs.modules.Words.{relay_word, fifo_word, channel_word, rst_is_name}
 
@@ -74,7 +74,7 @@ input_form w x h k = declared_form w x h k
 outlet_form : (w : ℕ) (x : Name) → nat_le 1 w ≡ true → is_name x ≡ true → is_element (Outlet w x) ≡ true
 outlet_form w x h k = declared_form w x h k
 
-link_form : (w : ℕ) (x : Name) → nat_le 1 w ≡ true → is_name x ≡ true → is_element (Link w x) ≡ true
+link_form : (w : ℕ) (x : Name) → nat_le 1 w ≡ true → is_name x ≡ true → is_element (InstanceWire w x) ≡ true
 link_form w x h k = declared_form w x h k
 
 register_form : (w : ℕ) (x : Name) → nat_le 1 w ≡ true → is_name x ≡ true → is_element (Register w x) ≡ true
@@ -134,28 +134,28 @@ joined_form : (l : Connection) (rest : List Connection) → is_name l.port ≡ t
 joined_form l rest h k r = yes_and (is_name l.port && is_name l.net) (list_all is_connection rest) (yes_and (is_name l.port) (is_name l.net) h k) r
 
 relay_ends_form : (put din rdy_early put_late din_late rdy : Name) → is_name put ≡ true → is_name din ≡ true → is_name rdy_early ≡ true → is_name put_late ≡ true → is_name din_late ≡ true → is_name rdy ≡ true
-    → list_all is_connection (relay_ends put din rdy_early put_late din_late rdy) ≡ true
+    → list_all is_connection (relay_connections put din rdy_early put_late din_late rdy) ≡ true
 relay_ends_form put din rdy_early put_late din_late rdy a b c d e f =
-    joined_form (joined_to (codes "clk") (codes "clk")) (joined_to (codes "rst") (codes "rst") ∷ joined_to (codes "put") put ∷ joined_to (codes "din") din ∷ joined_to (codes "rdy_early") rdy_early ∷ joined_to (codes "put_late") put_late ∷ joined_to (codes "din_late") din_late ∷ joined_to (codes "rdy") rdy ∷ []) (relay_word (codes "clk") refl) (relay_word (codes "clk") refl)
-    (joined_form (joined_to (codes "rst") (codes "rst")) (joined_to (codes "put") put ∷ joined_to (codes "din") din ∷ joined_to (codes "rdy_early") rdy_early ∷ joined_to (codes "put_late") put_late ∷ joined_to (codes "din_late") din_late ∷ joined_to (codes "rdy") rdy ∷ []) (relay_word (codes "rst") refl) (relay_word (codes "rst") refl)
-    (joined_form (joined_to (codes "put") put) (joined_to (codes "din") din ∷ joined_to (codes "rdy_early") rdy_early ∷ joined_to (codes "put_late") put_late ∷ joined_to (codes "din_late") din_late ∷ joined_to (codes "rdy") rdy ∷ []) (relay_word (codes "put") refl) a
-    (joined_form (joined_to (codes "din") din) (joined_to (codes "rdy_early") rdy_early ∷ joined_to (codes "put_late") put_late ∷ joined_to (codes "din_late") din_late ∷ joined_to (codes "rdy") rdy ∷ []) (relay_word (codes "din") refl) b
-    (joined_form (joined_to (codes "rdy_early") rdy_early) (joined_to (codes "put_late") put_late ∷ joined_to (codes "din_late") din_late ∷ joined_to (codes "rdy") rdy ∷ []) (relay_word (codes "rdy_early") refl) c
-    (joined_form (joined_to (codes "put_late") put_late) (joined_to (codes "din_late") din_late ∷ joined_to (codes "rdy") rdy ∷ []) (relay_word (codes "put_late") refl) d
-    (joined_form (joined_to (codes "din_late") din_late) (joined_to (codes "rdy") rdy ∷ []) (relay_word (codes "din_late") refl) e
-    (joined_form (joined_to (codes "rdy") rdy) ([]) (relay_word (codes "rdy") refl) f
+    joined_form (connected_to (codes "clk") (codes "clk")) (connected_to (codes "rst") (codes "rst") ∷ connected_to (codes "put") put ∷ connected_to (codes "din") din ∷ connected_to (codes "rdy_early") rdy_early ∷ connected_to (codes "put_late") put_late ∷ connected_to (codes "din_late") din_late ∷ connected_to (codes "rdy") rdy ∷ []) (relay_word (codes "clk") refl) (relay_word (codes "clk") refl)
+    (joined_form (connected_to (codes "rst") (codes "rst")) (connected_to (codes "put") put ∷ connected_to (codes "din") din ∷ connected_to (codes "rdy_early") rdy_early ∷ connected_to (codes "put_late") put_late ∷ connected_to (codes "din_late") din_late ∷ connected_to (codes "rdy") rdy ∷ []) (relay_word (codes "rst") refl) (relay_word (codes "rst") refl)
+    (joined_form (connected_to (codes "put") put) (connected_to (codes "din") din ∷ connected_to (codes "rdy_early") rdy_early ∷ connected_to (codes "put_late") put_late ∷ connected_to (codes "din_late") din_late ∷ connected_to (codes "rdy") rdy ∷ []) (relay_word (codes "put") refl) a
+    (joined_form (connected_to (codes "din") din) (connected_to (codes "rdy_early") rdy_early ∷ connected_to (codes "put_late") put_late ∷ connected_to (codes "din_late") din_late ∷ connected_to (codes "rdy") rdy ∷ []) (relay_word (codes "din") refl) b
+    (joined_form (connected_to (codes "rdy_early") rdy_early) (connected_to (codes "put_late") put_late ∷ connected_to (codes "din_late") din_late ∷ connected_to (codes "rdy") rdy ∷ []) (relay_word (codes "rdy_early") refl) c
+    (joined_form (connected_to (codes "put_late") put_late) (connected_to (codes "din_late") din_late ∷ connected_to (codes "rdy") rdy ∷ []) (relay_word (codes "put_late") refl) d
+    (joined_form (connected_to (codes "din_late") din_late) (connected_to (codes "rdy") rdy ∷ []) (relay_word (codes "din_late") refl) e
+    (joined_form (connected_to (codes "rdy") rdy) ([]) (relay_word (codes "rdy") refl) f
     refl)))))))
 
-fifo_ends_form : (put din rdy : Name) → is_name put ≡ true → is_name din ≡ true → is_name rdy ≡ true → list_all is_connection (fifo_ends put din rdy) ≡ true
+fifo_ends_form : (put din rdy : Name) → is_name put ≡ true → is_name din ≡ true → is_name rdy ≡ true → list_all is_connection (fifo_connections put din rdy) ≡ true
 fifo_ends_form put din rdy a b c =
-    joined_form (joined_to (codes "clk") (codes "clk")) (joined_to (codes "rst") (codes "rst") ∷ joined_to (codes "put") put ∷ joined_to (codes "din") din ∷ joined_to (codes "take") (codes "take") ∷ joined_to (codes "rdy") rdy ∷ joined_to (codes "has") (codes "has") ∷ joined_to (codes "dout") (codes "dout") ∷ []) (relay_word (codes "clk") refl) (relay_word (codes "clk") refl)
-    (joined_form (joined_to (codes "rst") (codes "rst")) (joined_to (codes "put") put ∷ joined_to (codes "din") din ∷ joined_to (codes "take") (codes "take") ∷ joined_to (codes "rdy") rdy ∷ joined_to (codes "has") (codes "has") ∷ joined_to (codes "dout") (codes "dout") ∷ []) (relay_word (codes "rst") refl) (relay_word (codes "rst") refl)
-    (joined_form (joined_to (codes "put") put) (joined_to (codes "din") din ∷ joined_to (codes "take") (codes "take") ∷ joined_to (codes "rdy") rdy ∷ joined_to (codes "has") (codes "has") ∷ joined_to (codes "dout") (codes "dout") ∷ []) (relay_word (codes "put") refl) a
-    (joined_form (joined_to (codes "din") din) (joined_to (codes "take") (codes "take") ∷ joined_to (codes "rdy") rdy ∷ joined_to (codes "has") (codes "has") ∷ joined_to (codes "dout") (codes "dout") ∷ []) (relay_word (codes "din") refl) b
-    (joined_form (joined_to (codes "take") (codes "take")) (joined_to (codes "rdy") rdy ∷ joined_to (codes "has") (codes "has") ∷ joined_to (codes "dout") (codes "dout") ∷ []) (fifo_word (codes "take") refl) (fifo_word (codes "take") refl)
-    (joined_form (joined_to (codes "rdy") rdy) (joined_to (codes "has") (codes "has") ∷ joined_to (codes "dout") (codes "dout") ∷ []) (relay_word (codes "rdy") refl) c
-    (joined_form (joined_to (codes "has") (codes "has")) (joined_to (codes "dout") (codes "dout") ∷ []) (fifo_word (codes "has") refl) (fifo_word (codes "has") refl)
-    (joined_form (joined_to (codes "dout") (codes "dout")) ([]) (fifo_word (codes "dout") refl) (fifo_word (codes "dout") refl)
+    joined_form (connected_to (codes "clk") (codes "clk")) (connected_to (codes "rst") (codes "rst") ∷ connected_to (codes "put") put ∷ connected_to (codes "din") din ∷ connected_to (codes "take") (codes "take") ∷ connected_to (codes "rdy") rdy ∷ connected_to (codes "has") (codes "has") ∷ connected_to (codes "dout") (codes "dout") ∷ []) (relay_word (codes "clk") refl) (relay_word (codes "clk") refl)
+    (joined_form (connected_to (codes "rst") (codes "rst")) (connected_to (codes "put") put ∷ connected_to (codes "din") din ∷ connected_to (codes "take") (codes "take") ∷ connected_to (codes "rdy") rdy ∷ connected_to (codes "has") (codes "has") ∷ connected_to (codes "dout") (codes "dout") ∷ []) (relay_word (codes "rst") refl) (relay_word (codes "rst") refl)
+    (joined_form (connected_to (codes "put") put) (connected_to (codes "din") din ∷ connected_to (codes "take") (codes "take") ∷ connected_to (codes "rdy") rdy ∷ connected_to (codes "has") (codes "has") ∷ connected_to (codes "dout") (codes "dout") ∷ []) (relay_word (codes "put") refl) a
+    (joined_form (connected_to (codes "din") din) (connected_to (codes "take") (codes "take") ∷ connected_to (codes "rdy") rdy ∷ connected_to (codes "has") (codes "has") ∷ connected_to (codes "dout") (codes "dout") ∷ []) (relay_word (codes "din") refl) b
+    (joined_form (connected_to (codes "take") (codes "take")) (connected_to (codes "rdy") rdy ∷ connected_to (codes "has") (codes "has") ∷ connected_to (codes "dout") (codes "dout") ∷ []) (fifo_word (codes "take") refl) (fifo_word (codes "take") refl)
+    (joined_form (connected_to (codes "rdy") rdy) (connected_to (codes "has") (codes "has") ∷ connected_to (codes "dout") (codes "dout") ∷ []) (relay_word (codes "rdy") refl) c
+    (joined_form (connected_to (codes "has") (codes "has")) (connected_to (codes "dout") (codes "dout") ∷ []) (fifo_word (codes "has") refl) (fifo_word (codes "has") refl)
+    (joined_form (connected_to (codes "dout") (codes "dout")) ([]) (fifo_word (codes "dout") refl) (fifo_word (codes "dout") refl)
     refl)))))))
 
 -- elements one after another
@@ -374,7 +374,7 @@ fifo_forms bits depth places pb cb b n p c = (
   ),
 )
 
-plain_forms : (bits : ℕ) (fifo : Name) → nat_le 1 bits ≡ true → is_name fifo ≡ true → AreElements (channel_ports bits (Instance fifo (codes "fifo") (fifo_ends (codes "put") (codes "din") (codes "ready")) ∷ []))
+plain_forms : (bits : ℕ) (fifo : Name) → nat_le 1 bits ≡ true → is_name fifo ≡ true → AreElements (channel_ports bits (Instance fifo (codes "fifo") (fifo_connections (codes "put") (codes "din") (codes "ready")) ∷ []))
 plain_forms bits fifo b f = (
   input_form bits (codes "din") b (relay_word (codes "din") refl),
   (
@@ -392,7 +392,7 @@ plain_forms bits fifo b f = (
               (
                 wire_form 1 (codes "put") (two (codes "wr") And (codes "ready")) refl (relay_word (codes "put") refl) (two_form (codes "wr") And (codes "ready") (channel_word (codes "wr") refl) (channel_word (codes "ready") refl)),
                 (
-                  instance_form fifo (codes "fifo") (fifo_ends (codes "put") (codes "din") (codes "ready")) f (channel_word (codes "fifo") refl) refl (fifo_ends_form (codes "put") (codes "din") (codes "ready") (relay_word (codes "put") refl) (relay_word (codes "din") refl) (channel_word (codes "ready") refl)),
+                  instance_form fifo (codes "fifo") (fifo_connections (codes "put") (codes "din") (codes "ready")) f (channel_word (codes "fifo") refl) refl (fifo_ends_form (codes "put") (codes "din") (codes "ready") (relay_word (codes "put") refl) (relay_word (codes "din") refl) (channel_word (codes "ready") refl)),
                   tt,
                 ),
               ),
@@ -428,9 +428,9 @@ relayed_forms bits relay fifo b r f = (
                     (
                       link_form 1 (codes "rdy_early") refl (relay_word (codes "rdy_early") refl),
                       (
-                        instance_form relay (codes "relay") (relay_ends (codes "put") (codes "din") (codes "rdy_early") (codes "put_late") (codes "din_late") (codes "ready")) r (channel_word (codes "relay") refl) refl (relay_ends_form (codes "put") (codes "din") (codes "rdy_early") (codes "put_late") (codes "din_late") (codes "ready") (relay_word (codes "put") refl) (relay_word (codes "din") refl) (relay_word (codes "rdy_early") refl) (relay_word (codes "put_late") refl) (relay_word (codes "din_late") refl) (channel_word (codes "ready") refl)),
+                        instance_form relay (codes "relay") (relay_connections (codes "put") (codes "din") (codes "rdy_early") (codes "put_late") (codes "din_late") (codes "ready")) r (channel_word (codes "relay") refl) refl (relay_ends_form (codes "put") (codes "din") (codes "rdy_early") (codes "put_late") (codes "din_late") (codes "ready") (relay_word (codes "put") refl) (relay_word (codes "din") refl) (relay_word (codes "rdy_early") refl) (relay_word (codes "put_late") refl) (relay_word (codes "din_late") refl) (channel_word (codes "ready") refl)),
                         (
-                          instance_form fifo (codes "fifo") (fifo_ends (codes "put_late") (codes "din_late") (codes "rdy_early")) f (channel_word (codes "fifo") refl) refl (fifo_ends_form (codes "put_late") (codes "din_late") (codes "rdy_early") (relay_word (codes "put_late") refl) (relay_word (codes "din_late") refl) (relay_word (codes "rdy_early") refl)),
+                          instance_form fifo (codes "fifo") (fifo_connections (codes "put_late") (codes "din_late") (codes "rdy_early")) f (channel_word (codes "fifo") refl) refl (fifo_ends_form (codes "put_late") (codes "din_late") (codes "rdy_early") (relay_word (codes "put_late") refl) (relay_word (codes "din_late") refl) (relay_word (codes "rdy_early") refl)),
                           tt,
                         ),
                       ),
@@ -480,7 +480,7 @@ fifo_form bits depth places h k l m some =
 
 pub plain_form : (bits depth : ℕ) → 2 ≤ bits → bits < 2 ^ 32 → depth < 2 ^ 32 → IsModule (plain_tree bits depth)
 plain_form bits depth h k l =
-    form_of (channel_name bits depth 0) (channel_ports bits (Instance (fifo_name bits depth depth) (codes "fifo") (fifo_ends (codes "put") (codes "din") (codes "ready")) ∷ []))
+    form_of (channel_name bits depth 0) (channel_ports bits (Instance (fifo_name bits depth depth) (codes "fifo") (fifo_connections (codes "put") (codes "din") (codes "ready")) ∷ []))
     (channel_is_name bits depth 0 (omega arith) (omega arith) (omega arith)) (plain_forms bits (fifo_name bits depth depth) (le-leb 1 bits (omega arith)) (fifo_is_name bits depth depth (omega arith) (omega arith) (omega arith)))
 
 pub relayed_form : (bits depth late : ℕ) → 2 ≤ bits → bits < 2 ^ 32 → depth ≤ 4096 → late ≤ 1000000 → IsModule (relayed_tree bits depth late)

@@ -22,7 +22,7 @@ use Rattle.vlog_module_laws.proofs.Ranks.{lower}
 use Rattle.vlog_module_laws.proofs.Larger.{known_by}
 use Rattle.hw_build.proofs.Forms.{all_append}
 use Rattle.hw_channel_lines.specs.Names.{fifo_name, relay_name}
-use Rattle.hw_channel_lines.specs.Texts.{step_tree, even_tree, odd_tree, fifo_tree, plain_tree, relayed_tree, first_part, second_of_two, second_of_three, third_part, relay_ends, fifo_ends}
+use Rattle.hw_channel_lines.specs.Texts.{step_tree, even_tree, odd_tree, fifo_tree, plain_tree, relayed_tree, first_part, second_of_two, second_of_three, third_part, relay_connections, fifo_connections}
 use Rattle.hw_channel_laws.specs.modules.Rules.{outer_ports}
 
 abbrev firsts : List Name
@@ -150,21 +150,21 @@ unfolding rank clk rst connection_edge port_of
 third_falls bits = refl
 
 abbrev pub relay_joined : List Connection
-relay_joined = relay_ends (codes "put") (codes "din") (codes "rdy_early") (codes "put_late") (codes "din_late") (codes "ready")
+relay_joined = relay_connections (codes "put") (codes "din") (codes "rdy_early") (codes "put_late") (codes "din_late") (codes "ready")
 
 relay_falls : (bits : ℕ) → list_all falls (map (connection_edge (map port_declared (relay_ports bits)) (codes "relay")) relay_joined) ≡ true
 unfolding rank clk rst connection_edge port_of
 relay_falls bits = refl
 
 abbrev pub plain_joined : List Connection
-plain_joined = fifo_ends (codes "put") (codes "din") (codes "ready")
+plain_joined = fifo_connections (codes "put") (codes "din") (codes "ready")
 
 plain_fifo_falls : (bits : ℕ) → list_all falls (map (connection_edge (map port_declared (fifo_ports bits)) (codes "fifo")) plain_joined) ≡ true
 unfolding rank clk rst connection_edge port_of
 plain_fifo_falls bits = refl
 
 abbrev pub late_joined : List Connection
-late_joined = fifo_ends (codes "put_late") (codes "din_late") (codes "rdy_early")
+late_joined = fifo_connections (codes "put_late") (codes "din_late") (codes "rdy_early")
 
 late_fifo_falls : (bits : ℕ) → list_all falls (map (connection_edge (map port_declared (fifo_ports bits)) (codes "fifo")) late_joined) ≡ true
 unfolding rank clk rst connection_edge port_of

@@ -18,7 +18,7 @@ use Rattle.hw_channel_laws.proofs.signals.Lines.{bits as bits_are}
 use Rattle.hw_channel_laws.proofs.signals.Relays.{delays}
 use Rattle.hw_channel_laws.proofs.signals.Laws.{plain, channel}
 use Rattle.hw_channel_lines.specs.Names.{fifo_name, relay_name}
-use Rattle.hw_channel_lines.specs.Texts.{fifo_tree, plain_tree, relayed_tree, fifo_ends, relay_ends, of_net, two, AreRelays, AreModules, Alone, Relayed}
+use Rattle.hw_channel_lines.specs.Texts.{fifo_tree, plain_tree, relayed_tree, fifo_connections, relay_connections, of_net, two, AreRelays, AreModules, Alone, Relayed}
 use Rattle.hw_build.specs.Widths.{bits_for}
 use Rattle.hw_channel_laws.specs.modules.Ports.{fifo_ports, relay_ports, channel_ports, AreFoundIn, ActsAsChannel}
 use Rattle.hw_channel_laws.proofs.modules.Fifos.{is_fifo, rdy_is, small_bit}
@@ -79,8 +79,8 @@ module _ (all : List ModuleTree) (root : ModuleTree) (nets : ℕ → Path → Cy
       let fifo_at : module_at all root (codes "fifo" ∷ path) ≡ Some (fifo_tree width depth depth) =
       inside all root nets runs path (plain_tree width depth) at (codes "fifo") (fifo_name width depth depth) refl ∙ found (fifo_tree width depth depth) (inr (inl refl)) in
       let fifo_run = runs.each (codes "fifo" ∷ path) (fifo_tree width depth depth) fifo_at in
-      let ends : (j : ℕ) (port net : Name) → slice_get (fifo_ends (codes "put") (codes "din") (codes "ready")) j ≡ Some (record { port = port; net = net }) → (n : ℕ) → in_fifo n port ≡ here n net =
-      (λ j port net c n. joined all root nets runs path (plain_tree width depth) at 4 j (fifo_name width depth depth) (codes "fifo") (fifo_ends (codes "put") (codes "din") (codes "ready")) refl port net c n) in
+      let ends : (j : ℕ) (port net : Name) → slice_get (fifo_connections (codes "put") (codes "din") (codes "ready")) j ≡ Some (record { port = port; net = net }) → (n : ℕ) → in_fifo n port ≡ here n net =
+      (λ j port net c n. joined all root nets runs path (plain_tree width depth) at 4 j (fifo_name width depth depth) (codes "fifo") (fifo_connections (codes "put") (codes "din") (codes "ready")) refl port net c n) in
       let fifo_reset : Resets (λ n. in_fifo n rst) = same_resets (λ n. in_fifo n rst) (λ n. here n rst) (ends 1 (codes "rst") (codes "rst") refl) reset in
       let ready : (n : ℕ) → here n (codes "rdy") ≡ in_fifo n (codes "rdy") =
       (λ n. driven_is (plain_tree width depth) (λ n. nets n path) f 1 (codes "rdy") (of_net (codes "ready")) refl n ∙ sym (ends 5 (codes "rdy") (codes "ready") refl n)) in
@@ -121,12 +121,12 @@ module _ (all : List ModuleTree) (root : ModuleTree) (nets : ℕ → Path → Cy
       let fifo_at : module_at all root (codes "fifo" ∷ path) ≡ Some (fifo_tree width depth (depth + 2 * late)) =
       inside all root nets runs path (relayed_tree width depth late) at (codes "fifo") (fifo_name width depth (depth + 2 * late)) refl ∙ found (fifo_tree width depth (depth + 2 * late)) (inr (inl refl)) in
       let fifo_run = runs.each (codes "fifo" ∷ path) (fifo_tree width depth (depth + 2 * late)) fifo_at in
-      let ends : (j : ℕ) (port net : Name) → slice_get (fifo_ends (codes "put_late") (codes "din_late") (codes "rdy_early")) j ≡ Some (record { port = port; net = net }) → (n : ℕ) → in_fifo n port ≡ here n net =
-      (λ j port net c n. joined all root nets runs path (relayed_tree width depth late) at 8 j (fifo_name width depth (depth + 2 * late)) (codes "fifo") (fifo_ends (codes "put_late") (codes "din_late") (codes "rdy_early")) refl port net c n) in
+      let ends : (j : ℕ) (port net : Name) → slice_get (fifo_connections (codes "put_late") (codes "din_late") (codes "rdy_early")) j ≡ Some (record { port = port; net = net }) → (n : ℕ) → in_fifo n port ≡ here n net =
+      (λ j port net c n. joined all root nets runs path (relayed_tree width depth late) at 8 j (fifo_name width depth (depth + 2 * late)) (codes "fifo") (fifo_connections (codes "put_late") (codes "din_late") (codes "rdy_early")) refl port net c n) in
       let sides : (j : ℕ) (port net : Name)
-      → slice_get (relay_ends (codes "put") (codes "din") (codes "rdy_early") (codes "put_late") (codes "din_late") (codes "ready")) j ≡ Some (record { port = port; net = net }) → (n : ℕ) → in_relay n port ≡ here n net =
+      → slice_get (relay_connections (codes "put") (codes "din") (codes "rdy_early") (codes "put_late") (codes "din_late") (codes "ready")) j ≡ Some (record { port = port; net = net }) → (n : ℕ) → in_relay n port ≡ here n net =
       (λ j port net c n.
-      joined all root nets runs path (relayed_tree width depth late) at 7 j (relay_name width late) (codes "relay") (relay_ends (codes "put") (codes "din") (codes "rdy_early") (codes "put_late") (codes "din_late") (codes "ready")) refl port net c n) in
+      joined all root nets runs path (relayed_tree width depth late) at 7 j (relay_name width late) (codes "relay") (relay_connections (codes "put") (codes "din") (codes "rdy_early") (codes "put_late") (codes "din_late") (codes "ready")) refl port net c n) in
       let fifo_reset : Resets (λ n. in_fifo n rst) = same_resets (λ n. in_fifo n rst) (λ n. here n rst) (ends 1 (codes "rst") (codes "rst") refl) reset in
       let relay =
       is_relay all root nets runs width (λ n. in_fifo n rst) late relays are (λ m h. found m (inr (inr h))) (codes "relay" ∷ path)

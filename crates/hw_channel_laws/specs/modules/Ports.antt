@@ -41,7 +41,7 @@ channel_ports run = record {
   take = λ n. (run n).net (codes "take");
 }
 
--- each of these modules is found among all by its name
+-- each of these modules is the one among all that has its name
 abbrev pub AreFoundIn : List ModuleTree → List ModuleTree → Type 0
 AreFoundIn all ms = (m : ModuleTree) → Has ms m → module_named all m.name ≡ Some m
 

@@ -1,4 +1,4 @@
--- What the modules of a channel keep by themselves, beside what a channel owes.
+-- What the modules of a channel keep by themselves, beside the contract of a channel.
 use Rattle.std.specs.Prelude.{◌≡◌, ℕ, ◌+◌, ◌*◌, ◌^◌, ◌<◌, ◌≤◌, Bool, List, [], ◌∷◌, ◌++◌, map, codes}
 use Rattle.vlog_tree.specs.declared.tree.Connection.{Connection}
 use Rattle.vlog_tree.specs.declared.tree.Direction.TheVariants.{Input as Inward, Output as Outward}
@@ -18,7 +18,7 @@ abbrev pub OfFirst : (ModuleTree → Type 0) → List ModuleTree → Type 0
 OfFirst P [] = ⊥
 OfFirst P (m ∷ ms) = P m
 
--- the ports of a channel whose tokens have so many bits
+-- the ports of a channel whose tokens have `bits` bits
 abbrev pub outer_ports : ℕ → List PortDecl
 outer_ports bits =
     record { direction = Inward; width = 1; name = clk } ∷ record { direction = Inward; width = 1; name = rst } ∷ record { direction = Inward; width = bits; name = codes "din" }
@@ -29,7 +29,7 @@ outer_ports bits =
 abbrev pub IsOutermost : (bits depth late : ℕ) → ModuleTree → Type 0
 IsOutermost bits depth late m = (m.name ≡ channel_name bits depth late) × (m.ports ≡ outer_ports bits)
 
--- among these modules no output of this one rests on an input within a cycle, whichever module is the top
+-- among these modules no output of this one depends on an input within a cycle, whichever module is the top
 abbrev pub HasNoWayThrough : List ModuleTree → ModuleTree → Type 0
 HasNoWayThrough ms m =
     (is_top : Name → Bool) (x y : Name) → net_kind_of (map port_declared m.ports) x ≡ Output → net_kind_of (map port_declared m.ports) y ≡ Input → Rests ms is_top m x y → ⊥
@@ -40,7 +40,9 @@ HaveNoLoop ms = (is_top : Name → Bool) → IsLoopless ms is_top
 
 -- the clock of an instance is the clock of the module
 abbrev pub JoinClocks : List ModuleTree → Type 0
-JoinClocks ms = (m : ModuleTree) → Has ms m → (k i : Name) (connections : List Connection) → Has m.items (Instance k i connections) → (l : Connection) → Has connections l → l.port ≡ clk → l.net ≡ clk
+JoinClocks ms =
+    (m : ModuleTree) → Has ms m → (k i : Name) (connections : List Connection) → Has m.items (Instance k i connections) → (l : Connection) → Has connections l → l.port ≡ clk
+    → l.net ≡ clk
 
 -- no module has a name like a task's
 abbrev pub AreNoTasks : List ModuleTree → Type 0

@@ -15,7 +15,7 @@ pub record IsPlain (c : ChannelPorts) (f : FifoPorts) : Type 0 where
   pub dout_is : (n : ℕ) → c.dout n ≡ f.dout n
   pub take_is : (n : ℕ) → f.take n ≡ c.take n
 
--- The relay stands between the producer and the FIFO, which takes what comes without asking.
+-- The relay is between the producer and the FIFO, which takes what comes without asking.
 pub record IsJoined (c : ChannelPorts) (p : RelayPorts) (f : FifoPorts) : Type 0 where
   pub put_is : (n : ℕ) → p.put n ≡ bit (both c.wr c.rdy n)
   pub din_is : (n : ℕ) → p.din n ≡ c.din n
@@ -45,7 +45,9 @@ ChannelLaw = (depth late : ℕ) (rst : Signal) → Resets rst → (c : ChannelPo
 
 -- the FIFO of a channel is never written while it is full
 abbrev pub RoomLaw : Type 0
-RoomLaw = (depth late : ℕ) (rst : Signal) → Resets rst → (c : ChannelPorts) (p : RelayPorts) (f : FifoPorts) → IsChannel depth late rst c p f → (n : ℕ) → 0 < n → HasRoom (depth + 2 * late) f n
+RoomLaw =
+    (depth late : ℕ) (rst : Signal) → Resets rst → (c : ChannelPorts) (p : RelayPorts) (f : FifoPorts) → IsChannel depth late rst c p f → (n : ℕ) → 0 < n
+    → HasRoom (depth + 2 * late) f n
 
 -- the equations can be met: there is a channel for every producer, every consumer and all sizes
 pub record HasChannel (depth late : ℕ) (rst wr din take : Signal) : Type 0 where

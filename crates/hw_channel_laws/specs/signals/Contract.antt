@@ -1,4 +1,4 @@
--- What a channel owes to its producer and its consumer.
+-- What a channel guarantees to its producer and its consumer.
 use Rattle.std.specs.Prelude.{◌≡◌, ℕ, ◌+◌, ◌-◌, ◌*◌, ◌<◌, ◌≤◌, List, length, slice_get, Some, nat_lt, ◌&&◌}
 use Rattle.tapa_base.specs.Operators.{bit}
 use Rattle.hw_channel_laws.specs.signals.Signals.{Signal, both, carried_before, times, ones}

@@ -1,4 +1,4 @@
--- A FIFO by its printed lines, and what it owes as long as it is never written while it is full.
+-- A FIFO by its printed lines, and what it guarantees as long as it is never written while it is full.
 use Rattle.std.specs.Prelude.{◌≡◌, ℕ, suc, ◌+◌, ◌-◌, ◌%◌, ◌^◌, ◌<◌, ◌≤◌, Bool, true, false, not, List, length, slice_get, Some, nat_lt, ◌==◌, ◌&&◌, if◌then◌else◌}
 use Rattle.tapa_base.specs.Operators.{bit}
 use Rattle.hw_channel_laws.specs.signals.Signals.{Signal, both, Resets, carried_before, times}
@@ -11,7 +11,7 @@ pub record FifoPorts : Type 0 where
   pub dout : Signal
   pub take : Signal
 
--- the number of places, the widths of a place's number and of the count, and the count below which it is ready
+-- the number of entries, the widths of an entry's index and of the count, and the count below which it is ready
 pub record FifoSizes : Type 0 where
   pub places : ℕ
   pub place_bits : ℕ
@@ -24,7 +24,7 @@ pub record SizesFit (s : FifoSizes) : Type 0 where
   pub place_fits : s.places ≤ 2 ^ s.place_bits
   pub count_fits : s.places < 2 ^ s.count_bits
 
--- the place after p
+-- the index after p
 abbrev pub next_place : FifoSizes → ℕ → ℕ
 next_place s p = if p == s.places - 1 then 0 else (p + 1) % 2 ^ s.place_bits
 
@@ -38,7 +38,7 @@ puts f n = f.put n == 1
 abbrev pub pops : FifoPorts → ℕ → Bool
 pops f n = both f.take f.has n
 
--- registers head, tail and count, and cells by cycle and place, with any first contents
+-- registers head, tail and count, and cells by cycle and index, with any first contents
 pub record IsFifo (s : FifoSizes) (rst : Signal) (f : FifoPorts) : Type 0 where
   pub head : Signal
   pub tail : Signal
@@ -59,17 +59,19 @@ entered f n = carried_before (puts f) f.din n
 abbrev pub gone : FifoPorts → ℕ → ℕ
 gone f n = times (pops f) n
 
--- a token comes in only where there is a place for it
+-- a token comes in only where there is a free entry for it
 abbrev pub HasRoom : ℕ → FifoPorts → ℕ → Type 0
 HasRoom places f n = f.put n ≡ 1 → length (entered f n) < gone f n + places
 
--- what it owes in cycle n
+-- what it guarantees in cycle n
 pub record KeepsOrder (depth : ℕ) (f : FifoPorts) (n : ℕ) : Type 0 where
   pub order : gone f n ≤ length (entered f n)
   pub ready : f.rdy n ≡ bit (nat_lt (length (entered f n)) (gone f n + depth))
   pub offer : f.has n ≡ bit (nat_lt (gone f n) (length (entered f n)))
   pub token : gone f n < length (entered f n) → slice_get (entered f n) (gone f n) ≡ Some (f.dout n)
 
--- it owes this in each cycle before which it was never written while it was full
+-- it guarantees this in each cycle before which it was never written while it was full
 abbrev pub FifoLaw : Type 0
-FifoLaw = (s : FifoSizes) → SizesFit s → (rst : Signal) → Resets rst → (f : FifoPorts) → IsFifo s rst f → (n : ℕ) → 0 < n → ((m : ℕ) → 0 < m → m < n → HasRoom s.places f m) → KeepsOrder s.depth f n
+FifoLaw =
+    (s : FifoSizes) → SizesFit s → (rst : Signal) → Resets rst → (f : FifoPorts) → IsFifo s rst f → (n : ℕ) → 0 < n → ((m : ℕ) → 0 < m → m < n → HasRoom s.places f m)
+    → KeepsOrder s.depth f n

@@ -1,4 +1,4 @@
--- How printed lines come to the equations: bits, the last place, and cells past the end.
+-- How printed lines become the equations: bits, the last index, and cells past the end.
 use Rattle.std.specs.Prelude.{◌≡◌, ℕ, ◌+◌, ◌-◌, ◌%◌, ◌^◌, ◌<◌, Bool, not, bit_and, nat_lt, ◌==◌, ◌&&◌, if◌then◌else◌}
 use Rattle.tapa_base.specs.Operators.{bit}
 use Rattle.hw_channel_laws.specs.signals.Fifo.{FifoSizes, next_place}
@@ -14,7 +14,7 @@ BitsLaw = (a b : ℕ) → a < 2 → b < 2 → BitsAre a b
 abbrev pub TestLaw : Type 0
 TestLaw = (t : Bool) → (bit t == 1) ≡ t
 
--- the line for the next place where there are 2 ^ place_bits places, where there is one place, and in general
+-- the line for the next index where there are 2 ^ place_bits entries, where there is one entry, and in general
 pub record NextPlaceIs (s : FifoSizes) (p : ℕ) : Type 0 where
   pub all : s.places ≡ 2 ^ s.place_bits → (p + 1) % 2 ^ s.place_bits ≡ next_place s p
   pub one : s.places ≡ 1 → s.place_bits ≡ 1 → p < 2 → 0 ≡ next_place s p

@@ -22,7 +22,7 @@ pub record IsStep (rst : Signal) (p : RelayPorts) : Type 0 where
   pub din_goes : (n : ℕ) → p.din_late (suc n) ≡ p.din n
   pub rdy_goes : (n : ℕ) → p.rdy (suc n) ≡ (if rst n == 1 then 0 else p.rdy_early n)
 
--- a relay whose two parts are joined in a row
+-- a relay of two parts in a row
 pub record IsRow (p first second : RelayPorts) : Type 0 where
   pub put_first : (n : ℕ) → first.put n ≡ p.put n
   pub put_second : (n : ℕ) → second.put n ≡ first.put_late n
@@ -34,13 +34,13 @@ pub record IsRow (p first second : RelayPorts) : Type 0 where
   pub rdy_second : (n : ℕ) → first.rdy_early n ≡ second.rdy n
   pub rdy_last : (n : ℕ) → p.rdy n ≡ first.rdy n
 
--- a relay of so many steps: none, one, or two relays in a row, as two halves
+-- a relay of a number of steps: none, one, or two relays in a row, as two halves
 pub data IsRelay (rst : Signal) : ℕ → RelayPorts → Type 0 where
   Straight : (steps : ℕ) (p : RelayPorts) → steps ≡ 0 → IsStraight p → IsRelay rst steps p
   Step : (steps : ℕ) (p : RelayPorts) → steps ≡ 1 → IsStep rst p → IsRelay rst steps p
   Row : (steps : ℕ) (p : RelayPorts) (a b : ℕ) (first second : RelayPorts) → steps ≡ a + b → IsRow p first second → IsRelay rst a first → IsRelay rst b second → IsRelay rst steps p
 
--- each net is its source so many cycles ago; from cycle 1 on, validity and readiness are 0 up to then
+-- each net is its source `late` cycles ago; from cycle 1 on, validity and readiness are 0 up to then
 pub record Delays (late : ℕ) (p : RelayPorts) : Type 0 where
   pub put_late : (n : ℕ) → 0 < n → p.put_late n ≡ (if nat_lt late n then p.put (n - late) else 0)
   pub din_late : (n : ℕ) → late ≤ n → p.din_late n ≡ p.din (n - late)

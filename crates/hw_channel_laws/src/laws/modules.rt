@@ -3,12 +3,12 @@
 ghost use Rattle.hw_channel_laws.specs.modules.Ports.{ChannelsAct};
 ghost use Rattle.hw_channel_laws.specs.modules.Rules.{ModulesAreClear, NamesTellModules};
 
-/// The modules of a channel do what a channel owes, in any design and from any power-up contents.
+/// The modules of a channel meet its contract, in any design and from any power-up contents.
 pub fn law_channels_act()
     ensures { ChannelsAct }
 {}
 
-/// The modules of a channel break no rule by themselves, and none of their outputs rests on an input.
+/// The modules of a channel break no rule by themselves, and none of their outputs depends on an input.
 pub fn law_modules_are_clear()
     ensures { ModulesAreClear }
 {}

@@ -10,7 +10,7 @@ pub fn law_fifo()
     ensures { FifoLaw }
 {}
 
-/// Each net of a relay is its source so many cycles ago.
+/// Each net of a relay of n steps is its source n cycles ago.
 pub fn law_relay()
     ensures { RelayLaw }
 {}
@@ -25,7 +25,7 @@ pub fn law_channel()
     ensures { ChannelLaw }
 {}
 
-/// The FIFO behind a relay never overflows, though it never refuses a token.
+/// The FIFO after a relay never overflows, though it never refuses a token.
 pub fn law_room()
     ensures { RoomLaw }
 {}
@@ -40,7 +40,7 @@ pub fn law_test()
     ensures { TestLaw }
 {}
 
-/// Each printed line for the place after another gives that place.
+/// Each printed line for the index after another gives that index.
 pub fn law_next_place()
     ensures { NextPlaceLaw }
 {}

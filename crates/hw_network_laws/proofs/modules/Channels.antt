@@ -15,7 +15,7 @@ use Rattle.hw_channel_laws.proofs.signals.Pointers.{bit_is, fewer_than}
 use Rattle.task_fsm.specs.Run.{StateStep, Performs, Awaits, Completes, Halts}
 use Rattle.hw_lines.specs.Signals.{Streams, History, Part}
 use Rattle.hw_lines.specs.Machine.{RunsMachine, offered, allows, takes_of, step_in, steps, put_in}
-use Rattle.hw_network_laws.specs.network.Channel.{carried, drawn, took_in, MeetsContract}
+use Rattle.hw_network_laws.specs.network.Channel.{carried, drawn, took_in, KeepsContract}
 use Rattle.hw_network_laws.specs.modules.Channels.{AreSignals, TakesOffers, IsStill}
 
 push : (f : ℕ → Token) (b : Bool) (l : List ℕ) (d : ℕ) → map f l ++ (if b then f d ∷ [] else []) ≡ map f (if b then l ++ d ∷ [] else l)
@@ -86,7 +86,7 @@ module _ (bits s : ℕ) (c : ChannelPorts) (S : Streams) (a : AreSignals bits s 
         ∙ ap (option_map (token_of bits)) (m.token (suc n) (omega arith) l)
         ∙ ap Some (sym (a.dout (suc n)))
 
-    pub meets : MeetsContract S s depth late
+    pub meets : KeepsContract S s depth late
     meets = record {
       ready = ready_is;
       offer = λ n.
@@ -135,7 +135,7 @@ module _ (s : ℕ) (S : Streams) (q : IsStill s S) where
       ap (λ b. carried S s (suc n) ++ (if b then put_in S s (suc n) else [])) (lt-ltb 0 (suc n) (omega arith))
       ∙ ap (λ l. l ++ put_in S s (suc n)) (none_carried (suc n)) ∙ none_put (S.wr s (suc n)) n
 
-  pub still_meets : (late : ℕ) → MeetsContract S s 0 late
+  pub still_meets : (late : ℕ) → KeepsContract S s 0 late
   still_meets late = record {
     ready = λ n. q.rdy n ∙ no_room (nat_lt late (suc n)) (length (carried S s (suc n - 2 * late)) - length (drawn S s (suc n - late)));
     offer = λ n. q.has n ∙ sym (ap (λ l. nat_lt (length (drawn S s (suc n))) (length l)) (none_carried (suc n - late)) ∙ le-ltb (length (drawn S s (suc n))) 0 (omega arith));

@@ -18,7 +18,7 @@ use Rattle.task_fsm.specs.declared.machine.Fsm.{Fsm}
 use Rattle.hw_lines.specs.Signals.{Streams, History, Part}
 use Rattle.hw_lines.specs.Machine.{RunsMachine, put_in}
 use Rattle.hw_lines.specs.Runs.{answers_at}
-use Rattle.hw_network_laws.specs.network.Channel.{MeetsContract}
+use Rattle.hw_network_laws.specs.network.Channel.{KeepsContract}
 use Rattle.hw_network_laws.specs.network.Clocked.{IsPartOf, IsClocked}
 use Rattle.hw_network_laws.specs.modules.Channels.{TakesOffers}
 use Rattle.hw_network_laws.specs.modules.Tasks.{part_in, IsInstanceOf}
@@ -96,11 +96,11 @@ module _ (program : Program) (w : IsWellFormed program) (scalars : List ℕ) (me
       let c = r.consumer in
       takes_offers (parts c) S (answers_at (runs c)) (λ s. net.consumer s ≡ c) (λ s. net.producer s ≡ c) (h c) (runs_at c (reader_inside s r is)) s (consumer_is program scalars memories s (Some r) is)
 
-  channel_at : (s : ℕ) (o : Option Stream) → slice_get program.streams.items s ≡ o → MeetsContract S s (net.depth s) (latency s)
+  channel_at : (s : ℕ) (o : Option Stream) → slice_get program.streams.items s ≡ o → KeepsContract S s (net.depth s) (latency s)
   channel_at s (Some r) is =
-      subst (λ k. MeetsContract S s k (latency s)) (sym (depth_is program scalars memories s (Some r) is))
+      subst (λ k. KeepsContract S s k (latency s)) (sym (depth_is program scalars memories s (Some r) is))
       (meets (bits_of r.kind + 1) s (channels s) S (d.signals s r is) (only_offers s r is) r.depth (latency s) (d.contract s r is))
-  channel_at s None is = subst (λ k. MeetsContract S s k (latency s)) (sym (depth_is program scalars memories s None is)) (still_meets s S (d.still s is) (latency s))
+  channel_at s None is = subst (λ k. KeepsContract S s k (latency s)) (sym (depth_is program scalars memories s None is)) (still_meets s S (d.still s is) (latency s))
 
   puts_inside : (s n : ℕ) (o : Option Stream) → slice_get program.streams.items s ≡ o → net.size ≤ net.producer s → put_in S s (suc n) ≡ []
   puts_inside s n (Some r) is l =

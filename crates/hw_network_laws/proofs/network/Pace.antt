@@ -13,7 +13,7 @@ use Rattle.kahn_model.proofs.Count.{OwnTick, own_round, made_same, next_same, wr
 use Rattle.kahn_model.proofs.Order.{prefix_length}
 use Rattle.kahn_model.proofs.Taken.{taken_begins}
 use Rattle.kahn_model.proofs.Clocked.{and_parts, clock_founded, count_up, count_le}
-use Rattle.hw_network_laws.specs.network.Timed.{IsMadeIn, IsNext}
+use Rattle.hw_network_laws.specs.network.Timed.{IsMadeIn, IsNextTick}
 use Rattle.hw_network_laws.specs.network.Pace.{memory_of, MakesIn, is_ready, times, on_their_way, KeepsPace}
 use Rattle.hw_network_laws.proofs.network.Made.{made_more, made_stay, written_more}
 use Rattle.hw_network_laws.proofs.network.Timed.{one_next, and_both, moves_by_row, moved_tick, stays}
@@ -143,7 +143,7 @@ module _ (net : Network) (ok : IsNetwork net) (clock : Clock) where
 
   -- an allowed tick
   module _ (n i : ℕ) (one : 1 ≤ n) (a : IsAllowed net (at n) i) where
-    still_next : (m : ℕ) → n ≤ m → at m i ≡ at n i → IsNext net (at m) i a.supplied.tick
+    still_next : (m : ℕ) → n ≤ m → at m i ≡ at n i → IsNextTick net (at m) i a.supplied.tick
     still_next m le same = (round_of net (at m), next_same net ok (at n) (at m) (count_le net clock n m le) i (sym same) a.supplied.tick a.supplied.is_next)
 
     made_in : (m : ℕ) → n ≤ m → at m i ≡ at n i → IsMadeIn net clock m i a.supplied.tick → MakesIn net clock n i m

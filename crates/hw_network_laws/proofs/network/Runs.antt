@@ -13,7 +13,7 @@ use Rattle.hw_lines.specs.After.{at_after, held_after, ends_by}
 use Rattle.task_fsm.specs.Run.{StateStep, Performs, Awaits, Completes, Halts}
 use Rattle.hw_lines.specs.Signals.{Streams, History, Part}
 use Rattle.hw_lines.specs.Machine.{RunsMachine, allows, allows_act, takes_of, puts_by, puts_of, put_in, step_in, steps, found}
-use Rattle.hw_network_laws.specs.network.Channel.{carried, drawn, took_in, MeetsContract}
+use Rattle.hw_network_laws.specs.network.Channel.{carried, drawn, took_in, KeepsContract}
 use Rattle.hw_network_laws.specs.network.Clocked.{IsPartOf, IsClocked}
 use Rattle.hw_network_laws.specs.network.Run.{Stand, stood, has_by, dout_by, rdy_by, inputs_by, step_by, does_by, puts_in, takes_in, stands, is_some, streams_of, history_of}
 
@@ -109,7 +109,7 @@ module _ (net : Network) (clock : Clock) (parts : ℕ → Part) where
       ∙ ap (λ (z : List Token). slice_get ((stood parts (past n) 0).put s) (length z)) (drawn_is n s)
       ∙ got ((stood parts (past n) 0).put s) (length ((stood parts (past n) 0).took s)) (omega arith)
 
-  channel : (s : ℕ) → MeetsContract (streams_of net parts clock) s (net.depth s) (clock.latency s)
+  channel : (s : ℕ) → KeepsContract (streams_of net parts clock) s (net.depth s) (clock.latency s)
   channel s = record {
     ready = λ n.
         let L = clock.latency s in

@@ -11,7 +11,7 @@ use Rattle.kahn_model.specs.Network.{Network}
 use Rattle.kahn_model.specs.Counts.{written, taken}
 use Rattle.kahn_model.specs.Timed.{Clock, ago, tick_moves, past_of, count_at}
 use Rattle.hw_lines.specs.Signals.{Streams}
-use Rattle.hw_network_laws.specs.network.Channel.{carried, drawn, MeetsContract}
+use Rattle.hw_network_laws.specs.network.Channel.{carried, drawn, KeepsContract}
 use Rattle.hw_network_laws.specs.network.Clocked.{AreCarried}
 use Rattle.hw_network_laws.proofs.network.Ahead.{ahead, ahead_is}
 use Rattle.hw_network_laws.proofs.network.Allowed.{IsSeen}
@@ -27,7 +27,7 @@ get_drop l zero = refl
 get_drop [] (suc j) = refl
 get_drop (x ∷ l) (suc j) = get_drop l j
 
-module _ (net : Network) (clock : Clock) (S : Streams) (channels : (s : ℕ) → MeetsContract S s (net.depth s) (clock.latency s)) (n : ℕ) (so_far : (m : ℕ) → m ≤ suc n → AreCarried net clock S m) where
+module _ (net : Network) (clock : Clock) (S : Streams) (channels : (s : ℕ) → KeepsContract S s (net.depth s) (clock.latency s)) (n : ℕ) (so_far : (m : ℕ) → m ≤ suc n → AreCarried net clock S m) where
   put_ago : (s d : ℕ) → length (written net (ago (past_of net clock (suc n)) d) s) ≡ length (carried S s (suc n - d))
   put_ago s d =
       ap (λ k. length (written net k s)) (ago_is net clock (suc n) d)

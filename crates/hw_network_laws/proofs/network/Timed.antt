@@ -12,7 +12,7 @@ use Rattle.kahn_model.proofs.Order.{prefix_get}
 use Rattle.kahn_model.proofs.Grow.{round_le}
 use Rattle.kahn_model.proofs.Reach.{next_in_time}
 use Rattle.kahn_model.proofs.Clocked.{and_parts, clock_founded}
-use Rattle.hw_network_laws.specs.network.Timed.{IsMadeIn, IsNext, GoesByRows}
+use Rattle.hw_network_laws.specs.network.Timed.{IsMadeIn, IsNextTick, GoesByRows}
 use Rattle.hw_network_laws.proofs.network.Ahead.{token_there}
 use Rattle.hw_network_laws.proofs.network.Seen.{ago_is}
 
@@ -54,7 +54,7 @@ module _ (net : Network) (clock : Clock) (n : ℕ) where
   row_of i End e = tt
 
 module _ (net : Network) (ok : IsNetwork net) (clock : Clock) where
-  pub one_next : (k : ℕ → ℕ) (i : ℕ) (t u : Tick) → IsNext net k i t → IsNext net k i u → t ≡ u
+  pub one_next : (k : ℕ → ℕ) (i : ℕ) (t u : Tick) → IsNextTick net k i t → IsNextTick net k i u → t ≡ u
   one_next k i t u (m, e) (l, f) =
       let us = round net (m + l) i in
       let a : slice_get us (k i) ≡ Some t = prefix_get (round net m i) us (k i) t (round_le net ok m (m + l) (omega arith) i) e in
@@ -69,7 +69,7 @@ module _ (net : Network) (ok : IsNetwork net) (clock : Clock) where
   abbrev it_moves : ℕ → ℕ → Bool
   it_moves n i = moves net clock n (past_of net clock n) i
 
-  pub moves_by_row : (n i : ℕ) (t : Tick) → 1 ≤ n → i < net.size → IsNext net (count_at net clock n) i t → IsMadeIn net clock n i t → it_moves n i ≡ true
+  pub moves_by_row : (n i : ℕ) (t : Tick) → 1 ≤ n → i < net.size → IsNextTick net (count_at net clock n) i t → IsMadeIn net clock n i t → it_moves n i ≡ true
   moves_by_row n i t late inside (m, e) row =
       let mv = by_row net clock n i t row in
       let is : next net (count_at net clock n) i ≡ Some t = next_in_time net ok (count_at net clock n) (clock_founded net ok clock n) m i t inside e (token_there net ok clock n i t mv) in
@@ -82,7 +82,7 @@ module _ (net : Network) (ok : IsNetwork net) (clock : Clock) where
   pub moved_tick : (n i : ℕ) → it_moves n i ≡ true → (t : Tick) × (next net (count_at net clock n) i ≡ Some t) × IsMadeIn net clock n i t
   moved_tick n i e = moved n i (next net (count_at net clock n) i) refl (and_parts _ _ (and_parts _ _ e).1).1
 
-  pub stays : (n i : ℕ) → ((t : Tick) → 1 ≤ n → i < net.size → IsNext net (count_at net clock n) i t → IsMadeIn net clock n i t → ⊥) → count_at net clock (suc n) i ≡ count_at net clock n i
+  pub stays : (n i : ℕ) → ((t : Tick) → 1 ≤ n → i < net.size → IsNextTick net (count_at net clock n) i t → IsMadeIn net clock n i t → ⊥) → count_at net clock (suc n) i ≡ count_at net clock n i
   stays n i none = go (it_moves n i) refl
     where
       go : (b : Bool) → it_moves n i ≡ b → count_at net clock (suc n) i ≡ count_at net clock n i

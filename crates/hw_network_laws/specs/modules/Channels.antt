@@ -5,9 +5,9 @@ use Rattle.kahn_model.specs.Network.{Network}
 use Rattle.hw_channel_laws.specs.signals.Contract.{ChannelPorts, MeetsContract as OwesContract}
 use Rattle.hw_lines.specs.Signals.{Streams, History, Part}
 use Rattle.hw_lines.specs.Machine.{RunsMachine}
-use Rattle.hw_network_laws.specs.network.Channel.{MeetsContract}
+use Rattle.hw_network_laws.specs.network.Channel.{KeepsContract}
 
--- the signals of a channel whose tokens have so many bits are those of stream s
+-- the signals of a channel whose tokens have `bits` bits are those of stream s
 pub record AreSignals (bits s : ℕ) (c : ChannelPorts) (S : Streams) : Type 0 where
   pub has : (n : ℕ) → S.has s n ≡ (c.has n == 1)
   pub dout : (n : ℕ) → S.dout s n ≡ token_of bits (c.dout n)
@@ -22,7 +22,7 @@ TakesOffers s S = (n : ℕ) → S.take s (suc n) ≡ true → S.has s (suc n) �
 
 abbrev pub ChannelsMeetContract : Type 0
 ChannelsMeetContract =
-    (bits depth late s : ℕ) (c : ChannelPorts) (S : Streams) → AreSignals bits s c S → TakesOffers s S → OwesContract depth late c → MeetsContract S s depth late
+    (bits depth late s : ℕ) (c : ChannelPorts) (S : Streams) → AreSignals bits s c S → TakesOffers s S → OwesContract depth late c → KeepsContract S s depth late
 
 abbrev pub MachinesTakeOffers : Type 0
 MachinesTakeOffers =
@@ -36,4 +36,4 @@ pub record IsStill (s : ℕ) (S : Streams) : Type 0 where
   pub rdy : (n : ℕ) → S.rdy s (suc n) ≡ false
 
 abbrev pub StillStreamsMeetContract : Type 0
-StillStreamsMeetContract = (s late : ℕ) (S : Streams) → IsStill s S → MeetsContract S s 0 late
+StillStreamsMeetContract = (s late : ℕ) (S : Streams) → IsStill s S → KeepsContract S s 0 late

@@ -46,7 +46,8 @@ pub record IsDesignOf (program : Program) (scalars : List ℕ) (memories : List 
   pub still : (s : ℕ) → slice_get program.streams.items s ≡ None → IsStill s S
 
 -- the machines of these modules, and what is seen of each
-pub record AreMachines (program : Program) (machines : ℕ → Option Fsm) (runs : ℕ → ℕ → Cycle) (cells : ℕ → ℕ → List (List ℕ)) (parts : ℕ → Part) (h : ℕ → History) : Type 0 where
+pub record AreMachines (program : Program) (machines : ℕ → Option Fsm) (runs : ℕ → ℕ → Cycle) (cells : ℕ → ℕ → List (List ℕ)) (parts : ℕ → Part)
+    (h : ℕ → History) : Type 0 where
   pub part : (i : ℕ) (x : Instance) (leaf : Leaf) (machine : Fsm) → slice_get program.instances.items i ≡ Some x → slice_get program.bodies.items x.body ≡ Some leaf
       → machines i ≡ Some machine → parts i ≡ part_in x leaf machine (runs i) (cells i)
   pub history : (i : ℕ) (x : Instance) (leaf : Leaf) (machine : Fsm) → slice_get program.instances.items i ≡ Some x

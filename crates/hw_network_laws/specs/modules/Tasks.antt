@@ -19,7 +19,7 @@ use Rattle.hw_lines.specs.Runs.{number_at, streams_at, answers_at, history_at, p
 use Rattle.hw_network_laws.specs.network.Clocked.{IsPartOf}
 use Rattle.hw_network_laws.specs.network.Ports.{AreWired}
 
--- in the cycle of reset the values of an instance's scalar parameters stand at the module's ports, and then the memories
+-- in the cycle of reset the values of an instance's scalar parameters are at the module's ports, and then the memories
 -- have their first cells
 pub record BeginsAs (program : Program) (scalars : List ℕ) (memories : List (List ℕ)) (instance : Instance) (run : ℕ → Cycle) (cells : ℕ → List (List ℕ)) : Type 0 where
   pub scalars_stand : (p : ℕ) (b : Bound) → slice_get instance.scalars.items p ≡ Some b → number_at run (Scalar p) 0 ≡ bound_value (kinds_in program) scalars b

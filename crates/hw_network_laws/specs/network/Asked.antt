@@ -27,7 +27,7 @@ act_of_step f (Awaits s how pc into) = None
 act_of_step f Completes = None
 act_of_step f Halts = None
 
--- a machine that has not ended stands at the act that the count makes next
+-- a machine that has not ended is at the act that the count makes next
 abbrev pub MachinesStandAtNext : Type 0
 MachinesStandAtNext =
     (net : Network) (clock : Clock) (parts : ℕ → Part) (S : Streams) (h : ℕ → History) → IsClocked net clock parts S h → (n i : ℕ) → i < net.size

@@ -1,4 +1,4 @@
--- What a channel owes its two ends: tokens late by its latency, readiness late by its latency, and room for its depth.
+-- What a channel guarantees to its two ends: tokens and readiness delayed by its latency, and room for its depth.
 use Rattle.std.specs.Prelude.{◌≡◌, ℕ, zero, suc, ◌-◌, ◌*◌, List, [], ◌∷◌, ◌++◌, length, true, ◌&&◌, nat_lt, if◌then◌else◌, Some, slice_get}
 use Rattle.tapa_base.specs.declared.token.Token.{Token}
 use Rattle.hw_lines.specs.Signals.{Streams}
@@ -17,7 +17,7 @@ abbrev pub drawn : Streams → ℕ → ℕ → List Token
 drawn S s zero = []
 drawn S s (suc n) = drawn S s n ++ (if nat_lt 0 n then took_in S s n else [])
 
-pub record MeetsContract (S : Streams) (s depth latency : ℕ) : Type 0 where
+pub record KeepsContract (S : Streams) (s depth latency : ℕ) : Type 0 where
   pub ready :
       (n : ℕ) → S.rdy s (suc n) ≡ (nat_lt latency (suc n) && nat_lt (length (carried S s (suc n - 2 * latency)) - length (drawn S s (suc n - latency))) depth)
   pub offer : (n : ℕ) → S.has s (suc n) ≡ nat_lt (length (drawn S s (suc n))) (length (carried S s (suc n - latency)))

@@ -9,7 +9,7 @@ use Rattle.task_fsm.specs.Run.{cells_after}
 use Rattle.task_fsm.specs.Follows.{Follows}
 use Rattle.hw_lines.specs.Signals.{Streams, History, Part}
 use Rattle.hw_lines.specs.Machine.{RunsMachine, steps_before, put_in}
-use Rattle.hw_network_laws.specs.network.Channel.{carried, drawn, MeetsContract}
+use Rattle.hw_network_laws.specs.network.Channel.{carried, drawn, KeepsContract}
 
 -- the part follows the job, at the streams of its ports
 abbrev pub IsPartOf : (ℕ → Behavior) → Part → Type 0
@@ -20,7 +20,7 @@ pub record IsClocked (net : Network) (clock : Clock) (parts : ℕ → Part) (S :
   pub follows : (i : ℕ) → i < net.size → IsPartOf (net.job i) (parts i)
   pub runs :
       (i : ℕ) → i < net.size → RunsMachine (parts i) S (clock.answers i) (λ s. net.consumer s ≡ i) (λ s. net.producer s ≡ i) (h i)
-  pub channels : (s : ℕ) → MeetsContract S s (net.depth s) (clock.latency s)
+  pub channels : (s : ℕ) → KeepsContract S s (net.depth s) (clock.latency s)
   -- nothing comes from outside, and nothing goes there
   pub put_inside : (s n : ℕ) → net.size ≤ net.producer s → put_in S s (suc n) ≡ []
   pub taken_inside : (s n : ℕ) → net.size ≤ net.consumer s → S.take s (suc n) ≡ false
@@ -44,7 +44,7 @@ ClockedNetworksKeepTime =
     × ((i : ℕ) → i < net.size → IsInStep net clock (parts i) S i (h i) (suc n))
 
 -- so the streams carry what is Kahn's, all of it where the writer has ended, and what ends in a reachable count has ended
--- after at most so many cycles
+-- after a bounded number of cycles
 pub record CarriesKahn (net : Network) (clock : Clock) (S : Streams) (h : ℕ → History) : Type 0 where
   pub begins : (s n : ℕ) → IsKahnPrefix net s (carried S s (suc n))
   pub whole : (s n : ℕ) → net.producer s < net.size → (h (net.producer s)).ended (suc n) ≡ true → IsKahnStream net s (carried S s (suc n))

@@ -1,4 +1,4 @@
--- How late the timed counts can be, and how many tokens a stream can have on its way.
+-- How far the timed counts can be delayed, and how many tokens a stream can have in flight.
 use Rattle.std.specs.Prelude.{◌≡◌, ℕ, zero, suc, ◌+◌, ◌-◌, ◌*◌, ◌<◌, ◌≤◌, length, Bool, true, false, ◌&&◌, nat_lt, Option, Some, None}
 use Rattle.tapa_base.specs.Operators.{bit}
 use Rattle.kahn_model.specs.declared.tick.Action.TheVariants.{Local, Put, Load, Store}
@@ -33,19 +33,20 @@ abbrev pub times : (ℕ → Bool) → ℕ → ℕ → ℕ
 times holds n zero = bit (holds n)
 times holds n (suc d) = times holds n d + bit (holds (n - suc d))
 
--- such an answer is on its way to the producer for as many cycles as the latency says
+-- such an answer is in flight to the producer for the number of cycles of the latency
 abbrev pub on_their_way : Network → Clock → ℕ → ℕ → ℕ
 on_their_way net clock s n = times (is_ready net clock s) n (clock.latency s)
 
 pub record KeepsPace (net : Network) (clock : Clock) (top : ℕ) : Type 0 where
   -- a tick that is allowed is made in one of the cycles up to the greatest latency later
   pub soon :
-      (n i : ℕ) → 1 ≤ n → (allowed : IsAllowed net (count_at net clock n) i) → memory_of allowed.supplied.tick ≡ None → (m : ℕ) × (n ≤ m) × (m ≤ n + top) × MakesIn net clock n i m
+      (n i : ℕ) → 1 ≤ n → (allowed : IsAllowed net (count_at net clock n) i) → memory_of allowed.supplied.tick ≡ None
+      → (m : ℕ) × (n ≤ m) × (m ≤ n + top) × MakesIn net clock n i m
   -- where it is a Load or Store, in the first cycle in which its memory answers
   pub answered :
       (n i x m : ℕ) → 1 ≤ n → (allowed : IsAllowed net (count_at net clock n) i) → memory_of allowed.supplied.tick ≡ Some x → n ≤ m
       → ((j : ℕ) → n ≤ j → j < m → clock.answers i x j ≡ false) → clock.answers i x m ≡ true → MakesIn net clock n i m
-  -- the tokens that are written and not taken, with the answers on their way
+  -- the tokens that are written and not taken, with the answers in flight
   pub few : (s n : ℕ) → length (written net (count_at net clock n) s) - length (taken net (count_at net clock n) s) + on_their_way net clock s n ≤ net.depth s + 2 * clock.latency s
 
 abbrev pub TimedCountsKeepPace : Type 0

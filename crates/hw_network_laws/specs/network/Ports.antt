@@ -15,7 +15,7 @@ use Rattle.task_fsm.specs.Machine.{forms_of, StateForm, SetAt, CellAt, TestAt, R
 use Rattle.hw_lines.specs.Signals.{Streams, History, Part}
 use Rattle.hw_lines.specs.Machine.{RunsMachine, put_in}
 
--- a place reads and writes ports as they are declared: w says which are written
+-- a state reads and writes ports as they are declared: w says which are written
 abbrev pub UsesPorts : (ℕ → Option Bool) → StateForm → Type 0
 UsesPorts w (SetAt r e next) = Unit {0}
 UsesPorts w (CellAt a i e next) = Unit {0}
@@ -74,8 +74,10 @@ LoweredMachinesUsePorts =
 pub record HasPorts (program : Program) (i : ℕ) (instance : Instance) (leaf : Leaf) : Type 0 where
   pub distinct : (p q : ℕ) (b : Bool) → writes_of leaf.streams.items p ≡ Some b → writes_of leaf.streams.items q ≡ Some b → stream_at instance p ≡ stream_at instance q → p ≡ q
   pub inside : (p : ℕ) (b : Bool) → writes_of leaf.streams.items p ≡ Some b → (r : Stream) × (slice_get program.streams.items (stream_at instance p) ≡ Some r)
-  pub reader : (s : ℕ) (r : Stream) → slice_get program.streams.items s ≡ Some r → r.consumer ≡ i → (p : ℕ) × (writes_of leaf.streams.items p ≡ Some false) × (stream_at instance p ≡ s)
-  pub writer : (s : ℕ) (r : Stream) → slice_get program.streams.items s ≡ Some r → r.producer ≡ i → (p : ℕ) × (writes_of leaf.streams.items p ≡ Some true) × (stream_at instance p ≡ s)
+  pub reader : (s : ℕ) (r : Stream) → slice_get program.streams.items s ≡ Some r → r.consumer ≡ i
+      → (p : ℕ) × (writes_of leaf.streams.items p ≡ Some false) × (stream_at instance p ≡ s)
+  pub writer : (s : ℕ) (r : Stream) → slice_get program.streams.items s ≡ Some r → r.producer ≡ i
+      → (p : ℕ) × (writes_of leaf.streams.items p ≡ Some true) × (stream_at instance p ≡ s)
 
 abbrev pub InstancesHavePorts : Type 0
 InstancesHavePorts =

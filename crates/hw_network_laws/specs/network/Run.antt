@@ -11,7 +11,7 @@ use Rattle.hw_lines.specs.Signals.{Streams, History, Part}
 use Rattle.hw_lines.specs.Machine.{allows, found, takes_of, puts_of}
 use Rattle.hw_network_laws.specs.network.Clocked.{IsPartOf, IsClocked}
 
--- what stands before a cycle: each machine, and what each stream has carried and given
+-- the snapshot before a cycle: each machine, and what each stream has carried and given
 pub record Stand : Type 0 where
   pub at : ℕ → ℕ
   pub holds : ℕ → State
@@ -25,7 +25,7 @@ first_stand parts = record { at = λ i. 0; holds = λ i. (parts i).first; ended 
 abbrev pub stood : (ℕ → Part) → List Stand → ℕ → Stand
 stood parts past d = get_or past d (first_stand parts)
 
--- the channels in cycle n, by the stands so far, the newest first
+-- the channels in cycle n, by the snapshots so far, the newest first
 abbrev pub has_by : (ℕ → Part) → Clock → List Stand → ℕ → Bool
 has_by parts clock past s = nat_lt (length ((stood parts past 0).took s)) (length ((stood parts past (clock.latency s)).put s))
 
@@ -72,7 +72,7 @@ next_stand net parts clock n past = record {
   took = λ s. (stood parts past 0).took s ++ (if takes_in net parts clock n past s then dout_by parts past s ∷ [] else []);
 }
 
--- the stands before the cycles n, n - 1 and so on down to 1
+-- the snapshots before the cycles n, n - 1 and so on down to 1
 abbrev pub stands : Network → (ℕ → Part) → Clock → ℕ → List Stand
 stands net parts clock zero = []
 stands net parts clock (suc zero) = first_stand parts ∷ []

@@ -1,5 +1,5 @@
--- The timed counts of a network, row by row: when an instance makes its next tick. A token is seen as late as its stream
--- says, and so is room for one. Counts of cycles below 1 are zeros.
+-- The timed counts of a network, row by row: when an instance makes its next tick. A token is seen after its stream's
+-- latency, and so is room for one. Counts of cycles below 1 are zeros.
 use Rattle.std.specs.Prelude.{◌≡◌, ℕ, suc, ◌-◌, ◌*◌, ◌<◌, ◌≤◌, length, true, Some, slice_get}
 use Rattle.kahn_model.specs.declared.tick.Action.TheVariants.{Local, Put, Load, Store}
 use Rattle.kahn_model.specs.declared.tick.Tick.{Tick}
@@ -19,16 +19,18 @@ IsMadeIn net clock n i (Did (Store m a v)) = clock.answers i m n ≡ true
 IsMadeIn net clock n i (Did Local) = Unit {0}
 IsMadeIn net clock n i End = Unit {0}
 
--- the next tick of an instance that has made so many is the one after them, in any round that has it
-abbrev pub IsNext : Network → (ℕ → ℕ) → ℕ → Tick → Type 0
-IsNext net k i t = (m : ℕ) × (slice_get (round net m i) (k i) ≡ Some t)
+-- the next tick of an instance is the one after those that it has made, in any round that has it
+abbrev pub IsNextTick : Network → (ℕ → ℕ) → ℕ → Tick → Type 0
+IsNextTick net k i t = (m : ℕ) × (slice_get (round net m i) (k i) ≡ Some t)
 
 pub record GoesByRows (net : Network) (clock : Clock) : Type 0 where
   pub zeros : (n i : ℕ) → n ≤ 1 → count_at net clock n i ≡ 0
-  pub one_next : (n i : ℕ) (t u : Tick) → IsNext net (count_at net clock n) i t → IsNext net (count_at net clock n) i u → t ≡ u
-  pub made : (n i : ℕ) (t : Tick) → 1 ≤ n → i < net.size → IsNext net (count_at net clock n) i t → IsMadeIn net clock n i t → count_at net clock (suc n) i ≡ suc (count_at net clock n i)
+  pub one_next : (n i : ℕ) (t u : Tick) → IsNextTick net (count_at net clock n) i t → IsNextTick net (count_at net clock n) i u → t ≡ u
+  pub made : (n i : ℕ) (t : Tick) → 1 ≤ n → i < net.size → IsNextTick net (count_at net clock n) i t → IsMadeIn net clock n i t
+      → count_at net clock (suc n) i ≡ suc (count_at net clock n i)
   -- in each other case the count stays
-  pub stays : (n i : ℕ) → ((t : Tick) → 1 ≤ n → i < net.size → IsNext net (count_at net clock n) i t → IsMadeIn net clock n i t → ⊥) → count_at net clock (suc n) i ≡ count_at net clock n i
+  pub stays : (n i : ℕ) → ((t : Tick) → 1 ≤ n → i < net.size → IsNextTick net (count_at net clock n) i t → IsMadeIn net clock n i t → ⊥)
+      → count_at net clock (suc n) i ≡ count_at net clock n i
 
 abbrev pub TimedCountsGoByRows : Type 0
 TimedCountsGoByRows = (net : Network) → IsNetwork net → (clock : Clock) → GoesByRows net clock

@@ -4,7 +4,7 @@ ghost use Rattle.hw_network_laws.specs.modules.Channels.{ChannelsMeetContract, M
 ghost use Rattle.hw_network_laws.specs.modules.Tasks.{ModulesAreInstances};
 ghost use Rattle.hw_network_laws.specs.modules.Designs.{DesignsAreClocked};
 
-/// What a channel owes by the numbers at its ports is the contract of its stream, where nothing is taken that is not there.
+/// What a channel guarantees by the numbers at its ports is the contract of its stream, where nothing is taken that is not there.
 pub fn law_channels_meet_contract()
     ensures { ChannelsMeetContract }
 {}

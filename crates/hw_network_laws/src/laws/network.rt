@@ -20,8 +20,8 @@ pub fn law_networks_carry_kahn()
     ensures { ClockedNetworksCarryKahn }
 {}
 
-/// Such a network is done exactly where its joined instances have ended in the timed counts: a detached one is not waited
-/// for. Then each stream of a joined producer has carried its whole Kahn stream, any other a prefix of it, and it is done
+/// Such a network is done exactly where its instances have ended in the timed counts, but for detached ones, which are not waited
+/// for. Then each stream of a producer that is waited for has carried its whole Kahn stream, any other a prefix of it, and it is done
 /// within a stated number of cycles where a run within some bound is.
 pub fn law_done_is_of_joined()
     ensures { ClockedNetworksAreDone }
@@ -39,13 +39,13 @@ pub fn law_timed_counts_go_by_rows()
 {}
 
 /// A tick that is allowed is made after at most the greatest latency, or where it is a Load or Store in the first cycle in
-/// which its memory answers. The tokens that a stream holds, with the answers on their way to its writer that there is room,
+/// which its memory answers. The tokens that a stream holds, with the answers in flight to its writer that there is room,
 /// are never more than its depth and twice its latency.
 pub fn law_timed_counts_keep_pace()
     ensures { TimedCountsKeepPace }
 {}
 
-/// In each cycle a machine that has not ended stands at the act that its count makes next, whether it is made in the cycle or not; and
+/// In each cycle a machine that has not ended is at the act that its count makes next, whether it is made in the cycle or not; and
 /// a Load or Store whose memory does not answer is the next tick in the cycle after, too.
 pub fn law_requests_stay()
     ensures next { MachinesStandAtNext }

@@ -29,7 +29,7 @@ use Rattle.task_fsm.specs.Machine.{Expression, Number, Reg, CellOf, Converted, A
 use Rattle.task_fsm.specs.MachineKinds.{IsOfKind, IsTypedState}
 use Rattle.task_fsm.specs.Ranges.{Ranges, NamesWithin, IsInRange}
 use Rattle.task_fsm.specs.Run.{value}
-use Rattle.hw_lines.specs.declared.nets.Choice.TheVariants.{Reads, Spot}
+use Rattle.hw_lines.specs.declared.nets.Choice.TheVariants.{Reads, ArrayIndex}
 use Rattle.hw_lines.specs.declared.nets.Net.TheVariants.{State as StateNet, Ended, At, Array, Answer, Raw, ReadInside, ReadOn}
 use Rattle.hw_lines.specs.Nets.{name, front, value_front, index_front, read_front}
 use Rattle.hw_lines.specs.Shape.{Shape, kinds_in, array_kind, array_cells, index_bits, state_count, state_bits, form_at}
@@ -249,14 +249,14 @@ module _ (S : Shape) (title : Name) (run : ℕ → Cycle) (f : Follows (built ti
 
       abbrev last_two : List Element
       last_two =
-          Wire (bits_of (array_kind S a)) (name (Raw p a)) (Cell (name (Array a)) (choice (front (Spot p a)) (entries S (Spot p a))))
+          Wire (bits_of (array_kind S a)) (name (Raw p a)) (Cell (name (Array a)) (choice (front (ArrayIndex p a)) (entries S (ArrayIndex p a))))
           ∷ Wire (bits_of (array_kind S a)) (name (Answer p a)) (Choose (Net (choice (front (Reads p a)) (entries S (Reads p a)))) (net (Raw p a)) (Literal (bits_of (array_kind S a)) 0)) ∷ []
 
       abbrev any_part : List Element
       any_part = any_elements (front (Reads p a)) (entries S (Reads p a))
 
       abbrev pick_part : List Element
-      pick_part = pick_elements (index_bits S a) (front (Spot p a)) (entries S (Spot p a))
+      pick_part = pick_elements (index_bits S a) (front (ArrayIndex p a)) (entries S (ArrayIndex p a))
 
       both : IsAmong (any_part ++ pick_part) (all S)
       both = among_left (any_part ++ pick_part) last_two (all S) answers
@@ -264,13 +264,13 @@ module _ (S : Shape) (title : Name) (run : ℕ → Cycle) (f : Follows (built ti
       any_among : IsAmong (any_elements (front (Reads p a)) (entries S (Reads p a))) (all S)
       any_among = among_left any_part pick_part (all S) both
 
-      pick_among : IsAmong (pick_elements (index_bits S a) (front (Spot p a)) (entries S (Spot p a))) (all S)
+      pick_among : IsAmong (pick_elements (index_bits S a) (front (ArrayIndex p a)) (entries S (ArrayIndex p a))) (all S)
       pick_among = among_right any_part pick_part (all S) both
 
       two_among : IsAmong last_two (all S)
       two_among = among_right (any_part ++ pick_part) last_two (all S) answers
 
-      raw_there : Has (all S) (Wire (bits_of (array_kind S a)) (name (Raw p a)) (Cell (name (Array a)) (choice (front (Spot p a)) (entries S (Spot p a)))))
+      raw_there : Has (all S) (Wire (bits_of (array_kind S a)) (name (Raw p a)) (Cell (name (Array a)) (choice (front (ArrayIndex p a)) (entries S (ArrayIndex p a)))))
       raw_there = two_among _ (inl refl)
 
       answer_there : Has (all S) (Wire (bits_of (array_kind S a)) (name (Answer p a)) (Choose (Net (choice (front (Reads p a)) (entries S (Reads p a)))) (net (Raw p a)) (Literal (bits_of (array_kind S a)) 0)))
@@ -296,11 +296,11 @@ module _ (S : Shape) (title : Name) (run : ℕ → Cycle) (f : Follows (built ti
           let some : 0 < index_bits S a = has_bits (array_cells S a - 1) (omega (arith, few)) in
           let low_is : atom_value (run n) (low_bits (index_bits S a) (read_index p k r).atom) ≡ v =
           low_bits_is f.sizes (run n) 64 v (index_bits S a) (read_index p k r).atom shown some ∙ mod-eq_of_lt (omega (arith, low, bits)) in
-          let spot : (run n).net (choice (front (Spot p a)) (entries S (Spot p a))) ≡ v =
-          pick_on S title run f (Spot p a) (index_bits S a) pick_among n k v is.here is.low (λ d h. inr (subst (λ (z : Entry). atom_value (run n) z.value ≡ v) (alone d h) low_is)) spot_entry own_entry on in
+          let spot : (run n).net (choice (front (ArrayIndex p a)) (entries S (ArrayIndex p a))) ≡ v =
+          pick_on S title run f (ArrayIndex p a) (index_bits S a) pick_among n k v is.here is.low (λ d h. inr (subst (λ (z : Entry). atom_value (run n) z.value ≡ v) (alone d h) low_is)) spot_entry own_entry on in
           let cells : f.sizes.cells (name (Array a)) ≡ array_cells S a = cells_declared title (task_elements S) run f (bits_of (array_kind S a)) (name (Array a)) (array_cells S a) (array_there a there) in
           let raw : (run n).net (name (Raw p a)) ≡ (run n).cell (name (Array a)) v =
-          wire_driven title (task_elements S) run f (bits_of (array_kind S a)) (name (Raw p a)) (Cell (name (Array a)) (choice (front (Spot p a)) (entries S (Spot p a)))) raw_there n
+          wire_driven title (task_elements S) run f (bits_of (array_kind S a)) (name (Raw p a)) (Cell (name (Array a)) (choice (front (ArrayIndex p a)) (entries S (ArrayIndex p a)))) raw_there n
           ∙ ap (λ z. cond (nat_lt z (f.sizes.cells (name (Array a)))) ((run n).cell (name (Array a)) z) 0) spot
           ∙ ap (λ z. cond (nat_lt v z) ((run n).cell (name (Array a)) v) 0) cells ∙ ap (λ z. cond z ((run n).cell (name (Array a)) v) 0) e in
           answer_is ∙ ap (λ z. cond (eqb z 1) ((run n).net (name (Raw p a))) 0) set ∙ raw ∙ sym (cell_is ∙ ap (λ z. cond z ((run n).cell (name (Array a)) v) 0) e)

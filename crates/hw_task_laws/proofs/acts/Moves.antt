@@ -37,7 +37,7 @@ use Rattle.task_fsm.specs.Ranges.{Ranges, IsInRange}
 use Rattle.task_fsm.specs.Run.{value}
 use Rattle.task_fsm.proofs.Steps.{value_fits}
 use Rattle.hw_lines.specs.declared.nets.Choice.{Choice}
-use Rattle.hw_lines.specs.declared.nets.Choice.TheVariants.{ToState, ToEnd, Set, In}
+use Rattle.hw_lines.specs.declared.nets.Choice.TheVariants.{ToState, ToEnd, Set, NextValue}
 use Rattle.hw_lines.specs.declared.nets.Net.TheVariants.{State as StateNet, Ended, Variable, Has as HasNet, Rdy, Ack, Datum, Eot as EotNet, At, Next, Value}
 use Rattle.hw_lines.specs.Nets.{name, front, value_front}
 use Rattle.hw_lines.specs.Shape.{Shape, kinds_in, array_cells, register_kind, state_count, state_bits, form_at}
@@ -205,9 +205,9 @@ module _ (S : Shape) (title : Name) (run : ℕ → Cycle) (f : Follows (built ti
       (Block (reset_or (name StateNet) (Literal (state_bits S) 0) (Net (root S ToState))) ∷ Block (register_block (name Ended) (Literal 1 0) (entries S ToEnd) (root S ToEnd) (Literal 1 1)) ∷ [])
       (each (variable_block S) (length S.registers) ++ each (array_block S) (length S.arrays)) (all S) (blocks_in S))
 
-  block_there : (r : ℕ) → r < length S.registers → Has (all S) (Block (register_block (name (Variable r)) (first_value S r) (entries S (Set r)) (root S (Set r)) (Net (root S (In r)))))
+  block_there : (r : ℕ) → r < length S.registers → Has (all S) (Block (register_block (name (Variable r)) (first_value S r) (entries S (Set r)) (root S (Set r)) (Net (root S (NextValue r)))))
   block_there r h =
-      among_each (variable_block S) (length S.registers) r (all S) h variable_blocks (Block (register_block (name (Variable r)) (first_value S r) (entries S (Set r)) (root S (Set r)) (Net (root S (In r))))) (inl refl)
+      among_each (variable_block S) (length S.registers) r (all S) h variable_blocks (Block (register_block (name (Variable r)) (first_value S r) (entries S (Set r)) (root S (Set r)) (Net (root S (NextValue r))))) (inl refl)
 
   -- a register with its block
   goes_on : (w : ℕ) (x : Name) (first : Atom) (es : List Entry) (set next : Name) → Has (all S) (Register w x) → Has (all S) (Block (register_block x first es set (Net next)))
@@ -222,5 +222,5 @@ state_goes_on S title run f ms fit n = state_next S title run f ms fit n
 
 pub registers_go_on : RegistersGoOn
 registers_go_on S title run f ms fit n r h =
-    goes_on S title run f ms fit n (bits_of (register_kind S r)) (name (Variable r)) (first_value S r) (entries S (Set r)) (root S (Set r)) (root S (In r))
+    goes_on S title run f ms fit n (bits_of (register_kind S r)) (name (Variable r)) (first_value S r) (entries S (Set r)) (root S (Set r)) (root S (NextValue r))
     (variable_there S title run f ms fit n r h) (block_there S title run f ms fit n r h)

@@ -37,7 +37,7 @@ use Rattle.task_fsm.specs.Machine.{Expression, StateForm, SetAt, CellAt, TestAt,
 use Rattle.task_fsm.specs.MachineKinds.{IsOfKind, IsTypedState}
 use Rattle.task_fsm.specs.Ranges.{IsInRange}
 use Rattle.task_fsm.specs.Run.{value, step, put_into, is_last, clear_step}
-use Rattle.hw_lines.specs.declared.nets.Choice.TheVariants.{ToState, ToEnd, Stores, Place, Content}
+use Rattle.hw_lines.specs.declared.nets.Choice.TheVariants.{ToState, ToEnd, Stores, WriteIndex, WriteData}
 use Rattle.hw_lines.specs.declared.nets.Net.TheVariants.{State as StateNet, Ended, Variable, Array, At, Inside, Into}
 use Rattle.hw_lines.specs.Nets.{name}
 use Rattle.hw_lines.specs.Shape.{Shape, kinds_in, array_kind, array_cells, index_bits, register_kind, state_count, state_bits, form_at}
@@ -119,10 +119,10 @@ module _ (S : Shape) (title : Name) (run : ℕ → Cycle) (f : Follows (built ti
   write = root S (Stores a)
 
   abbrev spot : Name
-  spot = root S (Place a)
+  spot = root S (WriteIndex a)
 
   abbrev content : Name
-  content = root S (Content a)
+  content = root S (WriteData a)
 
   abbrev block : List Step
   block = stored (name (Array a)) write spot (NetAtom content)
@@ -146,17 +146,17 @@ module _ (S : Shape) (title : Name) (run : ℕ → Cycle) (f : Follows (built ti
       among_each (array_choices S) (length S.arrays) a (all S) there
       (among_right ((pick S (state_bits S) ToState ++ any S ToEnd) ++ each (variable_choices S) (length S.registers)) (each (array_choices S) (length S.arrays)) (all S) (choices_in S))
 
-  two_among : IsAmong (any S (Stores a) ++ pick S (index_bits S a) (Place a)) (all S)
-  two_among = among_left (any S (Stores a) ++ pick S (index_bits S a) (Place a)) (pick S kind_bits (Content a)) (all S) three_among
+  two_among : IsAmong (any S (Stores a) ++ pick S (index_bits S a) (WriteIndex a)) (all S)
+  two_among = among_left (any S (Stores a) ++ pick S (index_bits S a) (WriteIndex a)) (pick S kind_bits (WriteData a)) (all S) three_among
 
-  content_among : IsAmong (pick S kind_bits (Content a)) (all S)
-  content_among = among_right (any S (Stores a) ++ pick S (index_bits S a) (Place a)) (pick S kind_bits (Content a)) (all S) three_among
+  content_among : IsAmong (pick S kind_bits (WriteData a)) (all S)
+  content_among = among_right (any S (Stores a) ++ pick S (index_bits S a) (WriteIndex a)) (pick S kind_bits (WriteData a)) (all S) three_among
 
   pub any_among : IsAmong (any S (Stores a)) (all S)
-  any_among = among_left (any S (Stores a)) (pick S (index_bits S a) (Place a)) (all S) two_among
+  any_among = among_left (any S (Stores a)) (pick S (index_bits S a) (WriteIndex a)) (all S) two_among
 
-  place_among : IsAmong (pick S (index_bits S a) (Place a)) (all S)
-  place_among = among_right (any S (Stores a)) (pick S (index_bits S a) (Place a)) (all S) two_among
+  place_among : IsAmong (pick S (index_bits S a) (WriteIndex a)) (all S)
+  place_among = among_right (any S (Stores a)) (pick S (index_bits S a) (WriteIndex a)) (all S) two_among
 
   -- the block, where a state stores
   block_there : (e : Entry) → Has (entries S (Stores a)) e → Has (all S) (Block block)
@@ -239,10 +239,10 @@ module _ (S : Shape) (title : Name) (run : ℕ → Cycle) (f : Follows (built ti
 
       here_is : y ≡ a → (b : Bool) → nat_lt j (array_cells S a) ≡ b → (run (suc n)).cell (name (Array a)) i ≡ cell (with_cell σ.arrays a j v) a i
       here_is e b is_b = by_bit b is_b where
-        only_place : effect S (Place a) k ≡ place_entry ∷ []
+        only_place : effect S (WriteIndex a) k ≡ place_entry ∷ []
         only_place = placed ∙ at_same y a (entry (Into k) (low_bits (index_bits S a) p)) e
 
-        only_content : effect S (Content a) k ≡ content_entry ∷ []
+        only_content : effect S (WriteData a) k ≡ content_entry ∷ []
         only_content = filled ∙ at_same y a (entry (Into k) q) e
 
         has_one : Has (entries S (Stores a)) place_entry
@@ -257,16 +257,16 @@ module _ (S : Shape) (title : Name) (run : ℕ → Cycle) (f : Follows (built ti
             let small : j < 2 ^ index_bits S a = omega (arith, low, top) in
             let on : (run n).net (name (Into k)) ≡ 1 = into e ∙ ap one_if h in
             let set : (run n).net (root S (Stores a)) ≡ 1 = only_set S title run f n k is.shows.here is.shows.low (Stores a) (any_among S title run f ms fit few n a i there inside) place_entry only_place on in
-            let index : (run n).net (root S (Place a)) ≡ j =
-            only_picked S title run f n k is.shows.here is.shows.low (Place a) (index_bits S a) (place_among S title run f ms fit few n a i there inside) place_entry only_place on
+            let index : (run n).net (root S (WriteIndex a)) ≡ j =
+            only_picked S title run f n k is.shows.here is.shows.low (WriteIndex a) (index_bits S a) (place_among S title run f ms fit few n a i there inside) place_entry only_place on
             ∙ low_bits_is f.sizes (run n) w j (index_bits S a) p shown some ∙ mod-eq_of_lt small in
-            let got : (run n).net (root S (Content a)) ≡ v = only_picked S title run f n k is.shows.here is.shows.low (Content a) (bits_of (array_kind S a)) (content_among S title run f ms fit few n a i there inside) content_entry only_content on ∙ valued in
+            let got : (run n).net (root S (WriteData a)) ≡ v = only_picked S title run f n k is.shows.here is.shows.low (WriteData a) (bits_of (array_kind S a)) (content_among S title run f ms fit few n a i there inside) content_entry only_content on ∙ valued in
             let row : j < cells_of σ a = subst (λ z. j < z) (sym (is.sizes.rows a there)) low in
             stores S title run f ms fit few n a i there inside place_entry has_one
-            ∙ ap (λ z. cond (eqb z 1 && eqb i ((run n).net (root S (Place a))) && ltb ((run n).net (root S (Place a))) (f.sizes.cells (name (Array a)))) ((run n).net (root S (Content a))) old) set
-            ∙ ap (λ z. cond (true && eqb i z && ltb z (f.sizes.cells (name (Array a)))) ((run n).net (root S (Content a))) old) index
-            ∙ ap (λ z. cond (true && eqb i j && ltb j z) ((run n).net (root S (Content a))) old) (cells_are S title run f ms fit few n a i there inside) ∙ ap (λ z. cond (true && eqb i j && z) ((run n).net (root S (Content a))) old) h
-            ∙ ap (λ z. cond z ((run n).net (root S (Content a))) old) (true_behind (eqb i j)) ∙ ap (λ z. cond (eqb i j) z old) got ∙ ap (λ z. cond (eqb i j) v z) old_is
+            ∙ ap (λ z. cond (eqb z 1 && eqb i ((run n).net (root S (WriteIndex a))) && ltb ((run n).net (root S (WriteIndex a))) (f.sizes.cells (name (Array a)))) ((run n).net (root S (WriteData a))) old) set
+            ∙ ap (λ z. cond (true && eqb i z && ltb z (f.sizes.cells (name (Array a)))) ((run n).net (root S (WriteData a))) old) index
+            ∙ ap (λ z. cond (true && eqb i j && ltb j z) ((run n).net (root S (WriteData a))) old) (cells_are S title run f ms fit few n a i there inside) ∙ ap (λ z. cond (true && eqb i j && z) ((run n).net (root S (WriteData a))) old) h
+            ∙ ap (λ z. cond z ((run n).net (root S (WriteData a))) old) (true_behind (eqb i j)) ∙ ap (λ z. cond (eqb i j) z old) got ∙ ap (λ z. cond (eqb i j) v z) old_is
             ∙ cell_put σ.arrays a i j v low_row row
         by_bit false h =
             let past : array_cells S a ≤ j = ltb-false j (array_cells S a) h in

@@ -18,7 +18,7 @@ use Rattle.hw_build.proofs.Tables.{items_of_all}
 use Rattle.hw_build.proofs.Drivers.{all_blocks}
 use Rattle.hw_build.specs.Scope.{each}
 use Rattle.hw_build.specs.Choices.{Entry}
-use Rattle.hw_lines.specs.declared.nets.Choice.TheVariants.{ToState, ToEnd, Set, In, Stores, Place, Content, Puts, Token, Takes, Asks, Saves, Data}
+use Rattle.hw_lines.specs.declared.nets.Choice.TheVariants.{ToState, ToEnd, Set, NextValue, Stores, WriteIndex, WriteData, Puts, Token, Takes, Address, StoreEnable, Data}
 use Rattle.hw_lines.specs.declared.nets.Net.{Net}
 use Rattle.hw_lines.specs.declared.nets.Net.TheVariants.{State, Ended, Done, Variable, Array}
 use Rattle.hw_lines.specs.Nets.{name, numbers}
@@ -90,9 +90,9 @@ module _ (x : Name) where
 
     off_memory : (m : ℕ) → Off (memory_outputs S m)
     off_memory m =
-        both_none given (pick S 64 (Asks m) ++ any S (Saves m) ++ pick S (bits_of (memory_kind S m)) (Data m)) _
-        (both_none given (pick S 64 (Asks m) ++ any S (Saves m)) (pick S (bits_of (memory_kind S m)) (Data m))
-        (both_none given (pick S 64 (Asks m)) (any S (Saves m)) (pick_none given (λ w y v. refl) S 64 (Asks m)) (any_none given (λ w y v. refl) S (Saves m)))
+        both_none given (pick S 64 (Address m) ++ any S (StoreEnable m) ++ pick S (bits_of (memory_kind S m)) (Data m)) _
+        (both_none given (pick S 64 (Address m) ++ any S (StoreEnable m)) (pick S (bits_of (memory_kind S m)) (Data m))
+        (both_none given (pick S 64 (Address m)) (any S (StoreEnable m)) (pick_none given (λ w y v. refl) S 64 (Address m)) (any_none given (λ w y v. refl) S (StoreEnable m)))
         (pick_none given (λ w y v. refl) S (bits_of (memory_kind S m)) (Data m))) refl
 
     off_outputs : Off (outputs S)
@@ -134,11 +134,11 @@ module _ (S : Shape) (few : HasFew S) (a : ℕ) (there : a < length S.arrays) (n
   off_variable : (r : ℕ) → r < length S.registers → Off x (variable_block S r)
   off_variable r l =
       let h = few.registers in
-      off_one x (Block (register_block (name (Variable r)) (first_value S r) (entries S (Set r)) (root S (Set r)) (NetAtom (root S (In r)))))
-      (block_off (name (Variable r)) (first_value S r) (entries S (Set r)) (root S (Set r)) (NetAtom (root S (In r))) (other_name (Variable r) (Array a) (omega (arith, h, l), tt) small (λ e. cc)))
+      off_one x (Block (register_block (name (Variable r)) (first_value S r) (entries S (Set r)) (root S (Set r)) (NetAtom (root S (NextValue r)))))
+      (block_off (name (Variable r)) (first_value S r) (entries S (Set r)) (root S (Set r)) (NetAtom (root S (NextValue r))) (other_name (Variable r) (Array a) (omega (arith, h, l), tt) small (λ e. cc)))
 
   abbrev array_steps : ℕ → List Step
-  array_steps b = stored (name (Array b)) (root S (Stores b)) (root S (Place b)) (NetAtom (root S (Content b)))
+  array_steps b = stored (name (Array b)) (root S (Stores b)) (root S (WriteIndex b)) (NetAtom (root S (WriteData b)))
 
   same_number : (b : ℕ) → Array b ≡ Array a → b ≡ a
   same_number b s = cc

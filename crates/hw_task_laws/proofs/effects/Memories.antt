@@ -13,7 +13,7 @@ use Rattle.task_fsm.specs.Machine.{Expression, StateForm, SetAt, CellAt, TestAt,
 use Rattle.task_fsm.specs.MachineKinds.{IsOfKind, IsTypedState}
 use Rattle.task_fsm.specs.Ranges.{IsInRange}
 use Rattle.task_fsm.specs.Run.{value, step, put_into, is_last, clear_step}
-use Rattle.hw_lines.specs.declared.nets.Choice.TheVariants.{Asks, Saves, Data}
+use Rattle.hw_lines.specs.declared.nets.Choice.TheVariants.{Address, StoreEnable, Data}
 use Rattle.hw_lines.specs.declared.nets.Net.TheVariants.{Ack, Addr, Wdata, We, At}
 use Rattle.hw_lines.specs.Nets.{name}
 use Rattle.hw_lines.specs.Shape.{Shape, kinds_in, memory_kind, form_at}
@@ -50,10 +50,10 @@ module _ (S : Shape) (title : Name) (run : ℕ → Cycle) (f : Follows (built ti
     bits = bits_of (memory_kind S m)
 
     abbrev ports : List Element
-    ports = Output 64 (name (Addr m)) (result S 64 (Asks m)) ∷ Output bits (name (Wdata m)) (result S bits (Data m)) ∷ Output 1 (name (We m)) (result S 1 (Saves m)) ∷ []
+    ports = Output 64 (name (Addr m)) (result S 64 (Address m)) ∷ Output bits (name (Wdata m)) (result S bits (Data m)) ∷ Output 1 (name (We m)) (result S 1 (StoreEnable m)) ∷ []
 
     abbrev two : List Element
-    two = pick S 64 (Asks m) ++ any S (Saves m)
+    two = pick S 64 (Address m) ++ any S (StoreEnable m)
 
     abbrev three : List Element
     three = two ++ pick S bits (Data m)
@@ -70,27 +70,27 @@ module _ (S : Shape) (title : Name) (run : ℕ → Cycle) (f : Follows (built ti
     data_among : IsAmong (pick S bits (Data m)) (all S)
     data_among = among_right two (pick S bits (Data m)) (all S) three_among
 
-    asks_among : IsAmong (pick S 64 (Asks m)) (all S)
-    asks_among = among_left (pick S 64 (Asks m)) (any S (Saves m)) (all S) two_among
+    asks_among : IsAmong (pick S 64 (Address m)) (all S)
+    asks_among = among_left (pick S 64 (Address m)) (any S (StoreEnable m)) (all S) two_among
 
-    saves_among : IsAmong (any S (Saves m)) (all S)
-    saves_among = among_right (pick S 64 (Asks m)) (any S (Saves m)) (all S) two_among
+    saves_among : IsAmong (any S (StoreEnable m)) (all S)
+    saves_among = among_right (pick S 64 (Address m)) (any S (StoreEnable m)) (all S) two_among
 
-    addr_there : Has (all S) (Output 64 (name (Addr m)) (result S 64 (Asks m)))
-    addr_there = ports_among (Output 64 (name (Addr m)) (result S 64 (Asks m))) (inl refl)
+    addr_there : Has (all S) (Output 64 (name (Addr m)) (result S 64 (Address m)))
+    addr_there = ports_among (Output 64 (name (Addr m)) (result S 64 (Address m))) (inl refl)
 
     wdata_there : Has (all S) (Output bits (name (Wdata m)) (result S bits (Data m)))
     wdata_there = ports_among (Output bits (name (Wdata m)) (result S bits (Data m))) (inr (inl refl))
 
-    we_there : Has (all S) (Output 1 (name (We m)) (result S 1 (Saves m)))
-    we_there = ports_among (Output 1 (name (We m)) (result S 1 (Saves m))) (inr (inr (inl refl)))
+    we_there : Has (all S) (Output 1 (name (We m)) (result S 1 (StoreEnable m)))
+    we_there = ports_among (Output 1 (name (We m)) (result S 1 (StoreEnable m))) (inr (inr (inl refl)))
 
     -- the index where a state asks for a cell
     pub addr_is : (g : StateForm) → form_at S k ≡ g → (x : ℕ) → x ≡ m → askings S m k g ≡ at x m (entry (At k) (index_wires S k).atom) → IsOfKind (kinds_in S) (index_of g) U64
         → number_at run (Addr m) n ≡ value (index_of g) σ
     addr_is g same x e some kind =
         let t : IsOfKind (kinds_in S) (index_of (form_at S k)) U64 = subst (λ z. IsOfKind (kinds_in S) (index_of z) U64) (sym same) kind in
-        out_value S title run f n k is.shows.here is.shows.low 64 (name (Addr m)) (Asks m) addr_there asks_among (record { condition = name (At k); value = (index_wires S k).atom })
+        out_value S title run f n k is.shows.here is.shows.low 64 (name (Addr m)) (Address m) addr_there asks_among (record { condition = name (At k); value = (index_wires S k).atom })
         (ap (askings S m k) same ∙ some ∙ at_same x m (entry (At k) (index_wires S k).atom) e) at_one
         ∙ (index_shown S title run f n (ranges_in S) σ k is.shows t).value ∙ ap (λ z. value (index_of z) σ) same
 
@@ -123,7 +123,7 @@ module _ (S : Shape) (title : Name) (run : ℕ → Cycle) (f : Follows (built ti
 
     no_store : (g : StateForm) → form_at S k ≡ g → savings S m k g ≡ [] → number_at run (We m) n ≡ 0
     no_store g same none =
-        out_none S title run f n k is.shows.here is.shows.low 1 (name (We m)) (Saves m) we_there saves_among (ap (savings S m k) same ∙ none)
+        out_none S title run f n k is.shows.here is.shows.low 1 (name (We m)) (StoreEnable m) we_there saves_among (ap (savings S m k) same ∙ none)
 
     we_is : (g : StateForm) → form_at S k ≡ g → number_at run (We m) n ≡ one_if (by_act (stores_to m) (step g k σ))
     we_is (SetAt r e next) same = no_store (SetAt r e next) same refl
@@ -137,7 +137,7 @@ module _ (S : Shape) (title : Name) (run : ℕ → Cycle) (f : Follows (built ti
     we_is (CloseAt s next) same = no_store (CloseAt s next) same refl
     we_is (LoadAt x i into next) same = no_store (LoadAt x i into next) same refl
     we_is (StoreAt x i e next) same =
-        out_at S title run f n k is.shows.here is.shows.low 1 (name (We m)) (Saves m) we_there saves_among x m (At k) (value_wires S k).atom (ap (savings S m k) same) true at_one
+        out_at S title run f n k is.shows.here is.shows.low 1 (name (We m)) (StoreEnable m) we_there saves_among x m (At k) (value_wires S k).atom (ap (savings S m k) same) true at_one
     we_is (ClearAt a c next) same = no_store (ClearAt a c next) same refl ∙ ap one_if (clear_stores m k a c next σ (is_last σ a c))
     we_is EndAt same = no_store EndAt same refl
     we_is TrapAt same = no_store TrapAt same refl

@@ -32,7 +32,7 @@ use Rattle.task_fsm.specs.Machine.{Expression, StateForm, SetAt, CellAt, TestAt,
 use Rattle.task_fsm.specs.MachineKinds.{IsTypedState}
 use Rattle.task_fsm.specs.Ranges.{IsInRange}
 use Rattle.task_fsm.specs.Run.{value, step, put_into, is_last, clear_step}
-use Rattle.hw_lines.specs.declared.nets.Choice.TheVariants.{ToState, ToEnd, Set, In}
+use Rattle.hw_lines.specs.declared.nets.Choice.TheVariants.{ToState, ToEnd, Set, NextValue}
 use Rattle.hw_lines.specs.declared.nets.Net.{Net}
 use Rattle.hw_lines.specs.declared.nets.Net.TheVariants.{Has as HasNet, Dout, Datum as DatumNet, Ack, Rdata, Variable, At, Go, Value as ValueNet}
 use Rattle.hw_lines.specs.Nets.{name, value_front}
@@ -190,7 +190,7 @@ module _ (S : Shape) (title : Name) (run : ℕ → Cycle) (f : Follows (built ti
     set_root = root S (Set r)
 
     abbrev in_root : Name
-    in_root = root S (In r)
+    in_root = root S (NextValue r)
 
     abbrev next_of : List Entry → ℕ
     next_of es = set_next es (run n) (name (Variable r)) (first_value S r) set_root in_root
@@ -208,10 +208,10 @@ module _ (S : Shape) (title : Name) (run : ℕ → Cycle) (f : Follows (built ti
         (among_left ((pick S (state_bits S) ToState ++ any S ToEnd) ++ each (variable_choices S) (length S.registers)) (each (array_choices S) (length S.arrays)) (all S) (choices_in S)))
 
     any_among : IsAmong (any S (Set r)) (all S)
-    any_among = among_left (any S (Set r)) (pick S (bits_of (register_kind S r)) (In r)) (all S) both_among
+    any_among = among_left (any S (Set r)) (pick S (bits_of (register_kind S r)) (NextValue r)) (all S) both_among
 
-    pick_among : IsAmong (pick S (bits_of (register_kind S r)) (In r)) (all S)
-    pick_among = among_right (any S (Set r)) (pick S (bits_of (register_kind S r)) (In r)) (all S) both_among
+    pick_among : IsAmong (pick S (bits_of (register_kind S r)) (NextValue r)) (all S)
+    pick_among = among_right (any S (Set r)) (pick S (bits_of (register_kind S r)) (NextValue r)) (all S) both_among
 
     -- outside of reset a register is set where a condition says so
     no_reset : (d : Entry) (es : List Entry) → next_of (d ∷ es) ≡ cond (eqb ((run n).net set_root) 1) ((run n).net in_root) ((run n).net (name (Variable r)))
@@ -238,7 +238,7 @@ module _ (S : Shape) (title : Name) (run : ℕ → Cycle) (f : Follows (built ti
       by_entries (d ∷ es) same true on =
           no_reset d es
           ∙ ap (λ z. cond (eqb z 1) ((run n).net in_root) ((run n).net (name (Variable r)))) (only_set S title run f n k is.shows.here is.shows.low (Set r) any_among e only on)
-          ∙ only_picked S title run f n k is.shows.here is.shows.low (In r) (bits_of (register_kind S r)) pick_among e only on
+          ∙ only_picked S title run f n k is.shows.here is.shows.low (NextValue r) (bits_of (register_kind S r)) pick_among e only on
       by_entries (d ∷ es) same false on =
           no_reset d es
           ∙ ap (λ z. cond (eqb z 1) ((run n).net in_root) ((run n).net (name (Variable r)))) (only_clear S title run f n k is.shows.here is.shows.low (Set r) any_among e only on)

@@ -1,4 +1,4 @@
--- The wires of an expression fit behind its registers and the answers of its reads.
+-- The wires of an expression fit after_operands its registers and the answers of its reads.
 use Rattle.std.proofs.Common.{◌≡◌, ℕ, ◌+◌, ◌<◌, List, [], ◌∷◌, ◌++◌, Option, Some, None, refl, sym, ap, subst, arith, append_assoc}
 use Rattle.std.proofs.Math.Pow.{pow_pos}
 use Rattle.tapa_base.specs.declared.kind.Kind.{Kind}
@@ -28,7 +28,7 @@ use Rattle.hw_lines.specs.declared.nets.Net.TheVariants.{Variable, Answer}
 use Rattle.hw_lines.specs.Nets.{name}
 use Rattle.hw_lines.specs.Fixed.{fixed}
 use Rattle.hw_lines.specs.Drivers.{Driver, wires_of, last_of, one, conversion, operation}
-use Rattle.hw_lines.specs.Wires.{ArrayRead, read_count, reads_in, Compiled, constant, by_fixed, behind, converting, one_more, joining, choosing, compiled}
+use Rattle.hw_lines.specs.Wires.{ArrayRead, read_count, reads_in, Compiled, constant, by_fixed, after_operands, converting, one_more, joining, choosing, compiled}
 use Rattle.hw_task_laws.specs.wires.Computes.{Numbered}
 use Rattle.hw_task_laws.proofs.wires.Fixes.{fixed_value, numbers_fixed}
 use Rattle.hw_task_laws.proofs.wires.Computed.{numbered_left, numbered_second}
@@ -102,16 +102,16 @@ module _ (before : List Element) (K : Kinds) where
   or_number k e (Some v) is t C h = of_number k v (constant_low K e k v t is)
   or_number k e None is t C h = h
 
-  -- drivers behind what their operands need
+  -- drivers after_operands what their operands need
   driven : (front : Name) (n : ℕ) (es : List Element) (c : ℕ) (drivers : List Driver) (a : Atom) (w : ℕ) → FitInOrder before es → IsDriven (before ++ es) front (n + c) drivers w (last_of front (n + c) drivers a)
-      → IsBuilt before w (behind front n es c drivers a)
+      → IsBuilt before w (after_operands front n es c drivers a)
   driven front n es c drivers a w h d = record {
     fits = parts_fit before es (wires_of front (n + c) drivers) h d.fits;
     atom = subst (λ (l : List Element). AtomIs l w (last_of front (n + c) drivers a)) (append_assoc before es (wires_of front (n + c) drivers)) d.atom;
     whole = d.whole;
   }
 
-  -- two parts one after another, and their atoms behind both
+  -- two parts one after another, and their atoms after_operands both
   two_fit : (xs ys : List Element) → FitInOrder before xs → FitInOrder before ys → FitInOrder before (xs ++ ys)
   two_fit xs ys h k = parts_fit before xs ys h (fit_behind before xs ys k)
 

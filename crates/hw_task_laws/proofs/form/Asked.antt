@@ -22,7 +22,7 @@ use Rattle.hw_build.proofs.Picks.{any_fits, pick_fits}
 use Rattle.task_fsm.specs.Machine.{Expression, Number, Reg, CellOf, Converted, Applied, Flipped, Inverse, Both, Either, Chosen, StateForm, SetAt, CellAt, TestAt, WriteAt, LoadAt, StoreAt}
 use Rattle.task_fsm.specs.MachineKinds.{IsOfKind, IsTypedState}
 use Rattle.task_fsm.specs.Ranges.{Ranges, NamesWithin, IsInRange}
-use Rattle.hw_lines.specs.declared.nets.Choice.TheVariants.{Reads, Spot}
+use Rattle.hw_lines.specs.declared.nets.Choice.TheVariants.{Reads, ArrayIndex}
 use Rattle.hw_lines.specs.declared.nets.Net.{Net}
 use Rattle.hw_lines.specs.declared.nets.Net.TheVariants.{State as StateNet, Ended, Variable, Array, At, Answer, Raw, ReadInside, ReadOn}
 use Rattle.hw_lines.specs.Nets.{name, front, read_front}
@@ -237,7 +237,7 @@ module _ (S : Shape) (T : IsTask S) where
       has_right (each (asked S p) (state_count S)) (each f (length S.arrays)) (answer_wire p a)
       (has_each f (length S.arrays) a (answer_wire p a) there
       (subst (λ es. Has es (answer_wire p a)) (sym (not_none (entries S (Reads p a)) (spot_entry k p r) (answered S p a) (spot_has k p r l e)))
-      (has_right (any S (Reads p a) ++ pick S (index_bits S a) (Spot p a)) _ (answer_wire p a) (inr (inl refl)))))
+      (has_right (any S (Reads p a) ++ pick S (index_bits S a) (ArrayIndex p a)) _ (answer_wire p a) (inr (inl refl)))))
 
   pub answer_net : (all : List Element) (k p : ℕ) (r : ArrayRead) → k < state_count S → IsRead k p r → r.array < length S.arrays → IsAmong (reads_of S p) all → AnswerNet all K p r
   answer_net all k p r l e there among = wire_net all (bits_of (array_kind S r.array)) (name (Answer p r.array)) _ (among (answer_wire p r.array) (answer_has k p r l e there))
@@ -303,15 +303,15 @@ module _ (S : Shape) (T : IsTask S) where
       answered_fits a l some =
           let w = bits_of (array_kind S a) in
           let xs = any S (Reads p a) in
-          let ys = pick S (index_bits S a) (Spot p a) in
+          let ys = pick S (index_bits S a) (ArrayIndex p a) in
           let Z = A ++ (xs ++ ys) in
-          let raw = Wire w (name (Raw p a)) (Cell (name (Array a)) (choice (front (Spot p a)) (entries S (Spot p a)))) in
+          let raw = Wire w (name (Raw p a)) (Cell (name (Array a)) (choice (front (ArrayIndex p a)) (entries S (ArrayIndex p a)))) in
           let Y = Z ++ raw ∷ [] in
           let kept_Z : IsAmong (held S) Z = (λ d h. has_left A (xs ++ ys) d (has_left B (each (asked S p) (state_count S)) d (kept_B d h))) in
           parts_fit A (xs ++ ys) _
           (parts_fit A xs ys (any_fits A (front (Reads p a)) (entries S (Reads p a)) (λ d h. (entries_fit a d h).0))
-          (fit_behind A xs ys (pick_fits A (index_bits S a) (front (Spot p a)) (entries S (Spot p a)) (index_wide S T a) (λ d h. entries_fit a d h)))) (
-            (kind_wide (array_kind S a), (array_in S Z kept_Z a l, (index_bits S a, pick_root Z (index_bits S a) (front (Spot p a)) (entries S (Spot p a)) some (λ d h. has_right A (xs ++ ys) d (has_right xs ys d h))))),
+          (fit_behind A xs ys (pick_fits A (index_bits S a) (front (ArrayIndex p a)) (entries S (ArrayIndex p a)) (index_wide S T a) (λ d h. entries_fit a d h)))) (
+            (kind_wide (array_kind S a), (array_in S Z kept_Z a l, (index_bits S a, pick_root Z (index_bits S a) (front (ArrayIndex p a)) (entries S (ArrayIndex p a)) some (λ d h. has_right A (xs ++ ys) d (has_right xs ys d h))))),
             ((kind_wide (array_kind S a), (any_root Y (front (Reads p a)) (entries S (Reads p a)) some (λ d h. has_left Z (raw ∷ []) d (has_right A (xs ++ ys) d (has_left xs ys d h))), wire_net Y w (name (Raw p a)) _ (has_right Z (raw ∷ []) raw (inl refl)), (refl, pow_pos w))), tt),
           )
 

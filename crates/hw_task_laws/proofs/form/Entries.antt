@@ -19,11 +19,11 @@ use Rattle.task_fsm.specs.Ranges.{IsInRange}
 use Rattle.hw_lines.specs.declared.nets.Net.{Net}
 use Rattle.hw_lines.specs.declared.nets.Net.TheVariants.{Variable, Rdata, At, Go, Into, Packed, Next, Value as ValueNet}
 use Rattle.hw_lines.specs.declared.nets.Choice.{Choice}
-use Rattle.hw_lines.specs.declared.nets.Choice.TheVariants.{ToState, ToEnd, Set, Place, Content, Token, Takes, Asks, Data}
+use Rattle.hw_lines.specs.declared.nets.Choice.TheVariants.{ToState, ToEnd, Set, WriteIndex, WriteData, Token, Takes, Address, Data}
 use Rattle.hw_lines.specs.Nets.{name, value_front}
 use Rattle.hw_lines.specs.Shape.{Shape, kinds_in, array_kind, stream_kind, register_kind, memory_kind, index_bits, state_count, state_bits, form_at}
 use Rattle.hw_lines.specs.Drivers.{low_bits}
-use Rattle.hw_lines.specs.States.{net, index_of, value_kind, index_wires, value_wires, awaited, acts_late, go_of, next_wires, next_atom, more_wires, state_wires, decoded}
+use Rattle.hw_lines.specs.States.{net, index_of, value_kind, index_wires, value_wires, awaited, needs_go, go_of, next_wires, next_atom, more_wires, state_wires, decoded}
 use Rattle.hw_lines.specs.Effects.{entry, at, datum_of, eot_of, end_token, sets, places, contents, tokens, takings, askings, savings, endings, effect, entries}
 use Rattle.hw_lines.specs.Texts.{inputs, held, offered, reads_of, read_numbers}
 use Rattle.tapa_base.proofs.Lists.{has_left, has_right}
@@ -49,7 +49,7 @@ record IsAt (S : Shape) (all : List Element) (k : ℕ) (f : StateForm) : Type 0 
   typed : IsTypedState (kinds_in S) f
   ranged : IsInRange (ranges_in S) f
   more : IsAmong (more_wires S k f) all
-  go : IsAmong (go_of k (awaited f) (acts_late f)) all
+  go : IsAmong (go_of k (awaited f) (needs_go f)) all
   next : IsAmong (next_wires S k f) all
   value : AtomIs all (bits_of (value_kind S f)) (value_wires S k).atom
   index : IsOfKind (kinds_in S) (index_of f) kind.U64 → AtomIs all 64 (index_wires S k).atom
@@ -62,7 +62,7 @@ module _ (S : Shape) (T : IsTask S) (all : List Element) (before : AreBefore S a
       let index = (index_wires S k).elements in
       let value = (value_wires S k).elements in
       let more = more_wires S k f in
-      let go = go_of k (awaited f) (acts_late f) in
+      let go = go_of k (awaited f) (needs_go f) in
       let next = next_wires S k f in
       let there = λ (e : Element) (h : Has (state_wires S k) e). before.states e (has_each (state_wires S) (state_count S) k e low h) in
       let in_go = λ (e : Element) (h : Has (index ++ value ++ more ++ go) e). there e (has_left (index ++ value ++ more ++ go) next e h) in
@@ -189,11 +189,11 @@ module _ (S : Shape) (T : IsTask S) (all : List Element) (before : AreBefore S a
   pub to_set : (r : ℕ) (d : Entry) → Has (entries S (Set r)) d → EntryFits all (bits_of (register_kind S r)) d
   to_set r d h = over_states (Set r) (bits_of (register_kind S r)) (λ k d I i. sets_fit k d r (form_at S k) I i) d h
 
-  pub to_place : (a : ℕ) (d : Entry) → Has (entries S (Place a)) d → EntryFits all (index_bits S a) d
-  to_place a d h = over_states (Place a) (index_bits S a) (λ k d I i. places_fit k d a (form_at S k) I i) d h
+  pub to_place : (a : ℕ) (d : Entry) → Has (entries S (WriteIndex a)) d → EntryFits all (index_bits S a) d
+  to_place a d h = over_states (WriteIndex a) (index_bits S a) (λ k d I i. places_fit k d a (form_at S k) I i) d h
 
-  pub to_content : (a : ℕ) (d : Entry) → Has (entries S (Content a)) d → EntryFits all (bits_of (array_kind S a)) d
-  to_content a d h = over_states (Content a) (bits_of (array_kind S a)) (λ k d I i. contents_fit k d a (form_at S k) I i) d h
+  pub to_content : (a : ℕ) (d : Entry) → Has (entries S (WriteData a)) d → EntryFits all (bits_of (array_kind S a)) d
+  to_content a d h = over_states (WriteData a) (bits_of (array_kind S a)) (λ k d I i. contents_fit k d a (form_at S k) I i) d h
 
   pub to_token : (s : ℕ) (d : Entry) → Has (entries S (Token s)) d → EntryFits all (bits_of (stream_kind S s) + 1) d
   to_token s d h = over_states (Token s) (bits_of (stream_kind S s) + 1) (λ k d I i. tokens_fit k d s (form_at S k) I i) d h
@@ -201,8 +201,8 @@ module _ (S : Shape) (T : IsTask S) (all : List Element) (before : AreBefore S a
   pub to_take : (s : ℕ) (d : Entry) → Has (entries S (Takes s)) d → EntryFits all 1 d
   to_take s d h = over_states (Takes s) 1 (λ k d I i. takings_fit k d s (form_at S k) I i) d h
 
-  pub to_ask : (m : ℕ) (d : Entry) → Has (entries S (Asks m)) d → EntryFits all 64 d
-  to_ask m d h = over_states (Asks m) 64 (λ k d I i. askings_fit k d m (form_at S k) I i) d h
+  pub to_ask : (m : ℕ) (d : Entry) → Has (entries S (Address m)) d → EntryFits all 64 d
+  to_ask m d h = over_states (Address m) 64 (λ k d I i. askings_fit k d m (form_at S k) I i) d h
 
   pub to_save : (m : ℕ) (d : Entry) → Has (entries S (Data m)) d → EntryFits all (bits_of (memory_kind S m)) d
   to_save m d h = over_states (Data m) (bits_of (memory_kind S m)) (λ k d I i. savings_fit k d m (form_at S k) I i) d h

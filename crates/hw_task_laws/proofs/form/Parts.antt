@@ -19,7 +19,7 @@ use Rattle.hw_build.proofs.Picks.{any_fits, pick_fits}
 use Rattle.task_fsm.specs.Machine.{StateForm, CellAt, ClearAt}
 use Rattle.hw_lines.specs.declared.nets.Net.TheVariants.{State as StateNet, Ended, Done, Scalar, Variable, Wr, Addr, Wdata, Into}
 use Rattle.hw_lines.specs.declared.nets.Choice.{Choice}
-use Rattle.hw_lines.specs.declared.nets.Choice.TheVariants.{ToState, ToEnd, Set, In, Stores, Place, Content, Puts, Token, Takes, Asks, Saves, Data}
+use Rattle.hw_lines.specs.declared.nets.Choice.TheVariants.{ToState, ToEnd, Set, NextValue, Stores, WriteIndex, WriteData, Puts, Token, Takes, Address, StoreEnable, Data}
 use Rattle.hw_lines.specs.Nets.{name, front}
 use Rattle.hw_lines.specs.Shape.{Shape, array_kind, stream_kind, register_kind, memory_kind, index_bits, state_count, state_bits, form_at}
 use Rattle.hw_lines.specs.States.{net, value_wires}
@@ -51,12 +51,12 @@ content_of S a k d (ClearAt b c next) h =
     (e, subst (λ (es : List Entry). Has es e) (sym (ap (λ c. cond c (e ∷ []) []) (eq-eqb b a t.0))) (inl refl))
 content_of S a k d _ h = absurd h
 
-content_some : (S : Shape) (a : ℕ) → 0 < length (entries S (Stores a)) → 0 < length (entries S (Content a))
+content_some : (S : Shape) (a : ℕ) → 0 < length (entries S (Stores a)) → 0 < length (entries S (WriteData a))
 content_some S a h =
     let d = some_of (entries S (Stores a)) h in
     let r = of_each (effect S (Stores a)) (state_count S) d.0 d.1 in
     let e = content_of S a r.0 d.0 (form_at S r.0) r.2 in
-    some_length (entries S (Content a)) e.0 (has_each (effect S (Content a)) (state_count S) r.0 e.0 r.1 e.1)
+    some_length (entries S (WriteData a)) e.0 (has_each (effect S (WriteData a)) (state_count S) r.0 e.0 r.1 e.1)
 
 module _ (S : Shape) where
   any_there : (all : List Element) (c : Choice) → ((d : Entry) → Has (entries S c) d → IsNet all d.condition 1) → FitInOrder all (any S c)
@@ -82,19 +82,19 @@ module _ (S : Shape) where
         let w = bits_of (register_kind S r) in
         let fits = to_set S T all before r in
         fit_behind all more (variable_choices S r)
-        (parts_fit all (any S (Set r)) (pick S w (In r)) (any_there all (Set r) (λ d h. (fits d h).0)) (fit_behind all (any S (Set r)) (pick S w (In r)) (pick_there all w (In r) (kind_wide (register_kind S r)) fits)))
+        (parts_fit all (any S (Set r)) (pick S w (NextValue r)) (any_there all (Set r) (λ d h. (fits d h).0)) (fit_behind all (any S (Set r)) (pick S w (NextValue r)) (pick_there all w (NextValue r) (kind_wide (register_kind S r)) fits)))
 
     array_choices_fit : (more : List Element) (a : ℕ) → FitInOrder (all ++ more) (array_choices S a)
     array_choices_fit more a =
         let w = bits_of (array_kind S a) in
         let i = index_bits S a in
         let stores = any S (Stores a) in
-        let place = pick S i (Place a) in
-        let content = pick S w (Content a) in
+        let place = pick S i (WriteIndex a) in
+        let content = pick S w (WriteData a) in
         fit_behind all more (array_choices S a)
         (parts_fit all (stores ++ place) content
-        (parts_fit all stores place (any_there all (Stores a) (λ d h. (to_place S T all before a d h).0)) (fit_behind all stores place (pick_there all i (Place a) (index_wide S T a) (to_place S T all before a))))
-        (fit_behind all (stores ++ place) content (pick_there all w (Content a) (kind_wide (array_kind S a)) (to_content S T all before a))))
+        (parts_fit all stores place (any_there all (Stores a) (λ d h. (to_place S T all before a d h).0)) (fit_behind all stores place (pick_there all i (WriteIndex a) (index_wide S T a) (to_place S T all before a))))
+        (fit_behind all (stores ++ place) content (pick_there all w (WriteData a) (kind_wide (array_kind S a)) (to_content S T all before a))))
 
     pub choices_fit : FitInOrder all (choices S)
     choices_fit =
@@ -137,12 +137,12 @@ module _ (S : Shape) where
     memory_outputs_fit : (m : ℕ) → FitInOrder all (memory_outputs S m)
     memory_outputs_fit m =
         let w = bits_of (memory_kind S m) in
-        let asks = pick S 64 (Asks m) in
-        let saves = any S (Saves m) in
+        let asks = pick S 64 (Address m) in
+        let saves = any S (StoreEnable m) in
         let cell_of = pick S w (Data m) in
         let trees = asks ++ saves ++ cell_of in
         let Z = all ++ trees in
-        let addr = Output 64 (name (Addr m)) (result S 64 (Asks m)) in
+        let addr = Output 64 (name (Addr m)) (result S 64 (Address m)) in
         let wdata = Output w (name (Wdata m)) (result S w (Data m)) in
         let Y = Z ++ addr ∷ [] in
         let X = Y ++ wdata ∷ [] in
@@ -150,12 +150,12 @@ module _ (S : Shape) where
         let in_Z = λ (d : Element) (h : Has trees d). has_right all trees d h in
         parts_fit all trees _
         (parts_fit all (asks ++ saves) cell_of
-        (parts_fit all asks saves (pick_there all 64 (Asks m) refl (to_ask S T all before m)) (fit_behind all asks saves (any_there all (Saves m) (λ d h. (fits d h).0))))
+        (parts_fit all asks saves (pick_there all 64 (Address m) refl (to_ask S T all before m)) (fit_behind all asks saves (any_there all (StoreEnable m) (λ d h. (fits d h).0))))
         (fit_behind all (asks ++ saves) cell_of (pick_there all w (Data m) (kind_wide (memory_kind S m)) fits))) (
-          (refl, pick_result Z 64 (Asks m) (λ d h. in_Z d (has_left (asks ++ saves) cell_of d (has_left asks saves d h)))),
+          (refl, pick_result Z 64 (Address m) (λ d h. in_Z d (has_left (asks ++ saves) cell_of d (has_left asks saves d h)))),
           (
             (kind_wide (memory_kind S m), pick_result Y w (Data m) (λ d h. has_left Z (addr ∷ []) d (in_Z d (has_right (asks ++ saves) cell_of d h)))),
-            ((refl, any_result X (Saves m) (λ d h. has_left Y (wdata ∷ []) d (has_left Z (addr ∷ []) d (in_Z d (has_left (asks ++ saves) cell_of d (has_right asks saves d h)))))), tt),
+            ((refl, any_result X (StoreEnable m) (λ d h. has_left Y (wdata ∷ []) d (has_left Z (addr ∷ []) d (in_Z d (has_left (asks ++ saves) cell_of d (has_right asks saves d h)))))), tt),
           ),
         )
 
@@ -219,10 +219,10 @@ module _ (S : Shape) where
       variable_block_fits : (r : ℕ) → r < length S.registers → FitInOrder all (variable_block S r)
       variable_block_fits r l =
           let w = bits_of (register_kind S r) in
-          register_fits w (name (Variable r)) (first_value S r) (entries S (Set r)) (root S (Set r)) (NetAtom (root S (In r))) (register_there all w (name (Variable r)) (variable_has S all before.kept r l)) (first_fits r (length S.scalars) (omega arith))
+          register_fits w (name (Variable r)) (first_value S r) (entries S (Set r)) (root S (Set r)) (NetAtom (root S (NextValue r))) (register_there all w (name (Variable r)) (variable_has S all before.kept r l)) (first_fits r (length S.scalars) (omega arith))
           (λ some. (
-            any_root all (front (Set r)) (entries S (Set r)) some (λ d h. variable_among r l d (has_left (any S (Set r)) (pick S w (In r)) d h)),
-            pick_root all w (front (In r)) (entries S (In r)) some (λ d h. variable_among r l d (has_right (any S (Set r)) (pick S w (In r)) d h)),
+            any_root all (front (Set r)) (entries S (Set r)) some (λ d h. variable_among r l d (has_left (any S (Set r)) (pick S w (NextValue r)) d h)),
+            pick_root all w (front (NextValue r)) (entries S (NextValue r)) some (λ d h. variable_among r l d (has_right (any S (Set r)) (pick S w (NextValue r)) d h)),
           ))
 
       array_block_fits : (a : ℕ) → a < length S.arrays → FitInOrder all (array_block S a)
@@ -230,8 +230,8 @@ module _ (S : Shape) where
           let w = bits_of (array_kind S a) in
           let i = index_bits S a in
           let stores = any S (Stores a) in
-          let place = pick S i (Place a) in
-          let content = pick S w (Content a) in
+          let place = pick S i (WriteIndex a) in
+          let content = pick S w (WriteData a) in
           unless_fits all (entries S (Stores a)) _
           (λ some. (
             (
@@ -244,8 +244,8 @@ module _ (S : Shape) where
                     (
                       w,
                       array_in S all before.kept a l,
-                      (i, pick_root all i (front (Place a)) (entries S (Place a)) some (λ d h. array_among a l d (has_left (stores ++ place) content d (has_right stores place d h)))),
-                      pick_root all w (front (Content a)) (entries S (Content a)) (content_some S a some) (λ d h. array_among a l d (has_right (stores ++ place) content d h)),
+                      (i, pick_root all i (front (WriteIndex a)) (entries S (WriteIndex a)) some (λ d h. array_among a l d (has_left (stores ++ place) content d (has_right stores place d h)))),
+                      pick_root all w (front (WriteData a)) (entries S (WriteData a)) (content_some S a some) (λ d h. array_among a l d (has_right (stores ++ place) content d h)),
                     ),
                   ),
                   (tt, tt),

@@ -26,7 +26,7 @@ use Rattle.hw_lines.specs.declared.nets.Net.TheVariants.{State as StateNet, Ende
 use Rattle.hw_lines.specs.Nets.{name, value_front, index_front}
 use Rattle.hw_lines.specs.Shape.{Shape, kinds_in, array_kind, array_cells, stream_kind, register_kind, memory_kind, state_count, state_bits, form_at}
 use Rattle.hw_lines.specs.Wires.{read_count, compiled}
-use Rattle.hw_lines.specs.States.{net, index_of, value_of, value_kind, index_wires, value_wires, awaited, acts_late, go_of, next_of, next_wires, into_of, counting, more_wires, state_wires, decoded}
+use Rattle.hw_lines.specs.States.{net, index_of, value_of, value_kind, index_wires, value_wires, awaited, needs_go, go_of, next_of, next_wires, into_of, counting, more_wires, state_wires, decoded}
 use Rattle.hw_lines.specs.Effects.{datum_of, eot_of}
 use Rattle.hw_lines.specs.Texts.{by_end, scalar_port, is_written, writes, stream_inputs, memory_inputs, inputs, variable, array, held, offers, offered, reads_of, read_numbers}
 use Rattle.hw_lines.proofs.Decodes.{got_low}
@@ -289,7 +289,7 @@ module _ (S : Shape) (T : IsTask S) where
     state_fits =
         let f = form_at S k in
         let more = more_wires S k f in
-        let go = go_of k (awaited f) (acts_late f) in
+        let go = go_of k (awaited f) (needs_go f) in
         let front = index ++ value ++ more in
         let Y = before ++ front in
         let Z = before ++ (front ++ go) in
@@ -300,12 +300,12 @@ module _ (S : Shape) (T : IsTask S) where
         parts_fit before (front ++ go) (next_wires S k f)
         (parts_fit before front go
         (parts_fit before (index ++ value) more (parts_fit before index value (index_fits before kept reads k low) (fit_behind before index value (value_built before kept reads k low).fits)) (more_fits f refl))
-        (go_fits Y (at_net S Y (λ d h. left_among before front d (decodes d h)) k low) (awaited f) (acts_late f) waits_Y))
+        (go_fits Y (at_net S Y (λ d h. left_among before front d (decodes d h)) k low) (awaited f) (needs_go f) waits_Y))
         (next_fits Z f refl (T.ranged k) waits_Z (λ d h. Y_in_Z d (X_in_Y d h)) clears) where
-          clears : (a c next : ℕ) → form_at S k ≡ ClearAt a c next → IsNet (before ++ ((index ++ value ++ more_wires S k (form_at S k)) ++ go_of k (awaited (form_at S k)) (acts_late (form_at S k)))) (name (ValueNet k 0)) 1
+          clears : (a c next : ℕ) → form_at S k ≡ ClearAt a c next → IsNet (before ++ ((index ++ value ++ more_wires S k (form_at S k)) ++ go_of k (awaited (form_at S k)) (needs_go (form_at S k)))) (name (ValueNet k 0)) 1
           clears a c next e =
               let more = more_wires S k (form_at S k) in
-              let go = go_of k (awaited (form_at S k)) (acts_late (form_at S k)) in
+              let go = go_of k (awaited (form_at S k)) (needs_go (form_at S k)) in
               let w = Wire 1 (numbered (value_front k) 0) (Binary (net (Variable c)) Less (Literal 32 (array_cells S a - 1))) in
               let h : Has more w = subst (λ z. Has (more_wires S k z) w) (sym e) (inr (inr (inl refl))) in
               let Z = before ++ ((index ++ value ++ more) ++ go) in

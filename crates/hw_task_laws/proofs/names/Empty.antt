@@ -16,12 +16,12 @@ use Rattle.hw_build.specs.Choices.{Entry, choice}
 use Rattle.task_fsm.specs.Machine.{StateForm, SetAt, CellAt, WriteAt, ClearAt, EndAt, TrapAt}
 use Rattle.hw_lines.specs.declared.nets.Choice.{Choice}
 use Rattle.hw_lines.specs.declared.nets.Net.{Net}
-use Rattle.hw_lines.specs.declared.nets.Choice.TheVariants.{ToState, ToEnd, Set, In, Stores, Place, Content, Reads, Spot}
+use Rattle.hw_lines.specs.declared.nets.Choice.TheVariants.{ToState, ToEnd, Set, NextValue, Stores, WriteIndex, WriteData, Reads, ArrayIndex}
 use Rattle.hw_lines.specs.declared.nets.Net.TheVariants.{State, Ended, Variable, Array, Raw, Answer}
 use Rattle.hw_lines.specs.Nets.{name, front, value_front, index_front, read_front}
 use Rattle.hw_lines.specs.Shape.{Shape, array_kind, array_cells, register_kind, index_bits, state_count, state_bits, form_at}
 use Rattle.hw_lines.specs.Wires.{ArrayRead, read_count}
-use Rattle.hw_lines.specs.States.{net, packed, index_of, value_of, value_kind, index_wires, value_wires, reads_at, awaited, acts_late, go_of, next_wires, into_of, counting, more_wires, state_wires, decoded}
+use Rattle.hw_lines.specs.States.{net, packed, index_of, value_of, value_kind, index_wires, value_wires, reads_at, awaited, needs_go, go_of, next_wires, into_of, counting, more_wires, state_wires, decoded}
 use Rattle.hw_lines.specs.Effects.{entries}
 use Rattle.hw_lines.specs.Texts.{by_end, writes, variable, array, held, offered, offers, read_index, asked_of, asked, answered, unless_none, reads_of, read_numbers, any, pick, variable_choices, array_choices, choices}
 use Rattle.hw_task_laws.proofs.names.Rows.{AreRow, compiled_row, any_row, pick_row}
@@ -37,7 +37,7 @@ AreWires es = AllByRecursion IsAWire es
 -- the cell that is read, and what is answered
 abbrev answered_end : Shape → ℕ → ℕ → List Element
 answered_end S p a =
-    Wire (bits_of (array_kind S a)) (name (Raw p a)) (Cell (name (Array a)) (choice (front (Spot p a)) (entries S (Spot p a))))
+    Wire (bits_of (array_kind S a)) (name (Raw p a)) (Cell (name (Array a)) (choice (front (ArrayIndex p a)) (entries S (ArrayIndex p a))))
     ∷ Wire (bits_of (array_kind S a)) (name (Answer p a)) (Choose (NetAtom (choice (front (Reads p a)) (entries S (Reads p a)))) (net (Raw p a)) (Literal (bits_of (array_kind S a)) 0)) ∷ []
 
 module _ {A : Type 0} (g : Element → List A) where
@@ -98,7 +98,7 @@ module _ {A : Type 0} (g : Element → List A) where
       answered_none : (p a : ℕ) → GiveNone (unless_none (entries S (Reads p a)) (answered S p a))
       answered_none p a =
           unless_gives (entries S (Reads p a)) (answered S p a)
-          (both_none (any S (Reads p a) ++ pick S (index_bits S a) (Spot p a)) (answered_end S p a) (both_none (any S (Reads p a)) (pick S (index_bits S a) (Spot p a)) (any_none (Reads p a)) (pick_none (index_bits S a) (Spot p a)))
+          (both_none (any S (Reads p a) ++ pick S (index_bits S a) (ArrayIndex p a)) (answered_end S p a) (both_none (any S (Reads p a)) (pick S (index_bits S a) (ArrayIndex p a)) (any_none (Reads p a)) (pick_none (index_bits S a) (ArrayIndex p a)))
           (wires_none (answered_end S p a) (tt, (tt, tt))))
 
       pub reads_none : GiveNone (each (reads_of S) (read_numbers S))
@@ -132,13 +132,13 @@ module _ {A : Type 0} (g : Element → List A) where
           let f = form_at S k in
           let index = (index_wires S k).elements in
           let value = (value_wires S k).elements in
-          let go = go_of k (awaited f) (acts_late f) in
+          let go = go_of k (awaited f) (needs_go f) in
           both_none (index ++ value ++ more_wires S k f ++ go) (next_wires S k f)
           (both_none (index ++ value ++ more_wires S k f) go
           (both_none (index ++ value) (more_wires S k f)
           (both_none index value (row_none (index_front k) 0 index (compiled_row (index_front k) 0 0 kind.U64 (index_of f)).wires)
           (row_none (value_front k) 0 value (compiled_row (value_front k) (read_count (index_of f)) 0 (value_kind S f) (value_of f)).wires))
-          (more_wires_none k f)) (go_none k (awaited f) (acts_late f))) (next_none k f)
+          (more_wires_none k f)) (go_none k (awaited f) (needs_go f))) (next_none k f)
 
       pub states_none : GiveNone (each (state_wires S) (state_count S))
       states_none = each_none (state_wires S) (state_count S) state_none
@@ -151,11 +151,11 @@ module _ {A : Type 0} (g : Element → List A) where
           let arrays = each (array_choices S) (length S.arrays) in
           both_none (first ++ second ++ variables) arrays
           (both_none (first ++ second) variables (both_none first second (pick_none (state_bits S) ToState) (any_none ToEnd))
-          (each_none (variable_choices S) (length S.registers) (λ r. both_none (any S (Set r)) (pick S (bits_of (register_kind S r)) (In r)) (any_none (Set r)) (pick_none (bits_of (register_kind S r)) (In r)))))
+          (each_none (variable_choices S) (length S.registers) (λ r. both_none (any S (Set r)) (pick S (bits_of (register_kind S r)) (NextValue r)) (any_none (Set r)) (pick_none (bits_of (register_kind S r)) (NextValue r)))))
           (each_none (array_choices S) (length S.arrays)
           (λ a.
-          both_none (any S (Stores a) ++ pick S (index_bits S a) (Place a)) (pick S (bits_of (array_kind S a)) (Content a))
-          (both_none (any S (Stores a)) (pick S (index_bits S a) (Place a)) (any_none (Stores a)) (pick_none (index_bits S a) (Place a))) (pick_none (bits_of (array_kind S a)) (Content a))))
+          both_none (any S (Stores a) ++ pick S (index_bits S a) (WriteIndex a)) (pick S (bits_of (array_kind S a)) (WriteData a))
+          (both_none (any S (Stores a)) (pick S (index_bits S a) (WriteIndex a)) (any_none (Stores a)) (pick_none (index_bits S a) (WriteIndex a))) (pick_none (bits_of (array_kind S a)) (WriteData a))))
 
       pub held_none : ((w : ℕ) (x : Name) → g (Register w x) ≡ []) → ((w : ℕ) (x : Name) (n : ℕ) → g (Memory w x n) ≡ []) → GiveNone (held S)
       held_none register memory =

@@ -7,7 +7,7 @@ use Rattle.vlog_tree.specs.declared.tree.PortDecl.{PortDecl}
 use Rattle.vlog_tree.specs.Names.{has_name_form, starts_name, goes_on}
 use Rattle.vlog_tree.specs.Table.{Name}
 use Rattle.vlog_module_laws.proofs.Labelled.{early_name}
-use Rattle.hw_build.specs.Elements.{Element, Input, Output, Outlet, Wire, Link, Register, Memory, Block, Instance, element_ports, element_items, empty, built}
+use Rattle.hw_build.specs.Elements.{Element, Input, Output, Outlet, Wire, InstanceWire, Register, Memory, Block, Instance, element_ports, element_items, empty, built}
 use Rattle.hw_build.proofs.Tables.{ports_of_all, items_of_all}
 use Rattle.hw_task_laws.specs.names.Countable.{LinesCountElements, TitlesAreNames}
 
@@ -16,7 +16,7 @@ one_line (Input w x) = omega arith
 one_line (Output w x v) = omega arith
 one_line (Outlet w x) = omega arith
 one_line (Wire w x v) = omega arith
-one_line (Link w x) = omega arith
+one_line (InstanceWire w x) = omega arith
 one_line (Register w x) = omega arith
 one_line (Memory w x n) = omega arith
 one_line (Block b) = omega arith

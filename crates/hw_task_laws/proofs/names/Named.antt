@@ -16,7 +16,7 @@ use Rattle.hw_build.proofs.Parts.{of_each}
 use Rattle.hw_build.proofs.Once.{two_once, parts_once}
 use Rattle.hw_lines.specs.declared.nets.Choice.{Choice}
 use Rattle.hw_lines.specs.declared.nets.Net.{Net}
-use Rattle.hw_lines.specs.declared.nets.Choice.TheVariants.{ToState, ToEnd, Set, In, Stores, Place, Content, Reads, Spot, Puts, Token, Takes, Asks, Saves, Data}
+use Rattle.hw_lines.specs.declared.nets.Choice.TheVariants.{ToState, ToEnd, Set, NextValue, Stores, WriteIndex, WriteData, Reads, ArrayIndex, Puts, Token, Takes, Address, StoreEnable, Data}
 use Rattle.hw_lines.specs.declared.nets.Net.TheVariants.{State, Ended, Done, Scalar, Variable, Array, Has as HasNet, Dout, Taken, Din, Wr, Rdy, Ack, Rdata, Addr, Wdata, We, Plain, Datum, Eot, At, Go, Inside, Into, Packed, Next, Value, Index, ReadIndex, ReadInside, ReadOn, Raw, Answer, Node}
 use Rattle.hw_lines.specs.Nets.{numbers, name}
 use Rattle.hw_lines.specs.Names.{AreSmall}
@@ -28,19 +28,19 @@ use Rattle.hw_task_laws.proofs.names.Rows.{AreRow, row_names}
 
 abbrev pub choice_sort : Choice → ℕ
 choice_sort (Reads p a) = 43
-choice_sort (Spot p a) = 44
+choice_sort (ArrayIndex p a) = 44
 choice_sort ToState = 60
 choice_sort ToEnd = 61
 choice_sort (Set r) = 62
-choice_sort (In r) = 63
+choice_sort (NextValue r) = 63
 choice_sort (Stores a) = 64
-choice_sort (Place a) = 65
-choice_sort (Content a) = 66
+choice_sort (WriteIndex a) = 65
+choice_sort (WriteData a) = 66
 choice_sort (Puts s) = 71
 choice_sort (Token s) = 72
 choice_sort (Takes s) = 75
-choice_sort (Asks m) = 77
-choice_sort (Saves m) = 78
+choice_sort (Address m) = 77
+choice_sort (StoreEnable m) = 78
 choice_sort (Data m) = 79
 
 abbrev pub sort_of : Net → ℕ
@@ -84,17 +84,17 @@ abbrev pub choice_part : Choice → ℕ
 choice_part ToState = 0
 choice_part ToEnd = 0
 choice_part (Set r) = r
-choice_part (In r) = r
+choice_part (NextValue r) = r
 choice_part (Stores a) = a
-choice_part (Place a) = a
-choice_part (Content a) = a
+choice_part (WriteIndex a) = a
+choice_part (WriteData a) = a
 choice_part (Reads p a) = p
-choice_part (Spot p a) = p
+choice_part (ArrayIndex p a) = p
 choice_part (Puts s) = s
 choice_part (Token s) = s
 choice_part (Takes s) = s
-choice_part (Asks m) = m
-choice_part (Saves m) = m
+choice_part (Address m) = m
+choice_part (StoreEnable m) = m
 choice_part (Data m) = m
 
 abbrev pub part_of : Net → ℕ
@@ -135,7 +135,7 @@ part_of (Node c j) = choice_part c
 
 abbrev pub choice_inner : Choice → ℕ
 choice_inner (Reads p a) = a
-choice_inner (Spot p a) = a
+choice_inner (ArrayIndex p a) = a
 choice_inner _ = 0
 
 abbrev pub inner_of : Net → ℕ

@@ -14,14 +14,14 @@ use Rattle.hw_build.specs.Fits.{declared_names}
 use Rattle.task_fsm.specs.Machine.{StateForm, SetAt, CellAt, WriteAt, ClearAt, EndAt, TrapAt}
 use Rattle.hw_lines.specs.declared.nets.Choice.{Choice}
 use Rattle.hw_lines.specs.declared.nets.Net.{Net}
-use Rattle.hw_lines.specs.declared.nets.Choice.TheVariants.{ToState, ToEnd, Set, In, Stores, Place, Content, Reads, Spot, Puts, Token, Takes, Asks, Saves, Data}
+use Rattle.hw_lines.specs.declared.nets.Choice.TheVariants.{ToState, ToEnd, Set, NextValue, Stores, WriteIndex, WriteData, Reads, ArrayIndex, Puts, Token, Takes, Address, StoreEnable, Data}
 use Rattle.hw_lines.specs.declared.nets.Net.TheVariants.{State, Ended, Done, Scalar, Variable, Array, Has, Dout, Taken, Din, Wr, Rdy, Ack, Rdata, Addr, Wdata, We, Plain, Datum, Eot, At, Go, Inside, Into, Packed, Next, Value, Index, ReadIndex, ReadInside, ReadOn, Raw, Answer, Node}
 use Rattle.hw_lines.specs.Nets.{numbers, name, front, value_front, index_front, read_front}
 use Rattle.hw_lines.specs.Names.{AreSmall}
 use Rattle.hw_lines.specs.Shape.{Shape, array_kind, array_cells, register_kind, index_bits, stream_kind, memory_kind, state_count, state_bits, form_at}
 use Rattle.hw_lines.specs.Drivers.{Driver}
 use Rattle.hw_lines.specs.Wires.{ArrayRead, read_count, compiled}
-use Rattle.hw_lines.specs.States.{net, index_of, value_of, value_kind, index_wires, reads_at, awaited, acts_late, go_of, next_wires, into_of, counting, more_wires, state_wires, decoded}
+use Rattle.hw_lines.specs.States.{net, index_of, value_of, value_kind, index_wires, reads_at, awaited, needs_go, go_of, next_wires, into_of, counting, more_wires, state_wires, decoded}
 use Rattle.hw_lines.specs.Effects.{entries}
 use Rattle.hw_lines.specs.Texts.{by_end, scalar_port, writes, stream_inputs, memory_inputs, inputs, variable, array, held, offered, read_index, asked_of, asked, answered, unless_none, reads_of, read_numbers, any, pick, result, variable_choices, array_choices, choices, written, taken, stream_outputs, memory_outputs, outputs}
 use Rattle.hw_lines.proofs.Spelled.{nodes_numbered}
@@ -163,10 +163,10 @@ module _ (S : Shape) (B : IsBounded S) where
         let small = low_of a (length S.arrays) l B.arrays in
         let Q = In_part InRead inner_of a in
         unless_nets Q 43 47 (entries S (Reads p a)) (answered S p a)
-        (names_both declared_names Q 43 45 45 47 43 47 (any S (Reads p a) ++ pick S (index_bits S a) (Spot p a)) _
-        (names_both declared_names Q 43 44 44 45 43 45 (any S (Reads p a)) (pick S (index_bits S a) (Spot p a))
+        (names_both declared_names Q 43 45 45 47 43 47 (any S (Reads p a) ++ pick S (index_bits S a) (ArrayIndex p a)) _
+        (names_both declared_names Q 43 44 44 45 43 45 (any S (Reads p a)) (pick S (index_bits S a) (ArrayIndex p a))
         (any_nets Q 43 44 (Reads p a) (λ i h. (((tt, refl), refl), (small_p, (small, (h, tt))))) (λ i. refl))
-        (pick_nets Q 44 45 (index_bits S a) (Spot p a) (λ i h. (((tt, refl), refl), (small_p, (small, (h, tt))))) (λ i. refl)) refl)
+        (pick_nets Q 44 45 (index_bits S a) (ArrayIndex p a) (λ i h. (((tt, refl), refl), (small_p, (small, (h, tt))))) (λ i. refl)) refl)
         (names_more declared_names Q 45 46 46 47 45 47 _ _ (names_one declared_names Q 45 46 _ (Raw p a) refl ((tt, refl), refl) (small_p, (small, tt)) refl)
         (names_one declared_names Q 46 47 _ (Answer p a) refl ((tt, refl), refl) (small_p, (small, tt)) refl) refl) refl)
 
@@ -242,9 +242,9 @@ module _ (S : Shape) (B : IsBounded S) where
     state_nets =
         let f = form_at S k in
         let front = (index_part f ++ value_part f) ++ more_wires S k f in
-        let go = go_of k (awaited f) (acts_late f) in
+        let go = go_of k (awaited f) (needs_go f) in
         names_both declared_names InState 50 56 56 57 50 57 (front ++ go) (next_wires S k f)
-        (names_both declared_names InState 50 55 55 56 50 56 front go (more_nets f) (go_nets (awaited f) (acts_late f)) refl) (next_nets f) refl
+        (names_both declared_names InState 50 55 55 56 50 56 front go (more_nets f) (go_nets (awaited f) (needs_go f)) refl) (next_nets f) refl
 
   pub states_nets : Nets Any 50 57 (each (state_wires S) (state_count S))
   states_nets = names_each declared_names Any part_of 50 57 (state_wires S) (state_count S) (λ k l. state_nets k (low_of k (state_count S) l B.states))
@@ -255,17 +255,17 @@ module _ (S : Shape) (B : IsBounded S) where
   variable_choice_nets k l =
       let small = low_of k (length S.registers) l B.registers in
       let Q = In_part Any part_of k in
-      names_both declared_names Q 62 63 63 64 62 64 (any S (Set k)) (pick S (bits_of (register_kind S k)) (In k)) (any_nets Q 62 63 (Set k) (λ i h. ((tt, refl), (small, (h, tt)))) (λ i. refl))
-      (pick_nets Q 63 64 (bits_of (register_kind S k)) (In k) (λ i h. ((tt, refl), (small, (h, tt)))) (λ i. refl)) refl
+      names_both declared_names Q 62 63 63 64 62 64 (any S (Set k)) (pick S (bits_of (register_kind S k)) (NextValue k)) (any_nets Q 62 63 (Set k) (λ i h. ((tt, refl), (small, (h, tt)))) (λ i. refl))
+      (pick_nets Q 63 64 (bits_of (register_kind S k)) (NextValue k) (λ i h. ((tt, refl), (small, (h, tt)))) (λ i. refl)) refl
 
   array_choice_nets : (k : ℕ) → k < length S.arrays → Nets (In_part Any part_of k) 64 67 (array_choices S k)
   array_choice_nets k l =
       let small = low_of k (length S.arrays) l B.arrays in
       let Q = In_part Any part_of k in
-      names_both declared_names Q 64 66 66 67 64 67 (any S (Stores k) ++ pick S (index_bits S k) (Place k)) (pick S (bits_of (array_kind S k)) (Content k))
-      (names_both declared_names Q 64 65 65 66 64 66 (any S (Stores k)) (pick S (index_bits S k) (Place k)) (any_nets Q 64 65 (Stores k) (λ i h. ((tt, refl), (small, (h, tt)))) (λ i. refl))
-      (pick_nets Q 65 66 (index_bits S k) (Place k) (λ i h. ((tt, refl), (small, (h, tt)))) (λ i. refl)) refl)
-      (pick_nets Q 66 67 (bits_of (array_kind S k)) (Content k) (λ i h. ((tt, refl), (small, (h, tt)))) (λ i. refl)) refl
+      names_both declared_names Q 64 66 66 67 64 67 (any S (Stores k) ++ pick S (index_bits S k) (WriteIndex k)) (pick S (bits_of (array_kind S k)) (WriteData k))
+      (names_both declared_names Q 64 65 65 66 64 66 (any S (Stores k)) (pick S (index_bits S k) (WriteIndex k)) (any_nets Q 64 65 (Stores k) (λ i h. ((tt, refl), (small, (h, tt)))) (λ i. refl))
+      (pick_nets Q 65 66 (index_bits S k) (WriteIndex k) (λ i h. ((tt, refl), (small, (h, tt)))) (λ i. refl)) refl)
+      (pick_nets Q 66 67 (bits_of (array_kind S k)) (WriteData k) (λ i h. ((tt, refl), (small, (h, tt)))) (λ i. refl)) refl
 
   pub choices_nets : Nets Any 60 67 (choices S)
   choices_nets =
@@ -303,17 +303,17 @@ module _ (S : Shape) (B : IsBounded S) where
   memory_output_nets k l =
       let small = low_of k (length S.memories) l B.memories in
       let Q = In_part Any part_of k in
-      let asks = pick S 64 (Asks k) in
-      let saves = any S (Saves k) in
+      let asks = pick S 64 (Address k) in
+      let saves = any S (StoreEnable k) in
       let data_of = pick S (bits_of (memory_kind S k)) (Data k) in
       names_both declared_names Q 77 80 80 83 77 83 (asks ++ saves ++ data_of) _
       (names_both declared_names Q 77 79 79 80 77 80 (asks ++ saves) data_of
-      (names_both declared_names Q 77 78 78 79 77 79 asks saves (pick_nets Q 77 78 64 (Asks k) (λ i h. ((tt, refl), (small, (h, tt)))) (λ i. refl)) (any_nets Q 78 79 (Saves k) (λ i h. ((tt, refl), (small, (h, tt)))) (λ i. refl)) refl)
+      (names_both declared_names Q 77 78 78 79 77 79 asks saves (pick_nets Q 77 78 64 (Address k) (λ i h. ((tt, refl), (small, (h, tt)))) (λ i. refl)) (any_nets Q 78 79 (StoreEnable k) (λ i h. ((tt, refl), (small, (h, tt)))) (λ i. refl)) refl)
       (pick_nets Q 79 80 (bits_of (memory_kind S k)) (Data k) (λ i h. ((tt, refl), (small, (h, tt)))) (λ i. refl)) refl)
-      (names_more declared_names Q 80 81 81 83 80 83 _ _ (names_one declared_names Q 80 81 (Output 64 (name (Addr k)) (result S 64 (Asks k))) (Addr k) refl (tt, refl) (small, tt) refl)
+      (names_more declared_names Q 80 81 81 83 80 83 _ _ (names_one declared_names Q 80 81 (Output 64 (name (Addr k)) (result S 64 (Address k))) (Addr k) refl (tt, refl) (small, tt) refl)
       (names_more declared_names Q 81 82 82 83 81 83 _ _
       (names_one declared_names Q 81 82 (Output (bits_of (memory_kind S k)) (name (Wdata k)) (result S (bits_of (memory_kind S k)) (Data k))) (Wdata k) refl (tt, refl) (small, tt) refl)
-      (names_one declared_names Q 82 83 (Output 1 (name (We k)) (result S 1 (Saves k))) (We k) refl (tt, refl) (small, tt) refl) refl) refl) refl
+      (names_one declared_names Q 82 83 (Output 1 (name (We k)) (result S 1 (StoreEnable k))) (We k) refl (tt, refl) (small, tt) refl) refl) refl) refl
 
   pub outputs_nets : Nets Any 70 83 (outputs S)
   outputs_nets =

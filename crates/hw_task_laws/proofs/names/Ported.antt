@@ -9,7 +9,7 @@ use Rattle.vlog_tree.specs.declared.tree.Value.TheVariants.{Plain}
 use Rattle.hw_build.specs.Elements.{Element, Output, element_ports, empty}
 use Rattle.hw_build.proofs.Tables.{ports_of_all}
 use Rattle.hw_build.specs.Scope.{each}
-use Rattle.hw_lines.specs.declared.nets.Choice.TheVariants.{Puts, Token, Takes, Asks, Saves, Data, Stores}
+use Rattle.hw_lines.specs.declared.nets.Choice.TheVariants.{Puts, Token, Takes, Address, StoreEnable, Data, Stores}
 use Rattle.hw_lines.specs.declared.nets.Net.TheVariants.{Ended, Done}
 use Rattle.hw_lines.specs.Nets.{name}
 use Rattle.hw_lines.specs.Shape.{Shape, stream_kind, memory_kind, state_count}
@@ -68,11 +68,11 @@ module _ (S : Shape) where
       (ports_both (any S (Takes s)) _ [] _ (any_none element_ports (λ w x v. refl) S (Takes s)) refl))))
       (ports_each (memory_outputs S) (memory_out S) (length S.memories)
       (λ m.
-      let asks = pick S 64 (Asks m) in
-      let saves = any S (Saves m) in
+      let asks = pick S 64 (Address m) in
+      let saves = any S (StoreEnable m) in
       let data_of = pick S (bits_of (memory_kind S m)) (Data m) in
       ports_both (asks ++ saves ++ data_of) _ [] _
-      (both_none element_ports (asks ++ saves) data_of (both_none element_ports asks saves (pick_none element_ports (λ w x v. refl) S 64 (Asks m)) (any_none element_ports (λ w x v. refl) S (Saves m)))
+      (both_none element_ports (asks ++ saves) data_of (both_none element_ports asks saves (pick_none element_ports (λ w x v. refl) S 64 (Address m)) (any_none element_ports (λ w x v. refl) S (StoreEnable m)))
       (pick_none element_ports (λ w x v. refl) S (bits_of (memory_kind S m)) (Data m))) refl))
 
   block_ports : GiveNone element_ports (blocks S)

@@ -20,7 +20,7 @@ use Rattle.hw_build.specs.Fits.{declared_names}
 use Rattle.task_fsm.specs.Machine.{Expression, Number, Reg, CellOf, Converted, Applied, Flipped, Inverse, Both, Either, Chosen}
 use Rattle.hw_lines.specs.Fixed.{fixed}
 use Rattle.hw_lines.specs.Drivers.{Driver, wires_of, one, conversion, operation}
-use Rattle.hw_lines.specs.Wires.{read_count, Compiled, by_fixed, behind, converting, one_more, joining, choosing, compiled}
+use Rattle.hw_lines.specs.Wires.{read_count, Compiled, by_fixed, after_operands, converting, one_more, joining, choosing, compiled}
 
 abbrev pub IsWire : Name → Element → Type 0
 IsWire x e = (w : ℕ) × (v : Value) × (e ≡ Wire w x v)
@@ -65,7 +65,7 @@ drivers_row front n drivers = record { wires = drivers_wires front n drivers; co
 abbrev IsCompiledRow : Name → ℕ → Compiled → Type 0
 IsCompiledRow front n C = IsRow front n C.count C.elements
 
-behind_row : (front : Name) (n : ℕ) (es : List Element) (c : ℕ) (drivers : List Driver) (a : Atom) → IsRow front n c es → IsCompiledRow front n (behind front n es c drivers a)
+behind_row : (front : Name) (n : ℕ) (es : List Element) (c : ℕ) (drivers : List Driver) (a : Atom) → IsRow front n c es → IsCompiledRow front n (after_operands front n es c drivers a)
 behind_row front n es c drivers a h = row_join front n c (length drivers) es (wires_of front (n + c) drivers) h (drivers_row front (n + c) drivers)
 
 fixed_row : (front : Name) (n : ℕ) (o : Option ℕ) (k : Kind) (C : Compiled) → IsCompiledRow front n C → IsCompiledRow front n (by_fixed o k C)

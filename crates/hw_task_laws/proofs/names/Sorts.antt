@@ -17,7 +17,7 @@ use Rattle.hw_build.specs.Fits.{declared_names, targets, AreOnce}
 use Rattle.hw_build.proofs.Once.{two_once}
 use Rattle.hw_lines.specs.declared.nets.Choice.{Choice}
 use Rattle.hw_lines.specs.declared.nets.Net.{Net}
-use Rattle.hw_lines.specs.declared.nets.Choice.TheVariants.{ToState, ToEnd, Set, In, Stores, Place, Content, Reads, Spot, Puts, Token, Takes, Asks, Saves, Data}
+use Rattle.hw_lines.specs.declared.nets.Choice.TheVariants.{ToState, ToEnd, Set, NextValue, Stores, WriteIndex, WriteData, Reads, ArrayIndex, Puts, Token, Takes, Address, StoreEnable, Data}
 use Rattle.hw_lines.specs.declared.nets.Net.TheVariants.{State, Ended, Done, Variable, Array, Node}
 use Rattle.hw_lines.specs.Nets.{word, choice_word, choice_numbers, numbers, name}
 use Rattle.hw_lines.specs.Shape.{Shape, state_count, stream_kind, memory_kind}
@@ -45,17 +45,17 @@ choice_early : (c : Choice) (j : ℕ) → is_port_of_all (early (choice_word c +
 choice_early ToState j = refl
 choice_early ToEnd j = refl
 choice_early (Set a) j = refl
-choice_early (In a) j = refl
+choice_early (NextValue a) j = refl
 choice_early (Stores a) j = refl
-choice_early (Place a) j = refl
-choice_early (Content a) j = refl
+choice_early (WriteIndex a) j = refl
+choice_early (WriteData a) j = refl
 choice_early (Reads a b) j = refl
-choice_early (Spot a b) j = refl
+choice_early (ArrayIndex a b) j = refl
 choice_early (Puts a) j = refl
 choice_early (Token a) j = refl
 choice_early (Takes a) j = refl
-choice_early (Asks a) j = refl
-choice_early (Saves a) j = refl
+choice_early (Address a) j = refl
+choice_early (StoreEnable a) j = refl
 choice_early (Data a) j = refl
 
 word_early : (y : Net) → is_port_of_all (early (word y ++ tail_of (numbers y))) ≡ false
@@ -193,8 +193,8 @@ module _ (S : Shape) (c : IsCountable S) where
       (both_none targets (any S (Takes s)) _ (any_free (Takes s)) refl)))
       (each_none targets (memory_outputs S) (length S.memories)
       (λ m.
-      both_none targets (pick S 64 (Asks m) ++ any S (Saves m) ++ pick S (bits_of (memory_kind S m)) (Data m)) _
-      (both_none targets (pick S 64 (Asks m) ++ any S (Saves m)) (pick S (bits_of (memory_kind S m)) (Data m)) (both_none targets (pick S 64 (Asks m)) (any S (Saves m)) (pick_free 64 (Asks m)) (any_free (Saves m)))
+      both_none targets (pick S 64 (Address m) ++ any S (StoreEnable m) ++ pick S (bits_of (memory_kind S m)) (Data m)) _
+      (both_none targets (pick S 64 (Address m) ++ any S (StoreEnable m)) (pick S (bits_of (memory_kind S m)) (Data m)) (both_none targets (pick S 64 (Address m)) (any S (StoreEnable m)) (pick_free 64 (Address m)) (any_free (StoreEnable m)))
       (pick_free (bits_of (memory_kind S m)) (Data m))) refl)))
 
   front_none : GiveNone targets (inputs S ++ held S ++ decodes ++ offers ++ reads ++ states ++ choices S ++ outputs S)

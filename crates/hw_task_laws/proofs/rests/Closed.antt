@@ -20,14 +20,14 @@ use Rattle.hw_build.specs.Choices.{Entry, choice}
 use Rattle.hw_build.proofs.Parts.{of_each}
 use Rattle.task_fsm.specs.Machine.{StateForm, CellAt, TestAt, ReadAt, WriteAt, PeekAt, EotAt, OpenAt, CloseAt, LoadAt, StoreAt, ClearAt}
 use Rattle.hw_lines.specs.declared.nets.Choice.{Choice}
-use Rattle.hw_lines.specs.declared.nets.Choice.TheVariants.{ToState, ToEnd, Set, In, Stores, Place, Content, Reads, Spot, Puts, Token, Takes, Asks, Saves, Data}
+use Rattle.hw_lines.specs.declared.nets.Choice.TheVariants.{ToState, ToEnd, Set, NextValue, Stores, WriteIndex, WriteData, Reads, ArrayIndex, Puts, Token, Takes, Address, StoreEnable, Data}
 use Rattle.hw_lines.specs.declared.nets.Net.{Net}
 use Rattle.hw_lines.specs.declared.nets.Net.TheVariants.{State, Ended, Done, Scalar, Variable, Array, Has as HasNet, Dout, Taken, Din, Wr, Rdy, Ack, Rdata, Addr, Wdata, We, Plain as PlainNet, Datum, Eot, At, Go, Inside, Into, Packed, Next, Value as ValueNet, Index, ReadIndex, ReadInside, ReadOn, Raw, Answer, Node}
 use Rattle.hw_lines.specs.Nets.{name, choice_word, front, value_front, index_front, read_front}
 use Rattle.hw_lines.specs.Shape.{Shape, array_kind, array_cells, stream_kind, register_kind, memory_kind, index_bits, state_count, state_bits, form_at}
 use Rattle.hw_lines.specs.Drivers.{Driver, low_bits}
 use Rattle.hw_lines.specs.Wires.{ArrayRead, read_count}
-use Rattle.hw_lines.specs.States.{net, number_of, index_of, value_of, value_kind, index_wires, value_wires, reads_at, awaited, acts_late, go_of, next_of, next_wires, into_of, counting, more_wires, state_wires, decoded}
+use Rattle.hw_lines.specs.States.{net, number_of, index_of, value_of, value_kind, index_wires, value_wires, reads_at, awaited, needs_go, go_of, next_of, next_wires, into_of, counting, more_wires, state_wires, decoded}
 use Rattle.hw_lines.specs.Effects.{entry, end_token, eot_of, spot_of, tokens, askings, savings, effect, entries}
 use Rattle.hw_lines.specs.Texts.{scalar_port, writes, stream_inputs, memory_inputs, inputs, variable, array, held, offers, offered, read_index, asked_of, asked, answered, unless_none, reads_of, read_numbers, any, pick, result_of, result, root, variable_choices, array_choices, choices, written, taken, stream_outputs, memory_outputs, outputs, variable_block, array_block, blocks, task_elements}
 use Rattle.hw_lines.proofs.Spelled.{nodes_numbered}
@@ -163,11 +163,11 @@ module _ (S : Shape) where
   answered_closed p a =
       let w = bits_of (array_kind S a) in
       let i = index_bits S a in
-      let raw = Cell (name (Array a)) (root S (Spot p a)) in
+      let raw = Cell (name (Array a)) (root S (ArrayIndex p a)) in
       let last = Choose (NetAtom (root S (Reads p a))) (net (Raw p a)) (Literal w 0) in
-      both_closed (any S (Reads p a) ++ pick S i (Spot p a)) (Wire w (name (Raw p a)) raw ∷ Wire w (name (Answer p a)) last ∷ [])
-      (both_closed (any S (Reads p a)) (pick S i (Spot p a)) (free_any (Reads p a) refl (reads_free p a)) (free_pick i (Spot p a) refl (reads_free p a)))
-      (one_closed (Wire w (name (Raw p a)) raw) (Wire w (name (Answer p a)) last ∷ []) (wire_closed w (name (Raw p a)) raw (free_net (root S (Spot p a)) (root_is_free (Spot p a) refl)))
+      both_closed (any S (Reads p a) ++ pick S i (ArrayIndex p a)) (Wire w (name (Raw p a)) raw ∷ Wire w (name (Answer p a)) last ∷ [])
+      (both_closed (any S (Reads p a)) (pick S i (ArrayIndex p a)) (free_any (Reads p a) refl (reads_free p a)) (free_pick i (ArrayIndex p a) refl (reads_free p a)))
+      (one_closed (Wire w (name (Raw p a)) raw) (Wire w (name (Answer p a)) last ∷ []) (wire_closed w (name (Raw p a)) raw (free_net (root S (ArrayIndex p a)) (root_is_free (ArrayIndex p a) refl)))
       (one_closed (Wire w (name (Answer p a)) last) [] (wire_closed w (name (Answer p a)) last (free_choose (NetAtom (root S (Reads p a))) (net (Raw p a)) (Literal w 0) (free_net (root S (Reads p a)) (root_is_free (Reads p a) refl)) (net_free (Raw p a) (free_by (Raw p a))) refl)) refl))
 
   reads_closed : Closed (each (reads_of S) (read_numbers S))
@@ -238,9 +238,9 @@ module _ (S : Shape) where
       let index = (index_wires S k).elements in
       let value = (value_wires S k).elements in
       let more = more_wires S k f in
-      let go = go_of k (awaited f) (acts_late f) in
+      let go = go_of k (awaited f) (needs_go f) in
       both_closed (index ++ value ++ more ++ go) (next_wires S k f)
-      (both_closed (index ++ value ++ more) go (both_closed (index ++ value) more (both_closed index value (index_free k).closed (value_free k).closed) (more_closed k f)) (go_closed k (awaited f) (acts_late f))) (next_closed k f))
+      (both_closed (index ++ value ++ more) go (both_closed (index ++ value) more (both_closed index value (index_free k).closed (value_free k).closed) (more_closed k f)) (go_closed k (awaited f) (needs_go f))) (next_closed k f))
 
   -- ---- choices
 
@@ -252,11 +252,11 @@ module _ (S : Shape) where
       let arrays = each (array_choices S) (length S.arrays) in
       both_closed (first ++ second ++ variables) arrays
       (both_closed (first ++ second) variables (both_closed first second (bound_pick (state_bits S) ToState refl) (bound_any ToEnd refl))
-      (each_closed (variable_choices S) (length S.registers) (λ r. both_closed (any S (Set r)) (pick S (bits_of (register_kind S r)) (In r)) (bound_any (Set r) refl) (bound_pick (bits_of (register_kind S r)) (In r) refl))))
+      (each_closed (variable_choices S) (length S.registers) (λ r. both_closed (any S (Set r)) (pick S (bits_of (register_kind S r)) (NextValue r)) (bound_any (Set r) refl) (bound_pick (bits_of (register_kind S r)) (NextValue r) refl))))
       (each_closed (array_choices S) (length S.arrays)
       (λ a.
-      both_closed (any S (Stores a) ++ pick S (index_bits S a) (Place a)) (pick S (bits_of (array_kind S a)) (Content a))
-      (both_closed (any S (Stores a)) (pick S (index_bits S a) (Place a)) (bound_any (Stores a) refl) (bound_pick (index_bits S a) (Place a) refl)) (bound_pick (bits_of (array_kind S a)) (Content a) refl)))
+      both_closed (any S (Stores a) ++ pick S (index_bits S a) (WriteIndex a)) (pick S (bits_of (array_kind S a)) (WriteData a))
+      (both_closed (any S (Stores a)) (pick S (index_bits S a) (WriteIndex a)) (bound_any (Stores a) refl) (bound_pick (index_bits S a) (WriteIndex a) refl)) (bound_pick (bits_of (array_kind S a)) (WriteData a) refl)))
 
   -- ---- outputs
 
@@ -277,8 +277,8 @@ module _ (S : Shape) where
   token_free : (s : ℕ) → AreFree (Token s)
   token_free s d h = let r = of_each (effect S (Token s)) (state_count S) d h in tokens_free s r.0 d (form_at S r.0) r.2
 
-  ask_free : (m : ℕ) → AreFree (Asks m)
-  ask_free m d h = let r = of_each (effect S (Asks m)) (state_count S) d h in askings_free m r.0 d (form_at S r.0) r.2
+  ask_free : (m : ℕ) → AreFree (Address m)
+  ask_free m d h = let r = of_each (effect S (Address m)) (state_count S) d h in askings_free m r.0 d (form_at S r.0) r.2
 
   save_free : (m : ℕ) → AreFree (Data m)
   save_free m d h = let r = of_each (effect S (Data m)) (state_count S) d h in savings_free m r.0 d (form_at S r.0) r.2
@@ -306,16 +306,16 @@ module _ (S : Shape) where
   memory_closed : (m : ℕ) → Closed (memory_outputs S m)
   memory_closed m =
       let w = bits_of (memory_kind S m) in
-      let asks = pick S 64 (Asks m) in
-      let saves = any S (Saves m) in
+      let asks = pick S 64 (Address m) in
+      let saves = any S (StoreEnable m) in
       let cell_of = pick S w (Data m) in
-      let addr = Output 64 (name (Addr m)) (result S 64 (Asks m)) in
+      let addr = Output 64 (name (Addr m)) (result S 64 (Address m)) in
       let wdata = Output w (name (Wdata m)) (result S w (Data m)) in
-      let we = Output 1 (name (We m)) (result S 1 (Saves m)) in
+      let we = Output 1 (name (We m)) (result S 1 (StoreEnable m)) in
       both_closed (asks ++ saves ++ cell_of) (addr ∷ wdata ∷ we ∷ [])
-      (both_closed (asks ++ saves) cell_of (both_closed asks saves (free_pick 64 (Asks m) refl (ask_free m)) (free_any (Saves m) refl (save_free m))) (free_pick w (Data m) refl (save_free m)))
-      (one_closed addr (wdata ∷ we ∷ []) (output_closed 64 (name (Addr m)) (result S 64 (Asks m)) (result_free 64 (Asks m) refl))
-      (one_closed wdata (we ∷ []) (output_closed w (name (Wdata m)) (result S w (Data m)) (result_free w (Data m) refl)) (one_closed we [] (output_closed 1 (name (We m)) (result S 1 (Saves m)) (result_free 1 (Saves m) refl)) refl)))
+      (both_closed (asks ++ saves) cell_of (both_closed asks saves (free_pick 64 (Address m) refl (ask_free m)) (free_any (StoreEnable m) refl (save_free m))) (free_pick w (Data m) refl (save_free m)))
+      (one_closed addr (wdata ∷ we ∷ []) (output_closed 64 (name (Addr m)) (result S 64 (Address m)) (result_free 64 (Address m) refl))
+      (one_closed wdata (we ∷ []) (output_closed w (name (Wdata m)) (result S w (Data m)) (result_free w (Data m) refl)) (one_closed we [] (output_closed 1 (name (We m)) (result S 1 (StoreEnable m)) (result_free 1 (StoreEnable m) refl)) refl)))
 
   outputs_closed : Closed (outputs S)
   outputs_closed =

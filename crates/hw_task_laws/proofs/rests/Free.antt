@@ -19,7 +19,7 @@ use Rattle.hw_build.specs.Scope.{each}
 use Rattle.hw_build.specs.Choices.{Entry}
 use Rattle.hw_lines.specs.declared.nets.Choice.{Choice}
 use Rattle.hw_lines.specs.declared.nets.Net.{Net}
-use Rattle.hw_lines.specs.declared.nets.Choice.TheVariants.{ToState, ToEnd, Set, In, Stores, Place, Content, Reads, Spot, Puts, Token, Takes, Asks, Saves, Data}
+use Rattle.hw_lines.specs.declared.nets.Choice.TheVariants.{ToState, ToEnd, Set, NextValue, Stores, WriteIndex, WriteData, Reads, ArrayIndex, Puts, Token, Takes, Address, StoreEnable, Data}
 use Rattle.hw_lines.specs.declared.nets.Net.TheVariants.{State, Node}
 use Rattle.hw_lines.specs.Nets.{word, choice_word, choice_numbers, numbers, name}
 use Rattle.hw_lines.specs.Texts.{by_end, unless_none}
@@ -46,17 +46,17 @@ choice_back : (c : Choice) (j : ℕ) → word_of (choice_word c ++ tail_of (choi
 choice_back ToState j = refl
 choice_back ToEnd j = refl
 choice_back (Set a) j = refl
-choice_back (In a) j = refl
+choice_back (NextValue a) j = refl
 choice_back (Stores a) j = refl
-choice_back (Place a) j = refl
-choice_back (Content a) j = refl
+choice_back (WriteIndex a) j = refl
+choice_back (WriteData a) j = refl
 choice_back (Reads a b) j = refl
-choice_back (Spot a b) j = refl
+choice_back (ArrayIndex a b) j = refl
 choice_back (Puts a) j = refl
 choice_back (Token a) j = refl
 choice_back (Takes a) j = refl
-choice_back (Asks a) j = refl
-choice_back (Saves a) j = refl
+choice_back (Address a) j = refl
+choice_back (StoreEnable a) j = refl
 choice_back (Data a) j = refl
 
 word_back : (y : Net) → word_of (word y ++ tail_of (numbers y)) ≡ word y

@@ -113,7 +113,7 @@ module _ (S : Shape) where
       subst (λ z. (is_free z ≡ true) ⊎ TakesToken S z) named (port_sorted title t.0 t.1 (ap (λ (z : Declaration). z.net_kind) t.2 ∙ out))
 
 pub only_takes_rest : OnlyTakesRest
-only_takes_rest leaf machine is_leaf lowered c ms is_top title inner x y out into rests =
+only_takes_rest leaf machine is_leaf lowered c ms is_top title x y out into rests =
     let S = shape_of machine leaf.memories.items leaf.streams.items in
     let f = tasks_fit leaf machine is_leaf lowered c in
     ⊎_elim

@@ -23,7 +23,7 @@ use Rattle.hw_lines.specs.declared.nets.Net.TheVariants.{Variable, Answer}
 use Rattle.hw_lines.specs.Nets.{name}
 use Rattle.hw_lines.specs.Fixed.{fixed}
 use Rattle.hw_lines.specs.Drivers.{Driver, wires_of, wire, after, last_of, one, half, low_bits, sign_of, extended, resized, tested, conversion, turned, turned_atom, less, not_less, as_wide, shift_count, shifted_right, absolute, is_negative, divided, operation}
-use Rattle.hw_lines.specs.Wires.{read_count, Compiled, by_fixed, behind, converting, one_more, joining, choosing, compiled}
+use Rattle.hw_lines.specs.Wires.{read_count, Compiled, by_fixed, after_operands, converting, one_more, joining, choosing, compiled}
 use Rattle.hw_task_laws.proofs.rests.Free.{is_free, free_by, FreeAtom, FreeValue, free_net, free_binary, free_choose, free_concat, Closed, wire_closed, one_closed, both_closed}
 
 abbrev pub FreeDrivers : List Driver → Type 0
@@ -187,7 +187,7 @@ module _ (front : Name) (own : (i : ℕ) → is_free (numbered front i) ≡ true
     pub closed : Closed C.elements
     pub atom : FreeAtom C.atom
 
-  behind_free : (n : ℕ) (es : List Element) (c : ℕ) (drivers : List Driver) (a : Atom) → Closed es → FreeDrivers drivers → FreeAtom a → IsFree (behind front n es c drivers a)
+  behind_free : (n : ℕ) (es : List Element) (c : ℕ) (drivers : List Driver) (a : Atom) → Closed es → FreeDrivers drivers → FreeAtom a → IsFree (after_operands front n es c drivers a)
   behind_free n es c drivers a h k l = record { closed = both_closed es (wires_of front (n + c) drivers) h (drivers_closed (n + c) drivers k); atom = last_free (n + c) drivers a l }
 
   fixed_free : (o : Option ℕ) (k : Kind) (C : Compiled) → IsFree C → IsFree (by_fixed o k C)

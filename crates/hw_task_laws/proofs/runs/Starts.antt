@@ -23,7 +23,7 @@ use Rattle.task_fsm.specs.Machine.{TrapAt}
 use Rattle.task_fsm.specs.MachineKinds.{HoldsValues}
 use Rattle.task_fsm.specs.Run.{step, step_at}
 use Rattle.task_fsm.proofs.Steps.{step_fits, typed_at}
-use Rattle.hw_lines.specs.declared.nets.Choice.TheVariants.{Set, In, Stores}
+use Rattle.hw_lines.specs.declared.nets.Choice.TheVariants.{Set, NextValue, Stores}
 use Rattle.hw_lines.specs.declared.nets.Net.TheVariants.{State as StateNet, Ended, Scalar, Variable, Array}
 use Rattle.hw_lines.specs.Nets.{name, front}
 use Rattle.hw_lines.specs.Shape.{Shape, kinds_in, array_kind, array_cells, register_kind, state_count, state_bits, form_at}
@@ -179,10 +179,10 @@ module _ (S : Shape) (title : Name) (run : ℕ → Cycle) (f : Follows (built ti
     first_low r zero h = pow_pos (bits_of (register_kind S r))
     first_low r (suc m) h = first_of_port r m h (first_low r m (omega (arith, h))) (eqb (slice_index S.scalars m) r) refl
 
-    set_first : (r : ℕ) (es : List Entry) → set_next es (run 0) (name (Variable r)) (first_value S r) (root S (Set r)) (root S (In r)) ≡ atom_value (run 0) (first_value S r)
+    set_first : (r : ℕ) (es : List Entry) → set_next es (run 0) (name (Variable r)) (first_value S r) (root S (Set r)) (root S (NextValue r)) ≡ atom_value (run 0) (first_value S r)
     set_first r [] = ap (λ z. cond (eqb z 1) (atom_value (run 0) (first_value S r)) ((run 0).net (name (Variable r)))) around.reset
     set_first r (e ∷ es) =
-        ap (λ z. cond (eqb z 1) (atom_value (run 0) (first_value S r)) (cond (eqb ((run 0).net (root S (Set r))) 1) ((run 0).net (root S (In r))) ((run 0).net (name (Variable r))))) around.reset
+        ap (λ z. cond (eqb z 1) (atom_value (run 0) (first_value S r)) (cond (eqb ((run 0).net (root S (Set r))) 1) ((run 0).net (root S (NextValue r))) ((run 0).net (name (Variable r))))) around.reset
 
     pub first_var : (r : ℕ) → r < length S.registers → number_at run (Variable r) 1 ≡ first_of S run r (length S.scalars)
     first_var r l = registers_go_on S title run f ms fit 0 r l ∙ set_first r (entries S (Set r)) ∙ first_is r (length S.scalars)

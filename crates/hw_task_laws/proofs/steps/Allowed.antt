@@ -27,7 +27,7 @@ use Rattle.hw_lines.specs.declared.nets.Net.{Net}
 use Rattle.hw_lines.specs.declared.nets.Net.TheVariants.{Has as HasNet, Dout, Plain as PlainNet, Datum as DatumNet, Eot as EotNet, Rdy, Ack, At, Go}
 use Rattle.hw_lines.specs.Nets.{name}
 use Rattle.hw_lines.specs.Shape.{Shape, stream_kind, form_at}
-use Rattle.hw_lines.specs.States.{net, awaited, acts_late, go_of}
+use Rattle.hw_lines.specs.States.{net, awaited, needs_go, go_of}
 use Rattle.hw_lines.specs.Effects.{eot_of}
 use Rattle.hw_lines.specs.Texts.{by_end, is_written, offers, task_elements}
 use Rattle.hw_lines.specs.Signals.{Streams}
@@ -222,13 +222,13 @@ module _ (S : Shape) (title : Name) (run : ℕ → Cycle) (f : Follows (built ti
   awaits_is EndAt same w h = cc
   awaits_is TrapAt same w h = cc
 
-  go_there : (g : StateForm) → form_at S k ≡ g → (w : Net) → awaited g ≡ Some w → acts_late g ≡ true → Has (all S) (Wire 1 (name (Go k)) (Binary (net (At k)) And (net w)))
+  go_there : (g : StateForm) → form_at S k ≡ g → (w : Net) → awaited g ≡ Some w → needs_go g ≡ true → Has (all S) (Wire 1 (name (Go k)) (Binary (net (At k)) And (net w)))
   go_there g same w e l =
-      let there : go_of k (awaited (form_at S k)) (acts_late (form_at S k)) ≡ Wire 1 (name (Go k)) (Binary (net (At k)) And (net w)) ∷ [] =
-      ap (λ z. go_of k (awaited z) (acts_late z)) same ∙ ap (λ o. go_of k o (acts_late g)) e ∙ ap (go_of k (Some w)) l in
+      let there : go_of k (awaited (form_at S k)) (needs_go (form_at S k)) ≡ Wire 1 (name (Go k)) (Binary (net (At k)) And (net w)) ∷ [] =
+      ap (λ z. go_of k (awaited z) (needs_go z)) same ∙ ap (λ o. go_of k o (needs_go g)) e ∙ ap (go_of k (Some w)) l in
       go_in S k is.shows.low (Wire 1 (name (Go k)) (Binary (net (At k)) And (net w))) (subst (λ es. Has es (Wire 1 (name (Go k)) (Binary (net (At k)) And (net w)))) (sym there) (inl refl))
 
-  pub go_is : (g : StateForm) → form_at S k ≡ g → (w : Net) → awaited g ≡ Some w → acts_late g ≡ true → (run n).net (name (Go k)) ≡ one_if (allowed S run n (step g k σ))
+  pub go_is : (g : StateForm) → form_at S k ≡ g → (w : Net) → awaited g ≡ Some w → needs_go g ≡ true → (run n).net (name (Go k)) ≡ one_if (allowed S run n (step g k σ))
   go_is g same w e l =
       wire_driven title (task_elements S) run f 1 (name (Go k)) (Binary (net (At k)) And (net w)) (go_there g same w e l) n
       ∙ ap (λ z. bit_and z ((run n).net (name w))) (at_here S title run f n k is.shows.low is.shows.here) ∙ ap (bit_and 1) (awaits_is g same w e) ∙ one_and (allowed S run n (step g k σ))

@@ -12,7 +12,7 @@ use Rattle.hw_build.specs.Choices.{Entry}
 use Rattle.task_fsm.specs.Machine.{StateForm, SetAt, CellAt, TestAt, ReadAt, WriteAt, PeekAt, EotAt, OpenAt, CloseAt, LoadAt, StoreAt, ClearAt, EndAt, TrapAt}
 use Rattle.task_fsm.specs.Ranges.{Ranges}
 use Rattle.task_fsm.specs.Run.{value}
-use Rattle.hw_lines.specs.declared.nets.Choice.TheVariants.{ToState, ToEnd, Set, In}
+use Rattle.hw_lines.specs.declared.nets.Choice.TheVariants.{ToState, ToEnd, Set, NextValue}
 use Rattle.hw_lines.specs.declared.nets.Net.{Net}
 use Rattle.hw_lines.specs.declared.nets.Net.TheVariants.{State as StateNet, Ended, Variable, Has, Rdy, Ack, Datum, Eot}
 use Rattle.hw_lines.specs.Nets.{name}
@@ -60,5 +60,6 @@ set_next (e ∷ es) c x first set next = if c.net rst == 1 then atom_value c fir
 
 abbrev pub RegistersGoOn : Type 0
 RegistersGoOn =
-    (S : Shape) (title : Name) (run : ℕ → Cycle) → Follows (built title (task_elements S)) run → (ms : List ModuleTree) → AreFitting ms (task_elements S) → (n r : ℕ) → r < length S.registers
-    → (run (suc n)).net (name (Variable r)) ≡ set_next (entries S (Set r)) (run n) (name (Variable r)) (first_value S r) (root S (Set r)) (root S (In r))
+    (S : Shape) (title : Name) (run : ℕ → Cycle) → Follows (built title (task_elements S)) run → (ms : List ModuleTree) → AreFitting ms (task_elements S) → (n r : ℕ)
+    → r < length S.registers
+    → (run (suc n)).net (name (Variable r)) ≡ set_next (entries S (Set r)) (run n) (name (Variable r)) (first_value S r) (root S (Set r)) (root S (NextValue r))

@@ -1,4 +1,4 @@
--- What a task's module holds in the next cycle: what its step leaves where the inputs allow it, and else what it held.
+-- The state of a task's module in the next cycle: what its step leaves where the inputs allow it, and else its state before.
 use Rattle.std.specs.Prelude.{◌≡◌, ℕ, suc, ◌^◌, ◌<◌, ◌≤◌, List, length, if◌then◌else◌, slice_index}
 use Rattle.kahn_model.specs.Trace.{State, cell}
 use Rattle.vlog_tree.specs.Form.{ModuleTree}
@@ -15,11 +15,11 @@ use Rattle.hw_lines.specs.Texts.{task_elements}
 use Rattle.hw_lines.specs.After.{held_after, ends_by}
 use Rattle.hw_task_laws.specs.steps.Steps.{allowed, found_by, IsAt}
 
--- what is held after a step of cycle n
+-- the state after a step of cycle n
 abbrev pub held_by : Shape → (ℕ → Cycle) → ℕ → State → StateStep → State
 held_by S run n σ t = if allowed S run n t then held_after t σ (found_by S run n t) else σ
 
--- numbers of registers and arrays that names tell apart
+-- few enough registers and arrays to have names of their own
 pub record HasFew (S : Shape) : Type 0 where
   pub registers : length S.registers ≤ 2 ^ 64
   pub arrays : length S.arrays ≤ 2 ^ 64

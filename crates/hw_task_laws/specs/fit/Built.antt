@@ -1,4 +1,4 @@
--- When the wires of an expression fit: its registers and the answers of its reads stand before them, with the bits of their
+-- When the wires of an expression fit: its registers and the answers of its reads come before them, with the bits of their
 -- kinds.
 use Rattle.std.specs.Prelude.{ℕ, ◌<◌, List, ◌++◌}
 use Rattle.tapa_base.specs.declared.kind.Kind.{Kind}
@@ -24,7 +24,7 @@ AnswerNet before K p r = IsNet before (name (Answer p r.array)) (bits_of (K.arra
 abbrev pub RegisterNets : List Element → Kinds → ℕ → Type 0
 RegisterNets before K n = (x : ℕ) → x < n → IsNet before (name (Variable x)) (bits_of (K.vars x))
 
--- wires that fit, with an atom of so many bits
+-- wires that fit, with an atom of w bits
 pub record IsBuilt (before : List Element) (w : ℕ) (C : Compiled) : Type 0 where
   pub fits : FitInOrder before C.elements
   pub atom : AtomIs (before ++ C.elements) w C.atom

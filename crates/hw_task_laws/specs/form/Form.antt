@@ -23,7 +23,7 @@ ForTasks P =
     (leaf : Leaf) (machine : Fsm) → IsLeaf leaf → IsLowered leaf machine → IsCountable (shape_of machine leaf.memories.items leaf.streams.items)
     → P (shape_of machine leaf.memories.items leaf.streams.items)
 
--- its elements fit one behind another, each name stands once, and each block has a target of its own
+-- its elements fit one after another, each name occurs once, and each block has a target of its own
 abbrev pub TasksFit : Type 0
 TasksFit = ForTasks (λ S. FitAlone (task_elements S))
 
@@ -39,7 +39,7 @@ TasksAreRight = ForTasks (λ S. (ms : List ModuleTree) (title : Name) → is_dou
 abbrev pub TasksAreModules : Type 0
 TasksAreModules = ForTasks (λ S. (title : Name) → is_name title ≡ true → IsModule (built title (task_elements S)))
 
--- and none of its nets rests on itself in one cycle
+-- and none of its nets depends on itself in one cycle
 abbrev pub TasksHaveNoLoop : Type 0
 TasksHaveNoLoop =
     ForTasks (λ S. (ms : List ModuleTree) (is_top : Name → Bool) (title : Name) → is_top title ≡ false → (x : Name) → Rests ms is_top (built title (task_elements S)) x x → ⊥)

@@ -1,4 +1,4 @@
--- The names of a task's module stand once each, where its lines can be counted.
+-- Each name of a task's module occurs once, where its lines can be counted.
 use Rattle.std.specs.Prelude.{◌≡◌, ◌+◌, ◌^◌, ◌≤◌, true, List, ◌∷◌, length}
 use Rattle.std.specs.List.{flat_map, list_all}
 use Rattle.vlog_tree.specs.Labels.{rst}

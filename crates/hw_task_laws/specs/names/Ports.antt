@@ -1,4 +1,4 @@
--- The ports of a task's module behind its clock and its reset.
+-- The ports of a task's module after its clock and its reset.
 use Rattle.std.specs.Prelude.{◌≡◌, ℕ, ◌+◌, List, [], ◌∷◌, ◌++◌, length, slice_index, if◌then◌else◌}
 use Rattle.std.specs.List.{flat_map}
 use Rattle.tapa_base.specs.Kinds.{bits_of}
@@ -23,15 +23,15 @@ outward w x = record { direction = Outward; width = w; name = name x }
 abbrev pub scalar_input : Shape → ℕ → List PortDecl
 scalar_input S i = inward (bits_of (register_kind S (slice_index S.scalars i))) (Scalar i) ∷ []
 
--- a stream that is read says whether it has a token, and which, and is told to take it; one that is written says whether
--- it is ready, and is told a token and to write it. A token has its kind's bits and one more
+-- a stream that is read has inputs for whether it has a token and for the token, and an output that takes it; one that is
+-- written has an input for whether it is ready, and outputs for a token and to write it. A token has its kind's bits and one more
 abbrev pub stream_in : Shape → ℕ → List PortDecl
 stream_in S s = if writes S s then inward 1 (Rdy s) ∷ [] else inward 1 (Has s) ∷ inward (bits_of (stream_kind S s) + 1) (Dout s) ∷ []
 
 abbrev pub stream_out : Shape → ℕ → List PortDecl
 stream_out S s = if writes S s then outward 1 (Wr s) ∷ outward (bits_of (stream_kind S s) + 1) (Din s) ∷ [] else outward 1 (Taken s) ∷ []
 
--- a memory answers with a cell, and is told the place, a cell and to store it
+-- a memory has inputs for an acknowledgement and a cell, and outputs for the address, a cell and to store it
 abbrev pub memory_in : Shape → ℕ → List PortDecl
 memory_in S m = inward 1 (Ack m) ∷ inward (bits_of (memory_kind S m)) (Rdata m) ∷ []
 
@@ -48,6 +48,6 @@ task_outputs S = (outward 1 Done ∷ []) ++ each (stream_out S) (length S.stream
 abbrev pub PortsAreThese : Type 0
 PortsAreThese = (S : Shape) → flat_map element_ports (task_elements S) ≡ task_inputs S ++ task_outputs S
 
--- behind the clock and the reset these are the module's
+-- after the clock and the reset these are the module's
 abbrev pub ModulesHavePorts : Type 0
 ModulesHavePorts = (S : Shape) (title : Name) → (built title (task_elements S)).ports ≡ (empty title).ports ++ (task_inputs S ++ task_outputs S)

@@ -1,4 +1,4 @@
--- Which outputs of a task's module rest on inputs in the same cycle.
+-- Which outputs of a task's module depend on inputs in the same cycle.
 use Rattle.std.specs.Prelude.{◌≡◌, ℕ, ◌<◌, Bool, false, List, map, length}
 use Rattle.vlog_tree.specs.declared.table.NetKind.TheVariants.{Input, Output}
 use Rattle.vlog_tree.specs.Form.{ModuleTree}
@@ -19,5 +19,5 @@ abbrev pub OnlyTakesRest : Type 0
 OnlyTakesRest =
     ForTasks
     (λ S.
-    (ms : List ModuleTree) (is_top : Name → Bool) (title : Name) → is_top title ≡ false → (x y : Name) → net_kind_of (map port_declared (built title (task_elements S)).ports) x ≡ Output
+    (ms : List ModuleTree) (is_top : Name → Bool) (title x y : Name) → net_kind_of (map port_declared (built title (task_elements S)).ports) x ≡ Output
     → net_kind_of (map port_declared (built title (task_elements S)).ports) y ≡ Input → Rests ms is_top (built title (task_elements S)) x y → TakesToken S x)

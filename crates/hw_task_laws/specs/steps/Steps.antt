@@ -14,7 +14,7 @@ use Rattle.hw_lines.specs.declared.nets.Net.{Net}
 use Rattle.hw_lines.specs.declared.nets.Net.TheVariants.{State as StateNet, Go}
 use Rattle.hw_lines.specs.Nets.{name}
 use Rattle.hw_lines.specs.Shape.{Shape, array_cells, state_count, form_at}
-use Rattle.hw_lines.specs.States.{awaited, acts_late}
+use Rattle.hw_lines.specs.States.{awaited, needs_go}
 use Rattle.hw_lines.specs.Texts.{task_elements}
 use Rattle.hw_lines.specs.After.{at_after}
 use Rattle.hw_lines.specs.Machine.{allows, found}
@@ -65,7 +65,7 @@ OthersAreAllowed = (S : Shape) (run : ℕ → Cycle) (n k : ℕ) (σ : State) �
 abbrev pub GoIsAllowed : Type 0
 GoIsAllowed =
     (S : Shape) (title : Name) (run : ℕ → Cycle) (f : Follows (built title (task_elements S)) run) (cells : ℕ → List (List ℕ)) (n k : ℕ) (σ : State) → IsAt S run f.sizes cells n k σ
-    → (w : Net) → awaited (form_at S k) ≡ Some w → acts_late (form_at S k) ≡ true → (run n).net (name (Go k)) ≡ one_if (allowed S run n (step (form_at S k) k σ))
+    → (w : Net) → awaited (form_at S k) ≡ Some w → needs_go (form_at S k) ≡ true → (run n).net (name (Go k)) ≡ one_if (allowed S run n (step (form_at S k) k σ))
 
 -- the register of the state
 abbrev pub PlaceGoesOn : Type 0

@@ -18,7 +18,7 @@ OrdersTurnedWords =
 abbrev pub NotAboveIsNotBelow : Type 0
 NotAboveIsNotBelow = (x y : ℤ) → int_le x y ≡ not (int_lt y x)
 
--- the absolute value of the number that a word stands for
+-- the absolute value of the number that a word denotes
 abbrev pub absolute : Kind → ℕ → ℕ
 absolute k a = if is_negative k a then values_of k - a else a
 

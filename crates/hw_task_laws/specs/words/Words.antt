@@ -10,7 +10,7 @@ use Rattle.tapa_base.specs.Operators.{applied}
 abbrev pub half_of : Kind → ℕ
 half_of k = 2 ^ (bits_of k - 1)
 
--- whether a word of a kind stands for a negative number
+-- whether a word of a kind denotes a negative number
 abbrev pub is_negative : Kind → ℕ → Bool
 is_negative k a = is_signed k && nat_le (half_of k) a
 
@@ -18,7 +18,7 @@ is_negative k a = is_signed k && nat_le (half_of k) a
 abbrev pub CutsWords : Type 0
 CutsWords = (s t : Kind) (a : ℕ) → a < values_of s → (t ≡ kind.Bool → ⊥) → bits_of t ≤ bits_of s → converted s t a ≡ a % values_of t
 
--- to a kind of no fewer bits the same with the sign in front
+-- to a kind of no fewer bits: extended by the sign
 abbrev pub ExtendsWords : Type 0
 ExtendsWords =
     (s t : Kind) (a : ℕ) → a < values_of s → (t ≡ kind.Bool → ⊥) → bits_of s ≤ bits_of t → converted s t a ≡ (if is_negative s a then values_of t - values_of s + a else a)

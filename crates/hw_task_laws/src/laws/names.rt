@@ -16,7 +16,7 @@ pub fn law_task_ports()
     ensures modules { ModulesHavePorts }
 {}
 
-/// A module has at least as many ports and lines as it is made of elements, and what follows `t_` in a name makes a name.
+/// A module has no fewer ports and lines than elements, and `t_` before a task's name makes a name.
 pub fn law_task_lines()
     ensures lines { LinesCountElements }
     ensures titles { TitlesAreNames }

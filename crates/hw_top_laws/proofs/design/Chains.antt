@@ -152,15 +152,15 @@ module _ (program : Program) (machines : List Fsm) (added : List ℕ) (ready : I
       let none : module_children m ≡ [] = ap module_children (sym t.is) ∙ (kept t.number t.leaf t.machine t.got_leaf t.got_machine t.used).childless in
       subst (λ (l : List Name). Has l y) none h
 
-  task_ends : {a b : Name} → Leads a b → (m : ModuleTree) → IsTask program ready.told_apart machines ready.lowered m → Has lower m → m.name ≡ a → ⊥
-  task_ends {a} {b} k m t h n = let e = begins k in task_alone m t e.next (child_of m (lower_there m h) a e.next n e.edge)
+  task_connections : {a b : Name} → Leads a b → (m : ModuleTree) → IsTask program ready.told_apart machines ready.lowered m → Has lower m → m.name ≡ a → ⊥
+  task_connections {a} {b} k m t h n = let e = begins k in task_alone m t e.next (child_of m (lower_there m h) a e.next n e.edge)
 
   lower_chain : {a b : Name} → Leads a b → (m : ModuleTree) → Has lower m → m.name ≡ a → IsNamed lower b
   lower_chain {a} {b} k m h n =
       ⊎_elim
       (λ l.
       let t : IsNamed (own l.number l.stream l.got) b = (chain_falls l.number l.stream l.got k m l.has n).1 in
-      (t.0, own_there l.number l.stream l.got t.0 t.1, t.2)) (λ t. absurd (task_ends k m t h n)) (one_of program machines added ready kept m h)
+      (t.0, own_there l.number l.stream l.got t.0 t.1, t.2)) (λ t. absurd (task_connections k m t h n)) (one_of program machines added ready kept m h)
 
   -- what the top contains stands below it
   pub top_child : (y : Name) → Has (module_children tree) y → IsNamed lower y
@@ -183,7 +183,7 @@ module _ (program : Program) (machines : List Fsm) (added : List ℕ) (ready : I
       ⊎_elim
       (λ l.
       let low : level_in (own l.number l.stream l.got) a < level_in (own l.number l.stream l.got) a = (chain_falls l.number l.stream l.got k m l.has n).0 in
-      absurd (omega (arith, low))) (λ t. task_ends k m t h n) (one_of program machines added ready kept m h)
+      absurd (omega (arith, low))) (λ t. task_connections k m t h n) (one_of program machines added ready kept m h)
 
   top_leads : {a b : Name} → Leads a b → tree.name ≡ a → IsNamed lower b
   top_leads (one {a = a} {b = b} e) n = top_child b (child_of tree top_there a b n e)

@@ -22,13 +22,13 @@ use Rattle.vlog_module_laws.proofs.Larger.{named_has}
 use Rattle.hw_build.specs.Elements.{Element, Instance as InstanceElement, element_items, empty}
 use Rattle.hw_build.proofs.Tables.{items_of_all}
 use Rattle.hw_channel_lines.specs.Names.{channel_name}
-use Rattle.hw_channel_lines.specs.Texts.{joined_to}
+use Rattle.hw_channel_lines.specs.Texts.{connected_to}
 use Rattle.hw_channel_laws.proofs.modules.Clear.{clocks}
 use Rattle.hw_lines.specs.Texts.{task_name}
 use Rattle.hw_top_laws.specs.joins.Joins.{joined_ports}
 use Rattle.hw_top_lines.specs.Legal.{IsReady}
 use Rattle.hw_top_lines.specs.Names.{task_instance, channel_instance}
-use Rattle.hw_top_lines.specs.Texts.{ports, wires, doneness, token_bits, task_ends, channel_ends, instances, top_elements, top_tree}
+use Rattle.hw_top_lines.specs.Texts.{ports, wires, doneness, token_bits, task_connections, channel_connections, instances, top_elements, top_tree}
 use Rattle.hw_top_laws.specs.modules.Lower.{lower_modules, KeepPromises}
 use Rattle.hw_top_laws.proofs.modules.Channels.{channel_are}
 use Rattle.hw_top_laws.proofs.modules.Lower.{one_of, lower_ports}
@@ -64,7 +64,7 @@ line_kept m f (Always b) h u c = absurd c
 
 -- ---- the ends of a channel
 
-channel_kept : (x : Name) (l : Connection) → Has (channel_ends x) l → IsKept (clock_connection l)
+channel_kept : (x : Name) (l : Connection) → Has (channel_connections x) l → IsKept (clock_connection l)
 unfolding clock_connection clk rst
 channel_kept x l (inl e) = subst (λ z. IsKept (clock_connection z)) e refl
 channel_kept x l (inr (inl e)) = subst (λ z. IsKept (clock_connection z)) e refl
@@ -92,7 +92,7 @@ module _ (program : Program) (machines : List Fsm) (added : List ℕ) (ready : I
 
   -- ---- the ends of a task
 
-  task_clock : (i : ℕ) (x : Instance) (leaf : Leaf) → slice_get program.instances.items i ≡ Some x → slice_get program.bodies.items x.body ≡ Some leaf → (l : Connection) → Has (task_ends program i x leaf) l
+  task_clock : (i : ℕ) (x : Instance) (leaf : Leaf) → slice_get program.instances.items i ≡ Some x → slice_get program.bodies.items x.body ≡ Some leaf → (l : Connection) → Has (task_connections program i x leaf) l
       → l.port ≡ clk → l.net ≡ clk
   task_clock i x leaf g e l h p =
       let part = part_at program machines added ready kept i x leaf g e in
@@ -101,9 +101,9 @@ module _ (program : Program) (machines : List Fsm) (added : List ℕ) (ready : I
       let there : Has lower k = named_has lower (task_name leaf.name) k (named program machines added ready kept i x leaf part) in
       let once = lower_ports program machines added ready kept k there l.port in
       let all = same program machines added ready kept i x leaf part l.port ∙ ap (λ (ps : List PortDecl). times_in (map (λ (q : PortDecl). q.name) ps) l.port) (sym (ports_are program machines added ready kept i x leaf part)) in
-      let low : times_in (joined_ports (task_ends program i x leaf)) l.port ≤ 1 = omega (arith, once, all) in
-      let c = joined_to (codes "clk") (codes "clk") in
-      ap (λ (z : Connection). z.net) (same_connection (task_ends program i x leaf) l c h (inl refl) (p ∙ clock_is) low) ∙ sym clock_is
+      let low : times_in (joined_ports (task_connections program i x leaf)) l.port ≤ 1 = omega (arith, once, all) in
+      let c = connected_to (codes "clk") (codes "clk") in
+      ap (λ (z : Connection). z.net) (same_connection (task_connections program i x leaf) l c h (inl refl) (p ∙ clock_is) low) ∙ sym clock_is
 
   -- ---- the top's lines
 
@@ -114,9 +114,9 @@ module _ (program : Program) (machines : List Fsm) (added : List ℕ) (ready : I
 
   part_kept : (e : Element) → IsOfTop program added e → (u : NameUse) → Has (line_uses e) u → IsKept u
   part_kept e (OfTask i x leaf g k s) u h =
-      joined_kept (task_name leaf.name) (task_instance x.label) (task_ends program i x leaf) (λ l j. clock_kept l (task_clock i x leaf g k l j)) u (subst (λ z. Has (line_uses z) u) (sym s) h)
+      joined_kept (task_name leaf.name) (task_instance x.label) (task_connections program i x leaf) (λ l j. clock_kept l (task_clock i x leaf g k l j)) u (subst (λ z. Has (line_uses z) u) (sym s) h)
   part_kept e (OfChannel n r g s) u h =
-      joined_kept (channel_name (token_bits r.kind) r.depth (slice_index added n)) (channel_instance r.label) (channel_ends r.label) (λ l j. channel_kept r.label l j) u (subst (λ z. Has (line_uses z) u) (sym s) h)
+      joined_kept (channel_name (token_bits r.kind) r.depth (slice_index added n)) (channel_instance r.label) (channel_connections r.label) (λ l j. channel_kept r.label l j) u (subst (λ z. Has (line_uses z) u) (sym s) h)
 
   no_use : (xs : List Element) → flat_map line_uses xs ≡ [] → (e : Element) → Has xs e → (u : NameUse) → Has (line_uses e) u → ⊥
   no_use xs none e h u k = subst (λ (l : List NameUse). Has l u) none (has_flat line_uses xs e u h k)

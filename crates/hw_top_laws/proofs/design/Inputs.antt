@@ -46,7 +46,7 @@ use Rattle.hw_top_lines.specs.Bounds.{scalar_kind, scalar_name, parameter_kind, 
 use Rattle.hw_top_lines.specs.Designs.{design_tree}
 use Rattle.hw_top_lines.specs.Legal.{IsReady}
 use Rattle.hw_top_lines.specs.Names.{s_take, ended_net, waits, bound_net}
-use Rattle.hw_top_lines.specs.Texts.{scalar_port, memory_ports, ports, stream_wires, take_wire, token_bits, of_leaf, of_instance, at_instance, task_ends, task_part, ended_wire, still_waits, is_detached, waiting, none_waits, doneness, channel_part, wires, instances, top_elements, top_tree}
+use Rattle.hw_top_lines.specs.Texts.{scalar_port, memory_ports, ports, stream_wires, take_wire, token_bits, of_leaf, of_instance, at_instance, task_connections, task_part, ended_wire, still_waits, is_detached, waiting, none_waits, doneness, channel_part, wires, instances, top_elements, top_tree}
 use Rattle.hw_top_laws.specs.design.Order.{AreBelow, DesignsRestOnNoInput}
 use Rattle.hw_top_laws.specs.modules.Lower.{lower_modules, KeepPromises}
 use Rattle.hw_top_laws.proofs.design.Kept.{same_module, takes_a_token, channel_clear}
@@ -304,7 +304,7 @@ module _ (program : Program) (machines : List Fsm) (added : List ℕ) (ready : I
   driven_by kn i ls k out y (OfTask j x leaf g gl e) n ho f o p r =
       let part = part_at program machines added ready kept j x leaf g gl in
       let ek : task_name leaf.name ≡ kn = cc e in
-      let el : task_ends program j x leaf ≡ ls = cc e in
+      let el : task_connections program j x leaf ≡ ls = cc e in
       let c = child program machines added ready kept j x leaf part in
       let is : k ≡ c = same_module k c (sym n ∙ ap (module_named lower) (sym ek) ∙ named program machines added ready kept j x leaf part) in
       let t = takes_a_token program machines added ready kept is_top_name under j x leaf part out y (subst (λ (l : List Connection). Has l out) (sym el) ho)

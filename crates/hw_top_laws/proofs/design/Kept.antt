@@ -17,7 +17,7 @@ use Rattle.vlog_tree.specs.Loops.{Rests}
 use Rattle.vlog_tree.specs.Table.{Name, module_named, port_declared, net_kind_of, times_in}
 use Rattle.tapa_base.proofs.Lists.{has_left, has_right}
 use Rattle.vlog_module_laws.proofs.Larger.{each_right, right_has_instances, named_has, rests_fewer}
-use Rattle.hw_build.specs.Elements.{Element, Link, Instance as InstanceElement}
+use Rattle.hw_build.specs.Elements.{Element, InstanceWire, Instance as InstanceElement}
 use Rattle.hw_build.specs.Fitting.{first_table, have_fitting_names}
 use Rattle.hw_build.specs.Order.{StandsBefore}
 use Rattle.hw_build.proofs.Tables.{times}
@@ -26,7 +26,7 @@ use Rattle.hw_build.specs.Scope.{each}
 use Rattle.hw_build.proofs.Parts.{has_each}
 use Rattle.hw_build.proofs.ListTables.{table}
 use Rattle.hw_channel_lines.specs.Names.{channel_name}
-use Rattle.hw_channel_lines.specs.Texts.{joined_to}
+use Rattle.hw_channel_lines.specs.Texts.{connected_to}
 use Rattle.hw_channel_laws.proofs.modules.Clear.{no_way_in}
 use Rattle.hw_channel_laws.proofs.modules.Fits.{clear}
 use Rattle.hw_lines.specs.declared.nets.Net.TheVariants.{Taken}
@@ -37,7 +37,7 @@ use Rattle.hw_top_laws.proofs.joins.Joined.{output_kind}
 use Rattle.hw_top_lines.specs.Channels.{channel_modules}
 use Rattle.hw_top_lines.specs.Legal.{IsReady}
 use Rattle.hw_top_lines.specs.Names.{s_take}
-use Rattle.hw_top_lines.specs.Texts.{ports, doneness, take_wire, token_bits, stream_label, written_ends, read_ends, scalar_ends, stream_ends, memory_ends, task_ends, instances, top_elements}
+use Rattle.hw_top_lines.specs.Texts.{ports, doneness, take_wire, token_bits, stream_label, written_connections, read_connections, scalar_connections, stream_connections, memory_connections, task_connections, instances, top_elements}
 use Rattle.hw_top_laws.specs.modules.Lower.{lower_modules, KeepPromises}
 use Rattle.hw_top_laws.proofs.modules.Channels.{sizes, channel_are}
 use Rattle.hw_top_laws.proofs.modules.Lower.{channel_within, lower_ports}
@@ -71,9 +71,9 @@ module _ (program : Program) (added : List ℕ) where
       ap (λ (l : List Element). l ++ doneness program ++ instances program added) (sym (append_assoc (ports program) others (takes program)))
       ∙ append_assoc (front program ++ takes program) (doneness program) (instances program added) ∙ append_assoc (front program) (takes program) (doneness program ++ instances program added)
 
-  pub take_behind : (s : ℕ) (r : Stream) → slice_get program.streams.items s ≡ Some r → Has back (Link 1 (s_take r.label))
+  pub take_behind : (s : ℕ) (r : Stream) → slice_get program.streams.items s ≡ Some r → Has back (InstanceWire 1 (s_take r.label))
   take_behind s r g =
-      let e = Link 1 (s_take r.label) in
+      let e = InstanceWire 1 (s_take r.label) in
       has_left (takes program) (doneness program ++ instances program added) e
       (has_each (λ s. take_wire (slice_get program.streams.items s)) (length program.streams.items) s e (some_index program.streams.items s r g) (subst (λ o. Has (take_wire o) e) (sym g) (inl refl)))
 
@@ -96,7 +96,7 @@ module _ (program : Program) (machines : List Fsm) (added : List ℕ) (ready : I
     ps = all_ports program machines added ready kept i x leaf part
 
     abbrev ends : List Connection
-    ends = task_ends program i x leaf
+    ends = task_connections program i x leaf
 
     in_lower : Has lower k
     in_lower = named_has lower (task_name leaf.name) k (named program machines added ready kept i x leaf part)
@@ -114,20 +114,20 @@ module _ (program : Program) (machines : List Fsm) (added : List ℕ) (ready : I
         omega (arith, e, o)
 
     -- what takes a token of a stream is joined to that stream's wire
-    take_end : (s : ℕ) → s < length leaf.streams.items → is_written (slice_get leaf.streams.items s) ≡ false → Has ends (joined_to (name (Taken s)) (s_take (stream_label program (slice_index x.streams.items s))))
+    take_end : (s : ℕ) → s < length leaf.streams.items → is_written (slice_get leaf.streams.items s) ≡ false → Has ends (connected_to (name (Taken s)) (s_take (stream_label program (slice_index x.streams.items s))))
     take_end s l e =
         let t = stream_label program (slice_index x.streams.items s) in
-        let c = joined_to (name (Taken s)) (s_take t) in
-        let scalars = each (scalar_ends i x) (length leaf.scalars.items) in
-        let streams = each (stream_ends program x leaf) (length leaf.streams.items) in
-        let memories = each (memory_ends program x) (length leaf.memories.items) in
-        let here : Has (stream_ends program x leaf s) c = subst (λ b. Has (cond b (written_ends s t) (read_ends s t)) c) (sym e) (inr (inr (inl refl))) in
-        inr (inr (inr (has_left (scalars ++ streams) memories c (has_right scalars streams c (has_each (stream_ends program x leaf) (length leaf.streams.items) s c l here)))))
+        let c = connected_to (name (Taken s)) (s_take t) in
+        let scalars = each (scalar_connections i x) (length leaf.scalars.items) in
+        let streams = each (stream_connections program x leaf) (length leaf.streams.items) in
+        let memories = each (memory_connections program x) (length leaf.memories.items) in
+        let here : Has (stream_connections program x leaf s) c = subst (λ b. Has (cond b (written_connections s t) (read_connections s t)) c) (sym e) (inr (inr (inl refl))) in
+        inr (inr (inr (has_left (scalars ++ streams) memories c (has_right scalars streams c (has_each (stream_connections program x leaf) (length leaf.streams.items) s c l here)))))
 
     taken_net : (s : ℕ) → s < length leaf.streams.items → is_written (slice_get leaf.streams.items s) ≡ false → (out : Connection) → Has ends out → out.port ≡ name (Taken s)
         → out.net ≡ s_take (stream_label program (slice_index x.streams.items s))
     taken_net s l e out h p =
-        let c = joined_to (name (Taken s)) (s_take (stream_label program (slice_index x.streams.items s))) in
+        let c = connected_to (name (Taken s)) (s_take (stream_label program (slice_index x.streams.items s))) in
         ap (λ (z : Connection). z.net) (same_connection ends out c h (take_end s l e) p (joined_once out.port))
 
     -- what rests on an input drives the wire that says that a token is taken
@@ -150,7 +150,7 @@ module _ (program : Program) (machines : List Fsm) (added : List ℕ) (ready : I
         let known : 1 ≤ times (table (front program)) into.net = front_known program ps ports_once into input (end_right program machines added ready kept i x leaf part into hi) in
         let d : Declaration = record { name = s_take at.at.stream.label; net_kind = WireNet; bits = 1; cells = 0 } in
         let before : StandsBefore (front program ++ back program added) into.net (s_take at.at.stream.label) =
-        split_order lower (front program) (back program added) fits into.net known (Link 1 (s_take at.at.stream.label)) d (take_behind program added at.number at.at.stream at.at.is) refl in
+        split_order lower (front program) (back program added) fits into.net known (InstanceWire 1 (s_take at.at.stream.label)) d (take_behind program added at.number at.at.stream at.at.is) refl in
         subst (λ (z : Name). StandsBefore top into.net z) (sym net) (subst (λ (l : List Element). StandsBefore l into.net (s_take at.at.stream.label)) (sym (top_is program added)) before)
 
   module _ (s : ℕ) (r : Stream) (got : slice_get program.streams.items s ≡ Some r) where
@@ -177,7 +177,7 @@ module _ (program : Program) (machines : List Fsm) (added : List ℕ) (ready : I
   kept_by kn i ls k out into (OfTask j x leaf g gl e) n ho hi o p r =
       let part = part_at program machines added ready kept j x leaf g gl in
       let ek : task_name leaf.name ≡ kn = cc e in
-      let el : task_ends program j x leaf ≡ ls = cc e in
+      let el : task_connections program j x leaf ≡ ls = cc e in
       let c = child program machines added ready kept j x leaf part in
       let is : k ≡ c = same_module k c (sym n ∙ ap (module_named lower) (sym ek) ∙ named program machines added ready kept j x leaf part) in
       task_order j x leaf part out into (subst (λ (l : List Connection). Has l out) (sym el) ho) (subst (λ (l : List Connection). Has l into) (sym el) hi)

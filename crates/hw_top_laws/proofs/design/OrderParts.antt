@@ -17,7 +17,7 @@ use Rattle.hw_build.proofs.Parts.{of_each}
 use Rattle.hw_channel_lines.specs.Names.{channel_name}
 use Rattle.hw_lines.specs.Texts.{task_name}
 use Rattle.hw_top_lines.specs.Names.{task_instance, channel_instance}
-use Rattle.hw_top_lines.specs.Texts.{ports, wires, doneness, token_bits, of_leaf, of_instance, at_instance, task_ends, task_part, channel_ends, channel_part, instances, top_elements}
+use Rattle.hw_top_lines.specs.Texts.{ports, wires, doneness, token_bits, of_leaf, of_instance, at_instance, task_connections, task_part, channel_connections, channel_part, instances, top_elements}
 use Rattle.hw_top_laws.proofs.form.Drives.{ports_none, wires_none, done_none}
 
 none_there : (xs : List Element) → flat_map child_names xs ≡ [] → (k i : Name) (ls : List Connection) → Has xs (InstanceElement k i ls) → ⊥
@@ -27,9 +27,9 @@ module _ (program : Program) (added : List ℕ) where
   -- an element that is the instance of a task, or of a channel
   pub data IsOfTop (e : Element) : Type 0 where
     OfTask : (i : ℕ) (x : Instance) (leaf : Leaf) → slice_get program.instances.items i ≡ Some x → slice_get program.bodies.items x.body ≡ Some leaf
-        → InstanceElement (task_name leaf.name) (task_instance x.label) (task_ends program i x leaf) ≡ e → IsOfTop e
+        → InstanceElement (task_name leaf.name) (task_instance x.label) (task_connections program i x leaf) ≡ e → IsOfTop e
     OfChannel : (s : ℕ) (r : Stream) → slice_get program.streams.items s ≡ Some r
-        → InstanceElement (channel_name (token_bits r.kind) r.depth (slice_index added s)) (channel_instance r.label) (channel_ends r.label) ≡ e → IsOfTop e
+        → InstanceElement (channel_name (token_bits r.kind) r.depth (slice_index added s)) (channel_instance r.label) (channel_connections r.label) ≡ e → IsOfTop e
 
   in_leaf : (i : ℕ) (x : Instance) → slice_get program.instances.items i ≡ Some x → (o : Option Leaf) → slice_get program.bodies.items x.body ≡ o → (e : Element) → Has (of_leaf (task_part program i) x o) e → IsOfTop e
   in_leaf i x g None k e h = absurd h

@@ -24,7 +24,7 @@ use Rattle.vlog_tree.specs.Table.{Name, clk, declared, find_name, net_kind_is_wi
 use Rattle.tapa_base.proofs.Lists.{has_left, has_right, has_flat}
 use Rattle.vlog_module_laws.proofs.Labelled.{labels}
 use Rattle.vlog_module_laws.proofs.Lists.{both_true}
-use Rattle.hw_build.specs.Elements.{Element, Input, Output, Outlet, Wire, Link, Register, Memory as MemoryElement, Block, Instance as InstanceElement, empty, element_ports, element_items}
+use Rattle.hw_build.specs.Elements.{Element, Input, Output, Outlet, Wire, InstanceWire, Register, Memory as MemoryElement, Block, Instance as InstanceElement, empty, element_ports, element_items}
 use Rattle.hw_build.specs.Fitting.{declarations, first_table}
 use Rattle.hw_build.proofs.Forms.{yes_and}
 use Rattle.hw_build.proofs.Right.{table, all_once}
@@ -242,7 +242,7 @@ module _ (program : Program) (machines : List Fsm) (added : List ℕ) (ready : I
 
   other_lines : (e : Element) → ((y : Name) → Has (declared_names e) y → sort y ≡ 8 → ⊥) → of_lines e ≡ []
   other_lines (Wire w x v) h = ap (λ l. l ++ []) (other_wire w x (h x (inl refl)))
-  other_lines (Link w x) h = ap (λ l. l ++ []) (other_wire w x (h x (inl refl)))
+  other_lines (InstanceWire w x) h = ap (λ l. l ++ []) (other_wire w x (h x (inl refl)))
   other_lines (Input w x) h = refl
   other_lines (Output w x v) h = refl
   other_lines (Outlet w x) h = refl
@@ -254,10 +254,10 @@ module _ (program : Program) (machines : List Fsm) (added : List ℕ) (ready : I
   others : (es : List Element) → ((y : Name) → Has (flat_map declared_names es) y → sort y ≡ 8 → ⊥) → flat_map of_lines es ≡ []
   others es h = flat_none of_lines es (λ e k. other_lines e (λ y i. h y (has_flat declared_names es e y k i)))
 
-  bit_wire : (k : ℕ) (r : Stream) → slice_get program.streams.items k ≡ Some r → (x : Name) → Has (stream_wires (Some r)) (Link 1 x) → is_bit_wire (declared tree) x ≡ true
+  bit_wire : (k : ℕ) (r : Stream) → slice_get program.streams.items k ≡ Some r → (x : Name) → Has (stream_wires (Some r)) (InstanceWire 1 x) → is_bit_wire (declared tree) x ≡ true
   bit_wire k r e x h =
       let d : Declaration = record { name = x; net_kind = WireNet; bits = 1; cells = 0 } in
-      let f = in_tree (Link 1 x) d (wire_there (Link 1 x) (stream_there program k r e (Link 1 x) h)) (inl refl) in
+      let f = in_tree (InstanceWire 1 x) d (wire_there (InstanceWire 1 x) (stream_there program k r e (InstanceWire 1 x) h)) (inl refl) in
       ap (λ (z : Declaration). net_kind_is_wire z.net_kind && eqb z.bits 1) f
 
   stream_is : (k : ℕ) (r : Stream) → slice_get program.streams.items k ≡ Some r → is_stream (declared tree) (token_bits r.kind) (s_wr r.label) (s_rdy r.label) ≡ true
@@ -281,11 +281,11 @@ module _ (program : Program) (machines : List Fsm) (added : List ℕ) (ready : I
   stream_at k None e = refl
   stream_at k (Some r) e =
       let w = token_bits r.kind in
-      let rest = Link 1 (s_wr r.label) ∷ Link 1 (s_rdy r.label) ∷ Link 1 (s_has r.label) ∷ Link w (s_dout r.label) ∷ [] in
-      let own : of_lines (Link w (s_din r.label)) ≡ stream_given r ∷ [] =
+      let rest = InstanceWire 1 (s_wr r.label) ∷ InstanceWire 1 (s_rdy r.label) ∷ InstanceWire 1 (s_has r.label) ∷ InstanceWire w (s_dout r.label) ∷ [] in
+      let own : of_lines (InstanceWire w (s_din r.label)) ≡ stream_given r ∷ [] =
       ap (λ o. stream_label_of (declared tree) w o ++ []) (labels.dins.there r.label (stream_long k r e))
       ∙ ap (λ b. cond b (stream_given r ∷ []) [] ++ []) (stream_is k r e) in
-      next_line (Link w (s_din r.label)) rest (stream_given r ∷ []) [] own (others rest no_others) where
+      next_line (InstanceWire w (s_din r.label)) rest (stream_given r ∷ []) [] own (others rest no_others) where
         no_others : (y : Name) → Has (s_wr r.label ∷ s_rdy r.label ∷ s_has r.label ∷ s_dout r.label ∷ []) y → sort y ≡ 8 → ⊥
         no_others y (inl f) s = let t = wr_sort r.label in let u = ap sort f in omega (arith, s, t, u)
         no_others y (inr (inl f)) s = let t = rdy_sort r.label in let u = ap sort f in omega (arith, s, t, u)

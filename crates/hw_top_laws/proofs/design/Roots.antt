@@ -27,7 +27,7 @@ use Rattle.hw_lines.specs.Texts.{task_name}
 use Rattle.hw_top_lines.specs.Designs.{design_tree}
 use Rattle.hw_top_lines.specs.Legal.{IsReady}
 use Rattle.hw_top_lines.specs.Names.{task_instance, channel_instance}
-use Rattle.hw_top_lines.specs.Texts.{ports, wires, doneness, token_bits, of_leaf, of_instance, at_instance, task_ends, task_part, channel_ends, channel_part, instances, top_elements, top_tree}
+use Rattle.hw_top_lines.specs.Texts.{ports, wires, doneness, token_bits, of_leaf, of_instance, at_instance, task_connections, task_part, channel_connections, channel_part, instances, top_elements, top_tree}
 use Rattle.hw_top_laws.specs.modules.Lower.{lower_modules, KeepPromises}
 use Rattle.hw_top_laws.proofs.modules.Channels.{IsOfStream, channel_are}
 use Rattle.hw_top_laws.proofs.modules.Lower.{one_of, no_top}
@@ -73,18 +73,18 @@ module _ (program : Program) (added : List ℕ) where
   instance_there e h = has_right (ports program ++ wires program ++ doneness program) (instances program added) e h
 
   task_there : (i : ℕ) (x : Instance) (leaf : Leaf) → slice_get program.instances.items i ≡ Some x → slice_get program.bodies.items x.body ≡ Some leaf
-      → Has top (InstanceElement (task_name leaf.name) (task_instance x.label) (task_ends program i x leaf))
+      → Has top (InstanceElement (task_name leaf.name) (task_instance x.label) (task_connections program i x leaf))
   task_there i x leaf g k =
-      let e = InstanceElement (task_name leaf.name) (task_instance x.label) (task_ends program i x leaf) in
+      let e = InstanceElement (task_name leaf.name) (task_instance x.label) (task_connections program i x leaf) in
       let is : at_instance program (task_part program) i ≡ e ∷ [] = ap (of_instance program (task_part program i)) g ∙ ap (of_leaf (task_part program i) x) k in
       instance_there e
       (has_left parts channels e
       (has_each (at_instance program (task_part program)) (length program.instances.items) i e (some_index program.instances.items i x g) (subst (λ (l : List Element). Has l e) (sym is) (inl refl))))
 
   channel_there : (s : ℕ) (r : Stream) → slice_get program.streams.items s ≡ Some r
-      → Has top (InstanceElement (channel_name (token_bits r.kind) r.depth (slice_index added s)) (channel_instance r.label) (channel_ends r.label))
+      → Has top (InstanceElement (channel_name (token_bits r.kind) r.depth (slice_index added s)) (channel_instance r.label) (channel_connections r.label))
   channel_there s r g =
-      let e = InstanceElement (channel_name (token_bits r.kind) r.depth (slice_index added s)) (channel_instance r.label) (channel_ends r.label) in
+      let e = InstanceElement (channel_name (token_bits r.kind) r.depth (slice_index added s)) (channel_instance r.label) (channel_connections r.label) in
       instance_there e
       (has_right parts channels e
       (has_each (λ s. channel_part (slice_index added s) (slice_get program.streams.items s)) (length program.streams.items) s e (some_index program.streams.items s r g)
@@ -118,7 +118,7 @@ module _ (program : Program) (machines : List Fsm) (added : List ℕ) (ready : I
       let u = some_passes (λ (x : Instance). eqb x.body t.number) program.instances.items t.used in
       let body : slice_get program.bodies.items u.value.body ≡ Some t.leaf = ap (λ n. slice_get program.bodies.items n) (eqb-true u.value.body t.number u.passes) ∙ t.got_leaf in
       let here : Has (module_children tree) (task_name t.leaf.name) =
-      top_has program added (task_name t.leaf.name) (task_instance u.value.label) (task_ends program u.number u.value t.leaf) (task_there program added u.number u.value t.leaf u.got body) in
+      top_has program added (task_name t.leaf.name) (task_instance u.value.label) (task_connections program u.number u.value t.leaf) (task_there program added u.number u.value t.leaf u.got body) in
       subst (λ z. Has (module_children tree) z) (sym (task_title program ready.told_apart machines ready.lowered m t)) here
 
   stream_stands : (m : ModuleTree) → IsOfStream program ready.well_formed added ready.short m → StandsIn all m.name
@@ -130,7 +130,7 @@ module _ (program : Program) (machines : List Fsm) (added : List ℕ) (ready : I
       (λ e. (
         tree,
         top_there program machines added ready kept,
-        subst (λ z. Has (module_children tree) z) (sym e) (top_has program added c (channel_instance r.label) (channel_ends r.label) (channel_there program added l.number r l.got)),
+        subst (λ z. Has (module_children tree) z) (sym e) (top_has program added c (channel_instance r.label) (channel_connections r.label) (channel_there program added l.number r l.got)),
       ))
       (λ t. (t.0, lower_there program machines added ready kept t.0 (own_there program machines added ready kept l.number r l.got t.0 t.1), t.2))
       (stands_in (token_bits r.kind) r.depth late _ (channel_are (token_bits r.kind) r.depth late) m l.has)

@@ -16,7 +16,7 @@ use Rattle.hw_channel_laws.proofs.modules.Clear.{outermost}
 use Rattle.hw_top_laws.specs.joins.Joins.{IsJoin, ToClock, ToInput, FromOutput, IsJoined}
 use Rattle.hw_top_lines.specs.Channels.{channel_modules}
 use Rattle.hw_top_lines.specs.Legal.{IsReady}
-use Rattle.hw_top_lines.specs.Texts.{token_bits, channel_ends}
+use Rattle.hw_top_lines.specs.Texts.{token_bits, channel_connections}
 use Rattle.hw_top_laws.specs.modules.Lower.{lower_modules, KeepPromises}
 use Rattle.hw_top_laws.proofs.modules.Channels.{channel_are}
 use Rattle.hw_top_laws.proofs.modules.Lower.{channels_found}
@@ -54,11 +54,11 @@ module _ (program : Program) (machines : List Fsm) (added : List ℕ) (ready : I
           named = subst (λ y. module_named (lower_modules program machines added) y ≡ Some f.0) f.2.0 (channels_found program machines added ready kept s r got f.0 f.1);
         }
 
-    same : (y : Name) → joined (channel_ends r.label) y ≡ ported (outer_ports bits) y
+    same : (y : Name) → joined (channel_connections r.label) y ≡ ported (outer_ports bits) y
     unfolding clk rst
     same y = refl
 
-    right : AllByRecursion (IsJoin (standing program) (outer_ports bits)) (channel_ends r.label)
+    right : AllByRecursion (IsJoin (standing program) (outer_ports bits)) (channel_connections r.label)
     unfolding clk rst
     right = (
       ToClock refl refl (inl refl),
@@ -83,10 +83,10 @@ module _ (program : Program) (machines : List Fsm) (added : List ℕ) (ready : I
       ),
     )
 
-    pub channel_joined : IsJoined (lower_modules program machines added) (standing program) (channel_name bits r.depth late) (channel_ends r.label)
+    pub channel_joined : IsJoined (lower_modules program machines added) (standing program) (channel_name bits r.depth late) (channel_connections r.label)
     channel_joined = record {
       child = outer.module_is;
       named = outer.named;
       same = λ y. same y ∙ ap (λ (ps : List PortDecl). ported ps y) (sym outer.ports);
-      joins = subst (λ (ps : List PortDecl). AllByRecursion (IsJoin (standing program) ps) (channel_ends r.label)) (sym outer.ports) right;
+      joins = subst (λ (ps : List PortDecl). AllByRecursion (IsJoin (standing program) ps) (channel_connections r.label)) (sym outer.ports) right;
     }

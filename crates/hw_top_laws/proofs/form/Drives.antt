@@ -29,14 +29,14 @@ use Rattle.vlog_tree.specs.Table.{Name, clk, port_declared, net_kind_is_input, p
 use Rattle.vlog_tree.specs.V4.{connection_driven}
 use Rattle.vlog_module_laws.proofs.Larger.{known_by}
 use Rattle.vlog_run_laws.proofs.runs.Alone.{module_is}
-use Rattle.hw_build.specs.Elements.{Element, Input, Output, Outlet, Wire, Link, Instance as InstanceElement}
+use Rattle.hw_build.specs.Elements.{Element, Input, Output, Outlet, Wire, InstanceWire, Instance as InstanceElement}
 use Rattle.hw_build.specs.Fitting.{instance_driven}
 use Rattle.hw_build.specs.Trees.{numbered, tree_node, tree_nodes}
 use Rattle.hw_build.specs.Scope.{each}
 use Rattle.hw_build.specs.Fits.{AreOnce}
 use Rattle.hw_channel_lines.specs.Names.{channel_name}
 use Rattle.hw_channel_laws.specs.modules.Rules.{outer_ports}
-use Rattle.hw_channel_lines.specs.Texts.{clocks, joined_to}
+use Rattle.hw_channel_lines.specs.Texts.{clocks, connected_to}
 use Rattle.hw_lines.specs.Drivers.{Driver, wires_of, last_of, conversion}
 use Rattle.hw_lines.specs.declared.nets.Net.TheVariants.{Done, Scalar as ScalarPort, Has as HasPort, Dout, Taken, Din, Wr, Rdy, Ack, Rdata, Addr, Wdata, We}
 use Rattle.hw_lines.specs.Nets.{name}
@@ -49,7 +49,7 @@ use Rattle.hw_top_laws.proofs.joins.Joined.{input_kind, output_kind}
 use Rattle.hw_top_lines.specs.Names.{s_has, s_dout, s_take, task_instance, channel_instance, ended_net, waits, bound_net}
 use Rattle.hw_top_lines.specs.Bounds.{scalar_kind, scalar_name, parameter_kind, converted_net, kind_before, conversion_step, bound_elements, bound_by, parameters}
 use Rattle.hw_top_lines.specs.Legal.{IsReady}
-use Rattle.hw_top_lines.specs.Texts.{scalar_port, memory_ports, ports, token_bits, stream_wires, take_wire, stream_label, memory_name, of_leaf, of_instance, at_instance, scalar_ends, written_ends, read_ends, stream_ends, named_ends, memory_ends, task_ends, ended_wire, still_waits, is_detached, waiting, none_waits, doneness, channel_ends, task_part, channel_part, wires, instances}
+use Rattle.hw_top_lines.specs.Texts.{scalar_port, memory_ports, ports, token_bits, stream_wires, take_wire, stream_label, memory_name, of_leaf, of_instance, at_instance, scalar_connections, written_connections, read_connections, stream_connections, named_connections, memory_connections, task_connections, ended_wire, still_waits, is_detached, waiting, none_waits, doneness, channel_connections, task_part, channel_part, wires, instances}
 use Rattle.hw_top_laws.specs.modules.Lower.{lower_modules, KeepPromises}
 use Rattle.hw_top_laws.proofs.modules.Lower.{lower_ports}
 use Rattle.hw_top_laws.proofs.form.Channels.{outer}
@@ -109,22 +109,22 @@ module _ {A : Type 0} (g : Element → List A) (of_wire : (w : ℕ) (x : Name) (
       let last = Output 1 done (none_waits n) in
       both_none g (leaves ++ nodes) (last ∷ []) (waits_none program n (n - 1)) (more_none g last [] (of_output (none_waits n)) refl)
 
-  module _ (of_link : (w : ℕ) (x : Name) → g (Link w x) ≡ []) (program : Program) where
+  module _ (of_link : (w : ℕ) (x : Name) → g (InstanceWire w x) ≡ []) (program : Program) where
     stream_none : (o : Option Stream) → GiveNone g (stream_wires o)
     stream_none None = refl
     stream_none (Some r) =
         let b = token_bits r.kind in
-        let e1 = Link b (s_dout r.label) in
-        let e2 = Link 1 (s_has r.label) in
-        let e3 = Link 1 (s_rdy r.label) in
-        let e4 = Link 1 (s_wr r.label) in
-        more_none g (Link b (s_din r.label)) (e4 ∷ e3 ∷ e2 ∷ e1 ∷ []) (of_link b (s_din r.label))
+        let e1 = InstanceWire b (s_dout r.label) in
+        let e2 = InstanceWire 1 (s_has r.label) in
+        let e3 = InstanceWire 1 (s_rdy r.label) in
+        let e4 = InstanceWire 1 (s_wr r.label) in
+        more_none g (InstanceWire b (s_din r.label)) (e4 ∷ e3 ∷ e2 ∷ e1 ∷ []) (of_link b (s_din r.label))
         (more_none g e4 (e3 ∷ e2 ∷ e1 ∷ []) (of_link 1 (s_wr r.label))
         (more_none g e3 (e2 ∷ e1 ∷ []) (of_link 1 (s_rdy r.label)) (more_none g e2 (e1 ∷ []) (of_link 1 (s_has r.label)) (more_none g e1 [] (of_link b (s_dout r.label)) refl))))
 
     take_none : (o : Option Stream) → GiveNone g (take_wire o)
     take_none None = refl
-    take_none (Some r) = more_none g (Link 1 (s_take r.label)) [] (of_link 1 (s_take r.label)) refl
+    take_none (Some r) = more_none g (InstanceWire 1 (s_take r.label)) [] (of_link 1 (s_take r.label)) refl
 
     pub wires_none : GiveNone g (wires program)
     wires_none =
@@ -136,7 +136,7 @@ module _ {A : Type 0} (g : Element → List A) (of_wire : (w : ℕ) (x : Name) (
         both_none g (streams ++ bounds ++ ends) takes
         (both_none g (streams ++ bounds) ends
         (both_none g streams bounds (each_none g (λ s. stream_wires (slice_get program.streams.items s)) (length program.streams.items) (λ s. stream_none (slice_get program.streams.items s))) (bounds_none program n))
-        (each_none g ended_wire n (λ i. more_none g (Link 1 (ended_net i)) [] (of_link 1 (ended_net i)) refl)))
+        (each_none g ended_wire n (λ i. more_none g (InstanceWire 1 (ended_net i)) [] (of_link 1 (ended_net i)) refl)))
         (each_none g (λ s. take_wire (slice_get program.streams.items s)) (length program.streams.items) (λ s. take_none (slice_get program.streams.items s)))
 
 module _ {A : Type 0} (g : Element → List A) (of_input : (w : ℕ) (x : Name) → g (Input w x) ≡ []) (of_outlet : (w : ℕ) (x : Name) → g (Outlet w x) ≡ []) (program : Program) where
@@ -165,7 +165,7 @@ module _ {A : Type 0} (g : Element → List A) (of_input : (w : ℕ) (x : Name) 
 module _ {A : Type 0} (g : Element → List A) (of_part : (k i : Name) (ls : List Connection) → g (InstanceElement k i ls) ≡ []) (program : Program) (added : List ℕ) where
   leaf_part_none : (i : ℕ) (x : Instance) (o : Option Leaf) → GiveNone g (of_leaf (task_part program i) x o)
   leaf_part_none i x None = refl
-  leaf_part_none i x (Some leaf) = more_none g (InstanceElement (task_name leaf.name) (task_instance x.label) (task_ends program i x leaf)) [] (of_part (task_name leaf.name) (task_instance x.label) (task_ends program i x leaf)) refl
+  leaf_part_none i x (Some leaf) = more_none g (InstanceElement (task_name leaf.name) (task_instance x.label) (task_connections program i x leaf)) [] (of_part (task_name leaf.name) (task_instance x.label) (task_connections program i x leaf)) refl
 
   task_part_none : (i : ℕ) (o : Option Instance) → GiveNone g (of_instance program (task_part program i) o)
   task_part_none i None = refl
@@ -175,7 +175,7 @@ module _ {A : Type 0} (g : Element → List A) (of_part : (k i : Name) (ls : Lis
   channel_part_none late None = refl
   channel_part_none late (Some r) =
       let k = channel_name (token_bits r.kind) r.depth late in
-      more_none g (InstanceElement k (channel_instance r.label) (channel_ends r.label)) [] (of_part k (channel_instance r.label) (channel_ends r.label)) refl
+      more_none g (InstanceElement k (channel_instance r.label) (channel_connections r.label)) [] (of_part k (channel_instance r.label) (channel_connections r.label)) refl
 
   pub instances_none : GiveNone g (instances program added)
   instances_none =
@@ -246,40 +246,40 @@ module _ (program : Program) (machines : List Fsm) (added : List ℕ) (ready : I
     abbrev driven : Connection → List Name
     driven l = connection_driven (map port_declared ps) l
 
-    scalar_driven : (p : ℕ) → p < length leaf.scalars.items → flat_map driven (scalar_ends i x p) ≡ []
+    scalar_driven : (p : ℕ) → p < length leaf.scalars.items → flat_map driven (scalar_connections i x p) ≡ []
     scalar_driven p l =
-        let c = joined_to (name (ScalarPort p)) (bound_by i p (slice_get x.scalars.items p)) in
+        let c = connected_to (name (ScalarPort p)) (bound_by i p (slice_get x.scalars.items p)) in
         next_drives ps once c [] [] [] (drives_none ps once (bits_of (register_kind shape (slice_index shape.scalars p))) c (scalar_end_port program machines added ready kept i x leaf part p l)) refl
 
-    written_driven : (p : ℕ) → p < length leaf.streams.items → is_written (slice_get leaf.streams.items p) ≡ true → (t : Name) → flat_map driven (written_ends p t) ≡ s_wr t ∷ s_din t ∷ []
+    written_driven : (p : ℕ) → p < length leaf.streams.items → is_written (slice_get leaf.streams.items p) ≡ true → (t : Name) → flat_map driven (written_connections p t) ≡ s_wr t ∷ s_din t ∷ []
     written_driven p l e t =
-        let c1 = joined_to (name (Rdy p)) (s_rdy t) in
-        let c2 = joined_to (name (Wr p)) (s_wr t) in
-        let c3 = joined_to (name (Din p)) (s_din t) in
+        let c1 = connected_to (name (Rdy p)) (s_rdy t) in
+        let c2 = connected_to (name (Wr p)) (s_wr t) in
+        let c3 = connected_to (name (Din p)) (s_din t) in
         next_drives ps once c1 (c2 ∷ c3 ∷ []) [] (s_wr t ∷ s_din t ∷ []) (drives_none ps once 1 c1 (rdy_port program machines added ready kept i x leaf part p l e))
         (next_drives ps once c2 (c3 ∷ []) (s_wr t ∷ []) (s_din t ∷ []) (drives_net ps once 1 c2 (wr_port program machines added ready kept i x leaf part p l e))
         (next_drives ps once c3 [] (s_din t ∷ []) [] (drives_net ps once (bits_of (stream_kind shape p) + 1) c3 (din_port program machines added ready kept i x leaf part p l e)) refl))
 
-    read_driven : (p : ℕ) → p < length leaf.streams.items → is_written (slice_get leaf.streams.items p) ≡ false → (t : Name) → flat_map driven (read_ends p t) ≡ s_take t ∷ []
+    read_driven : (p : ℕ) → p < length leaf.streams.items → is_written (slice_get leaf.streams.items p) ≡ false → (t : Name) → flat_map driven (read_connections p t) ≡ s_take t ∷ []
     read_driven p l e t =
-        let c1 = joined_to (name (HasPort p)) (s_has t) in
-        let c2 = joined_to (name (Dout p)) (s_dout t) in
-        let c3 = joined_to (name (Taken p)) (s_take t) in
+        let c1 = connected_to (name (HasPort p)) (s_has t) in
+        let c2 = connected_to (name (Dout p)) (s_dout t) in
+        let c3 = connected_to (name (Taken p)) (s_take t) in
         next_drives ps once c1 (c2 ∷ c3 ∷ []) [] (s_take t ∷ []) (drives_none ps once 1 c1 (has_port program machines added ready kept i x leaf part p l e))
         (next_drives ps once c2 (c3 ∷ []) [] (s_take t ∷ []) (drives_none ps once (bits_of (stream_kind shape p) + 1) c2 (dout_port program machines added ready kept i x leaf part p l e))
         (next_drives ps once c3 [] (s_take t ∷ []) [] (drives_net ps once 1 c3 (take_port program machines added ready kept i x leaf part p l e)) refl))
 
-    stream_driven : (p : ℕ) → p < length leaf.streams.items → (t : Name) (b : Bool) → is_written (slice_get leaf.streams.items p) ≡ b → flat_map driven (cond b (written_ends p t) (read_ends p t)) ≡ cond b (s_wr t ∷ s_din t ∷ []) (s_take t ∷ [])
+    stream_driven : (p : ℕ) → p < length leaf.streams.items → (t : Name) (b : Bool) → is_written (slice_get leaf.streams.items p) ≡ b → flat_map driven (cond b (written_connections p t) (read_connections p t)) ≡ cond b (s_wr t ∷ s_din t ∷ []) (s_take t ∷ [])
     stream_driven p l t true e = written_driven p l e t
     stream_driven p l t false e = read_driven p l e t
 
-    memory_driven : (p : ℕ) → p < length leaf.memories.items → (t : Name) → flat_map driven (named_ends p t) ≡ m_addr t ∷ m_wdata t ∷ m_we t ∷ []
+    memory_driven : (p : ℕ) → p < length leaf.memories.items → (t : Name) → flat_map driven (named_connections p t) ≡ m_addr t ∷ m_wdata t ∷ m_we t ∷ []
     memory_driven p l t =
-        let c1 = joined_to (name (Ack p)) (m_ack t) in
-        let c2 = joined_to (name (Rdata p)) (m_rdata t) in
-        let c3 = joined_to (name (Addr p)) (m_addr t) in
-        let c4 = joined_to (name (Wdata p)) (m_wdata t) in
-        let c5 = joined_to (name (We p)) (m_we t) in
+        let c1 = connected_to (name (Ack p)) (m_ack t) in
+        let c2 = connected_to (name (Rdata p)) (m_rdata t) in
+        let c3 = connected_to (name (Addr p)) (m_addr t) in
+        let c4 = connected_to (name (Wdata p)) (m_wdata t) in
+        let c5 = connected_to (name (We p)) (m_we t) in
         let w = bits_of (memory_kind shape p) in
         next_drives ps once c1 (c2 ∷ c3 ∷ c4 ∷ c5 ∷ []) [] (m_addr t ∷ m_wdata t ∷ m_we t ∷ []) (drives_none ps once 1 c1 (memory_in_there program machines added ready kept i x leaf part p l (inward 1 (Ack p)) (inl refl)))
         (next_drives ps once c2 (c3 ∷ c4 ∷ c5 ∷ []) [] (m_addr t ∷ m_wdata t ∷ m_we t ∷ []) (drives_none ps once w c2 (memory_in_there program machines added ready kept i x leaf part p l (inward w (Rdata p)) (inr (inl refl))))
@@ -287,38 +287,38 @@ module _ (program : Program) (machines : List Fsm) (added : List ℕ) (ready : I
         (next_drives ps once c4 (c5 ∷ []) (m_wdata t ∷ []) (m_we t ∷ []) (drives_net ps once w c4 (memory_out_there program machines added ready kept i x leaf part p l (outward w (Wdata p)) (inr (inl refl))))
         (next_drives ps once c5 [] (m_we t ∷ []) [] (drives_net ps once 1 c5 (memory_out_there program machines added ready kept i x leaf part p l (outward 1 (We p)) (inr (inr (inl refl))))) refl))))
 
-    first_driven : flat_map driven (clocks (joined_to (name Done) (ended_net i) ∷ [])) ≡ ended_net i ∷ []
+    first_driven : flat_map driven (clocks (connected_to (name Done) (ended_net i) ∷ [])) ≡ ended_net i ∷ []
     unfolding clk rst
     first_driven =
-        let c1 = joined_to (codes "clk") (codes "clk") in
-        let c2 = joined_to (codes "rst") (codes "rst") in
-        let c3 = joined_to (name Done) (ended_net i) in
+        let c1 = connected_to (codes "clk") (codes "clk") in
+        let c2 = connected_to (codes "rst") (codes "rst") in
+        let c3 = connected_to (name Done) (ended_net i) in
         next_drives ps once c1 (c2 ∷ c3 ∷ []) [] (ended_net i ∷ []) (drives_none ps once 1 c1 (inl refl))
         (next_drives ps once c2 (c3 ∷ []) [] (ended_net i ∷ []) (drives_none ps once 1 c2 (inr (inl refl)))
         (next_drives ps once c3 [] (ended_net i ∷ []) [] (drives_net ps once 1 c3 (done_port program machines added ready kept i x leaf part)) refl))
 
-    ends_driven : flat_map driven (task_ends program i x leaf) ≡ task_drives program i x leaf
+    ends_driven : flat_map driven (task_connections program i x leaf) ≡ task_drives program i x leaf
     ends_driven =
-        let first = clocks (joined_to (name Done) (ended_net i) ∷ []) in
-        let scalars = each (scalar_ends i x) (length leaf.scalars.items) in
-        let streams = each (stream_ends program x leaf) (length leaf.streams.items) in
-        let memories = each (memory_ends program x) (length leaf.memories.items) in
+        let first = clocks (connected_to (name Done) (ended_net i) ∷ []) in
+        let scalars = each (scalar_connections i x) (length leaf.scalars.items) in
+        let streams = each (stream_connections program x leaf) (length leaf.streams.items) in
+        let memories = each (memory_connections program x) (length leaf.memories.items) in
         let written = each (stream_drives program x leaf) (length leaf.streams.items) in
         let stored = each (memory_drives program x) (length leaf.memories.items) in
         both_drive ps once (first ++ scalars ++ streams) memories (ended_net i ∷ written) stored
         (both_drive ps once (first ++ scalars) streams (ended_net i ∷ []) written
-        (both_drive ps once first scalars (ended_net i ∷ []) [] first_driven (each_drives ps once (scalar_ends i x) (λ k. []) (length leaf.scalars.items) scalar_driven ∙ nothing (length leaf.scalars.items)))
-        (each_drives ps once (stream_ends program x leaf) (stream_drives program x leaf) (length leaf.streams.items)
+        (both_drive ps once first scalars (ended_net i ∷ []) [] first_driven (each_drives ps once (scalar_connections i x) (λ k. []) (length leaf.scalars.items) scalar_driven ∙ nothing (length leaf.scalars.items)))
+        (each_drives ps once (stream_connections program x leaf) (stream_drives program x leaf) (length leaf.streams.items)
         (λ p l. stream_driven p l (stream_label program (slice_index x.streams.items p)) (is_written (slice_get leaf.streams.items p)) refl)))
-        (each_drives ps once (memory_ends program x) (memory_drives program x) (length leaf.memories.items) (λ p l. memory_driven p l (memory_name program (slice_index x.memories.items p))))
+        (each_drives ps once (memory_connections program x) (memory_drives program x) (length leaf.memories.items) (λ p l. memory_driven p l (memory_name program (slice_index x.memories.items p))))
 
-    pub task_driven : (t : Name) → instance_driven (lower_modules program machines added) (InstanceElement (task_name leaf.name) t (task_ends program i x leaf)) ≡ task_drives program i x leaf
+    pub task_driven : (t : Name) → instance_driven (lower_modules program machines added) (InstanceElement (task_name leaf.name) t (task_connections program i x leaf)) ≡ task_drives program i x leaf
     task_driven t =
         let lower = lower_modules program machines added in
         let e : ports_of lower (task_name leaf.name) ≡ ps =
         (known_by lower (task_name leaf.name) (child program machines added ready kept i x leaf part) (named program machines added ready kept i x leaf part)).1
         ∙ ports_are program machines added ready kept i x leaf part in
-        ap (λ (l : List PortDecl). flat_map (connection_driven (map port_declared l)) (task_ends program i x leaf)) e ∙ ends_driven
+        ap (λ (l : List PortDecl). flat_map (connection_driven (map port_declared l)) (task_connections program i x leaf)) e ∙ ends_driven
 
   -- and what a channel drives
   module _ (s : ℕ) (r : Stream) (got : slice_get program.streams.items s ≡ Some r) where
@@ -331,18 +331,18 @@ module _ (program : Program) (machines : List Fsm) (added : List ℕ) (ready : I
         subst (λ (l : List PortDecl). AreOnce (port_names l)) o.ports
         (lower_ports program machines added ready kept o.module_is (module_is (lower_modules program machines added) (channel_name (token_bits r.kind) r.depth (slice_index added s)) o.module_is o.named).has)
 
-    channel_ends_driven : flat_map (λ (l : Connection). connection_driven (map port_declared cs) l) (channel_ends r.label) ≡ channel_drives r
+    channel_ends_driven : flat_map (λ (l : Connection). connection_driven (map port_declared cs) l) (channel_connections r.label) ≡ channel_drives r
     unfolding clk rst
     channel_ends_driven =
         let l = r.label in
-        let c1 = joined_to (codes "clk") (codes "clk") in
-        let c2 = joined_to (codes "rst") (codes "rst") in
-        let c3 = joined_to (codes "din") (s_din l) in
-        let c4 = joined_to (codes "wr") (s_wr l) in
-        let c5 = joined_to (codes "take") (s_take l) in
-        let c6 = joined_to (codes "rdy") (s_rdy l) in
-        let c7 = joined_to (codes "has") (s_has l) in
-        let c8 = joined_to (codes "dout") (s_dout l) in
+        let c1 = connected_to (codes "clk") (codes "clk") in
+        let c2 = connected_to (codes "rst") (codes "rst") in
+        let c3 = connected_to (codes "din") (s_din l) in
+        let c4 = connected_to (codes "wr") (s_wr l) in
+        let c5 = connected_to (codes "take") (s_take l) in
+        let c6 = connected_to (codes "rdy") (s_rdy l) in
+        let c7 = connected_to (codes "has") (s_has l) in
+        let c8 = connected_to (codes "dout") (s_dout l) in
         let w = token_bits r.kind in
         let all = s_rdy l ∷ s_has l ∷ s_dout l ∷ [] in
         next_drives cs channel_once c1 (c2 ∷ c3 ∷ c4 ∷ c5 ∷ c6 ∷ c7 ∷ c8 ∷ []) [] all (drives_none cs channel_once 1 c1 (inl refl))
@@ -354,9 +354,9 @@ module _ (program : Program) (machines : List Fsm) (added : List ℕ) (ready : I
         (next_drives cs channel_once c7 (c8 ∷ []) (s_has l ∷ []) (s_dout l ∷ []) (drives_net cs channel_once 1 c7 (inr (inr (inr (inr (inr (inr (inl refl))))))))
         (next_drives cs channel_once c8 [] (s_dout l ∷ []) [] (drives_net cs channel_once w c8 (inr (inr (inr (inr (inr (inr (inr (inl refl))))))))) refl)))))))
 
-    pub channel_driven : (t : Name) → instance_driven (lower_modules program machines added) (InstanceElement (channel_name (token_bits r.kind) r.depth (slice_index added s)) t (channel_ends r.label)) ≡ channel_drives r
+    pub channel_driven : (t : Name) → instance_driven (lower_modules program machines added) (InstanceElement (channel_name (token_bits r.kind) r.depth (slice_index added s)) t (channel_connections r.label)) ≡ channel_drives r
     channel_driven t =
         let lower = lower_modules program machines added in
         let o = outer program machines added ready kept s r got in
         let e : ports_of lower (channel_name (token_bits r.kind) r.depth (slice_index added s)) ≡ cs = (known_by lower (channel_name (token_bits r.kind) r.depth (slice_index added s)) o.module_is o.named).1 ∙ o.ports in
-        ap (λ (l : List PortDecl). flat_map (connection_driven (map port_declared l)) (channel_ends r.label)) e ∙ channel_ends_driven
+        ap (λ (l : List PortDecl). flat_map (connection_driven (map port_declared l)) (channel_connections r.label)) e ∙ channel_ends_driven

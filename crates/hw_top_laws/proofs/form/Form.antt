@@ -17,7 +17,7 @@ use Rattle.vlog_tree.specs.Names.{is_name}
 use Rattle.vlog_tree.specs.Table.{Name, clk, times_in}
 use Rattle.vlog_tree.specs.V3.{is_width}
 use Rattle.vlog_module_laws.proofs.Lists.{both_true}
-use Rattle.hw_build.specs.Elements.{Element, Input, Outlet, Link, Instance as InstanceElement}
+use Rattle.hw_build.specs.Elements.{Element, Input, Outlet, InstanceWire, Instance as InstanceElement}
 use Rattle.hw_build.specs.Forms.{is_element}
 use Rattle.hw_build.proofs.Forms.{yes_and, all_append}
 use Rattle.hw_build.proofs.Tables.{count_append}
@@ -35,7 +35,7 @@ use Rattle.hw_top_laws.proofs.joins.Joined.{joined_has_form}
 use Rattle.hw_top_lines.specs.Names.{s_has, s_dout, s_take, task_instance, channel_instance, ended_net}
 use Rattle.hw_top_lines.specs.Bounds.{parameters}
 use Rattle.hw_top_lines.specs.Legal.{IsReady}
-use Rattle.hw_top_lines.specs.Texts.{scalar_port, memory_ports, ports, token_bits, stream_wires, take_wire, of_leaf, of_instance, at_instance, task_ends, task_part, ended_wire, doneness, channel_ends, channel_part, wires, instances, top_elements}
+use Rattle.hw_top_lines.specs.Texts.{scalar_port, memory_ports, ports, token_bits, stream_wires, take_wire, of_leaf, of_instance, at_instance, task_connections, task_part, ended_wire, doneness, channel_connections, channel_part, wires, instances, top_elements}
 use Rattle.hw_top_laws.specs.modules.Lower.{lower_modules, KeepPromises}
 use Rattle.hw_top_laws.proofs.modules.Lower.{lower_form}
 use Rattle.hw_top_laws.proofs.names.Named.{all_named}
@@ -168,16 +168,16 @@ module _ (program : Program) (machines : List Fsm) (added : List ℕ) (ready : I
   stream_form None h = refl
   stream_form (Some r) h =
       let b = token_bits r.kind in
-      let e2 = Link 1 (s_wr r.label) in
-      let e3 = Link 1 (s_rdy r.label) in
-      let e4 = Link 1 (s_has r.label) in
-      let e5 = Link b (s_dout r.label) in
-      let p1 = first_named (Link b (s_din r.label)) (e2 ∷ e3 ∷ e4 ∷ e5 ∷ []) (s_din r.label) refl h in
+      let e2 = InstanceWire 1 (s_wr r.label) in
+      let e3 = InstanceWire 1 (s_rdy r.label) in
+      let e4 = InstanceWire 1 (s_has r.label) in
+      let e5 = InstanceWire b (s_dout r.label) in
+      let p1 = first_named (InstanceWire b (s_din r.label)) (e2 ∷ e3 ∷ e4 ∷ e5 ∷ []) (s_din r.label) refl h in
       let p2 = first_named e2 (e3 ∷ e4 ∷ e5 ∷ []) (s_wr r.label) refl p1.1 in
       let p3 = first_named e3 (e4 ∷ e5 ∷ []) (s_rdy r.label) refl p2.1 in
       let p4 = first_named e4 (e5 ∷ []) (s_has r.label) refl p3.1 in
       let p5 = first_named e5 [] (s_dout r.label) refl p4.1 in
-      yes_and (is_element (Link b (s_din r.label))) (list_all is_element (e2 ∷ e3 ∷ e4 ∷ e5 ∷ [])) (sized b (s_din r.label) (token_wide r.kind) p1.0)
+      yes_and (is_element (InstanceWire b (s_din r.label))) (list_all is_element (e2 ∷ e3 ∷ e4 ∷ e5 ∷ [])) (sized b (s_din r.label) (token_wide r.kind) p1.0)
       (yes_and (is_element e2) (list_all is_element (e3 ∷ e4 ∷ e5 ∷ [])) (sized 1 (s_wr r.label) refl p2.0)
       (yes_and (is_element e3) (list_all is_element (e4 ∷ e5 ∷ [])) (sized 1 (s_rdy r.label) refl p3.0)
       (yes_and (is_element e4) (list_all is_element (e5 ∷ [])) (sized 1 (s_has r.label) refl p4.0) (yes_and (is_element e5) true (sized b (s_dout r.label) (token_wide r.kind) p5.0) refl))))
@@ -185,13 +185,13 @@ module _ (program : Program) (machines : List Fsm) (added : List ℕ) (ready : I
   take_form : (o : Option Stream) → AreNamed (take_wire o) → list_all is_element (take_wire o) ≡ true
   take_form None h = refl
   take_form (Some r) h =
-      let p = first_named (Link 1 (s_take r.label)) [] (s_take r.label) refl h in
-      yes_and (is_element (Link 1 (s_take r.label))) true (sized 1 (s_take r.label) refl p.0) refl
+      let p = first_named (InstanceWire 1 (s_take r.label)) [] (s_take r.label) refl h in
+      yes_and (is_element (InstanceWire 1 (s_take r.label))) true (sized 1 (s_take r.label) refl p.0) refl
 
   ended_form : (i : ℕ) → AreNamed (ended_wire i) → list_all is_element (ended_wire i) ≡ true
   ended_form i h =
-      let p = first_named (Link 1 (ended_net i)) [] (ended_net i) refl h in
-      yes_and (is_element (Link 1 (ended_net i))) true (sized 1 (ended_net i) refl p.0) refl
+      let p = first_named (InstanceWire 1 (ended_net i)) [] (ended_net i) refl h in
+      yes_and (is_element (InstanceWire 1 (ended_net i))) true (sized 1 (ended_net i) refl p.0) refl
 
   ports_form : list_all is_element (ports program) ≡ true
   ports_form =
@@ -285,10 +285,10 @@ module _ (program : Program) (machines : List Fsm) (added : List ℕ) (ready : I
   task_form : (i : ℕ) (x : Instance) → slice_get program.instances.items i ≡ Some x → (o : Option Leaf) → slice_get program.bodies.items x.body ≡ o → AreNamed (of_leaf (task_part program i) x o) → list_all is_element (of_leaf (task_part program i) x o) ≡ true
   task_form i x g None e h = refl
   task_form i x g (Some leaf) e h =
-      let t = InstanceElement (task_name leaf.name) (task_instance x.label) (task_ends program i x leaf) in
+      let t = InstanceElement (task_name leaf.name) (task_instance x.label) (task_connections program i x leaf) in
       let p = first_named t [] (task_instance x.label) refl h in
       yes_and (is_element t) true
-      (joined_has_form (lower_modules program machines added) (standing program) (task_name leaf.name) (task_instance x.label) (task_ends program i x leaf) (lower_form program machines added ready kept) standing_named p.0
+      (joined_has_form (lower_modules program machines added) (standing program) (task_name leaf.name) (task_instance x.label) (task_connections program i x leaf) (lower_form program machines added ready kept) standing_named p.0
       (task_joined program machines added ready kept i x leaf (part_at program machines added ready kept i x leaf g e))) refl
 
   instance_form : (i : ℕ) (o : Option Instance) → slice_get program.instances.items i ≡ o → AreNamed (of_instance program (task_part program i) o) → list_all is_element (of_instance program (task_part program i) o) ≡ true
@@ -299,10 +299,10 @@ module _ (program : Program) (machines : List Fsm) (added : List ℕ) (ready : I
   channel_form s None e h = refl
   channel_form s (Some r) e h =
       let k = channel_name (token_bits r.kind) r.depth (slice_index added s) in
-      let t = InstanceElement k (channel_instance r.label) (channel_ends r.label) in
+      let t = InstanceElement k (channel_instance r.label) (channel_connections r.label) in
       let p = first_named t [] (channel_instance r.label) refl h in
       yes_and (is_element t) true
-      (joined_has_form (lower_modules program machines added) (standing program) k (channel_instance r.label) (channel_ends r.label) (lower_form program machines added ready kept) standing_named p.0
+      (joined_has_form (lower_modules program machines added) (standing program) k (channel_instance r.label) (channel_connections r.label) (lower_form program machines added ready kept) standing_named p.0
       (channel_joined program machines added ready kept s r e)) refl
 
   instances_form : list_all is_element (instances program added) ≡ true

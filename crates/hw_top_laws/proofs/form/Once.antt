@@ -31,7 +31,7 @@ use Rattle.hw_task_laws.proofs.names.Empty.{GiveNone, both_none}
 use Rattle.hw_task_laws.proofs.names.Named.{single, flat_each}
 use Rattle.hw_top_lines.specs.Names.{s_has, s_dout, s_take, task_instance, channel_instance, ended_net}
 use Rattle.hw_top_lines.specs.Legal.{IsReady}
-use Rattle.hw_top_lines.specs.Texts.{ports, of_leaf, of_instance, at_instance, stream_label, memory_name, token_bits, task_ends, task_part, doneness, channel_ends, channel_part, wires, top_elements}
+use Rattle.hw_top_lines.specs.Texts.{ports, of_leaf, of_instance, at_instance, stream_label, memory_name, token_bits, task_connections, task_part, doneness, channel_connections, channel_part, wires, top_elements}
 use Rattle.hw_top_laws.specs.modules.Lower.{lower_modules, KeepPromises}
 use Rattle.hw_top_laws.proofs.modules.Tasks.{some_index}
 use Rattle.hw_top_laws.proofs.names.Made.{sort, IsMade, same_label, made_addr, made_wdata, made_we, made_din, made_wr, made_rdy, made_has, made_dout, made_take}
@@ -300,7 +300,7 @@ module _ (program : Program) (machines : List Fsm) (added : List ℕ) (ready : I
     task_part_driven : Driven (IsDrivenAt program i) (flat_map drives (task_part program i x leaf))
     task_part_driven =
         let same : flat_map drives (task_part program i x leaf) ≡ task_drives program i x leaf =
-        append-nil (drives (InstanceElement (task_name leaf.name) (task_instance x.label) (task_ends program i x leaf))) ∙ task_driven program machines added ready kept i x leaf part (task_instance x.label) in
+        append-nil (drives (InstanceElement (task_name leaf.name) (task_instance x.label) (task_connections program i x leaf))) ∙ task_driven program machines added ready kept i x leaf part (task_instance x.label) in
         record { once = subst AreOnce (sym same) task_once; of = λ y h. task_of y (subst (λ (l : List Name). Has l y) same h) }
 
   leaf_driven : (i : ℕ) (x : Instance) → slice_get program.instances.items i ≡ Some x → (o : Option Leaf) → slice_get program.bodies.items x.body ≡ o → Driven (IsDrivenAt program i) (flat_map drives (of_leaf (task_part program i) x o))
@@ -338,7 +338,7 @@ module _ (program : Program) (machines : List Fsm) (added : List ℕ) (ready : I
   channel_driven_at s (Some r) e =
       let k = channel_name (token_bits r.kind) r.depth (slice_index added s) in
       let same : flat_map drives (channel_part (slice_index added s) (Some r)) ≡ channel_drives r =
-      append-nil (drives (InstanceElement k (channel_instance r.label) (channel_ends r.label))) ∙ channel_driven program machines added ready kept s r e (channel_instance r.label) in
+      append-nil (drives (InstanceElement k (channel_instance r.label) (channel_connections r.label))) ∙ channel_driven program machines added ready kept s r e (channel_instance r.label) in
       let d = answers_of s r e in
       record { once = subst AreOnce (sym same) d.once; of = λ y h. d.of y (subst (λ (l : List Name). Has l y) same h) }
 

@@ -11,7 +11,7 @@ use Rattle.task_fsm.specs.declared.machine.Fsm.{Fsm}
 use Rattle.vlog_tree.specs.Form.{ModuleTree}
 use Rattle.vlog_tree.specs.Labels.{done}
 use Rattle.tapa_base.proofs.Lists.{has_right}
-use Rattle.hw_build.specs.Elements.{Element, Wire, Output, Link}
+use Rattle.hw_build.specs.Elements.{Element, Wire, Output, InstanceWire}
 use Rattle.hw_build.specs.Trees.{numbered, tree_node, tree_nodes}
 use Rattle.hw_build.specs.Scope.{each, IsNet, FitInOrder}
 use Rattle.hw_build.proofs.Parts.{has_each, in_order_more, parts_fit, each_part_fits, tree_fits}
@@ -143,7 +143,7 @@ module _ (program : Program) (machines : List Fsm) (added : List ℕ) (ready : I
   done_stands =
       alone_stands ms (ports program ++ wires program) (doneness program)
       (done_fits program (ports program ++ wires program)
-      (λ i l. net_of (ports program ++ wires program) (Link 1 (ended_net i)) (ended_net i) 1 (has_right (ports program) (wires program) (Link 1 (ended_net i)) (ended_there program i l)) (inl refl)))
+      (λ i l. net_of (ports program ++ wires program) (InstanceWire 1 (ended_net i)) (ended_net i) 1 (has_right (ports program) (wires program) (InstanceWire 1 (ended_net i)) (ended_there program i l)) (inl refl)))
 
   -- ---- instances
 

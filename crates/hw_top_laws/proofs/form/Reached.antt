@@ -30,7 +30,7 @@ use Rattle.hw_task_laws.proofs.names.Named.{flat_each}
 use Rattle.hw_top_lines.specs.Names.{s_has, s_dout, s_take, task_instance, channel_instance, ended_net}
 use Rattle.hw_top_lines.specs.Bounds.{parameters}
 use Rattle.hw_top_lines.specs.Legal.{IsReady}
-use Rattle.hw_top_lines.specs.Texts.{scalar_port, memory_ports, ports, stream_wires, take_wire, of_leaf, of_instance, at_instance, stream_label, memory_name, token_bits, task_ends, task_part, ended_wire, doneness, channel_ends, channel_part, wires, instances, top_elements}
+use Rattle.hw_top_lines.specs.Texts.{scalar_port, memory_ports, ports, stream_wires, take_wire, of_leaf, of_instance, at_instance, stream_label, memory_name, token_bits, task_connections, task_part, ended_wire, doneness, channel_connections, channel_part, wires, instances, top_elements}
 use Rattle.hw_top_laws.specs.modules.Lower.{lower_modules, KeepPromises}
 use Rattle.hw_top_laws.proofs.modules.Tasks.{some_index}
 use Rattle.hw_top_laws.proofs.form.Drives.{bounds_none, done_none, instances_none, stream_drives, memory_drives, task_drives, channel_drives, task_driven, channel_driven}
@@ -60,7 +60,7 @@ module _ (program : Program) (machines : List Fsm) (added : List ℕ) (ready : I
   -- what an instance of a task drives
   by_task : (i : ℕ) (x : Instance) (leaf : Leaf) → slice_get program.instances.items i ≡ Some x → slice_get program.bodies.items x.body ≡ Some leaf → (y : Name) → Has (task_drives program i x leaf) y → Reached y
   by_task i x leaf g k y h =
-      let e = InstanceElement (task_name leaf.name) (task_instance x.label) (task_ends program i x leaf) in
+      let e = InstanceElement (task_name leaf.name) (task_instance x.label) (task_connections program i x leaf) in
       let is : at_instance program (task_part program) i ≡ e ∷ [] = ap (of_instance program (task_part program i)) g ∙ ap (of_leaf (task_part program i) x) k in
       let there : Has tasks e = has_each (at_instance program (task_part program)) (length program.instances.items) i e (some_index program.instances.items i x g) (subst (λ (l : List Element). Has l e) (sym is) (inl refl)) in
       has_flat drives (top_elements program added) e y (instance_there e (has_left tasks channels e there))
@@ -69,7 +69,7 @@ module _ (program : Program) (machines : List Fsm) (added : List ℕ) (ready : I
   -- and what a channel drives
   by_channel : (s : ℕ) (r : Stream) → slice_get program.streams.items s ≡ Some r → (y : Name) → Has (channel_drives r) y → Reached y
   by_channel s r g y h =
-      let e = InstanceElement (channel_name (token_bits r.kind) r.depth (slice_index added s)) (channel_instance r.label) (channel_ends r.label) in
+      let e = InstanceElement (channel_name (token_bits r.kind) r.depth (slice_index added s)) (channel_instance r.label) (channel_connections r.label) in
       let there : Has channels e =
       has_each (λ s. channel_part (slice_index added s) (slice_get program.streams.items s)) (length program.streams.items) s e (some_index program.streams.items s r g)
       (subst (λ o. Has (channel_part (slice_index added s) o) e) (sym g) (inl refl)) in

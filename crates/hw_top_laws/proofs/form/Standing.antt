@@ -12,7 +12,7 @@ use Rattle.tapa_base.specs.Lists.{Has}
 use Rattle.vlog_tree.specs.Labels.{m_ack, m_rdata, m_addr, m_wdata, m_we, s_din, s_wr, s_rdy, scalar}
 use Rattle.vlog_tree.specs.Table.{Name}
 use Rattle.tapa_base.proofs.Lists.{has_left, has_right, has_split, has_flat}
-use Rattle.hw_build.specs.Elements.{Element, Input, Outlet, Link}
+use Rattle.hw_build.specs.Elements.{Element, Input, Outlet, InstanceWire}
 use Rattle.hw_build.specs.Scope.{each, IsNet}
 use Rattle.hw_build.specs.Fits.{IsAmong}
 use Rattle.hw_build.proofs.Parts.{has_each}
@@ -90,15 +90,15 @@ module _ (program : Program) where
       (has_left streams bounds e
       (has_each (λ s. stream_wires (slice_get program.streams.items s)) (length program.streams.items) s e (some_index program.streams.items s r g) (subst (λ o. Has (stream_wires o) e) (sym g) h))))
 
-  pub take_there : (s : ℕ) (r : Stream) → slice_get program.streams.items s ≡ Some r → Has (wires program) (Link 1 (s_take r.label))
+  pub take_there : (s : ℕ) (r : Stream) → slice_get program.streams.items s ≡ Some r → Has (wires program) (InstanceWire 1 (s_take r.label))
   take_there s r g =
-      let e = Link 1 (s_take r.label) in
+      let e = InstanceWire 1 (s_take r.label) in
       has_right (streams ++ bounds ++ ends) takes e
       (has_each (λ s. take_wire (slice_get program.streams.items s)) (length program.streams.items) s e (some_index program.streams.items s r g) (subst (λ o. Has (take_wire o) e) (sym g) (inl refl)))
 
-  pub ended_there : (i : ℕ) → i < length program.instances.items → Has (wires program) (Link 1 (ended_net i))
+  pub ended_there : (i : ℕ) → i < length program.instances.items → Has (wires program) (InstanceWire 1 (ended_net i))
   ended_there i l =
-      let e = Link 1 (ended_net i) in
+      let e = InstanceWire 1 (ended_net i) in
       has_left (streams ++ bounds ++ ends) takes e (has_right (streams ++ bounds) ends e (has_each ended_wire (length program.instances.items) i e l (inl refl)))
 
   at_is : (f : ℕ → Instance → Leaf → List Element) (i : ℕ) (x : Instance) (leaf : Leaf) → slice_get program.instances.items i ≡ Some x → slice_get program.bodies.items x.body ≡ Some leaf → at_instance program f i ≡ f i x leaf
@@ -121,40 +121,40 @@ module _ (program : Program) where
     at_front e h = stream_front s r g e h
 
     pub din_open : IsOpen standing (s_din r.label) (token_bits r.kind)
-    din_open = open_of standing (Link (token_bits r.kind) (s_din r.label)) (s_din r.label) (token_bits r.kind) (at_stream _ (inl refl)) (inl refl)
+    din_open = open_of standing (InstanceWire (token_bits r.kind) (s_din r.label)) (s_din r.label) (token_bits r.kind) (at_stream _ (inl refl)) (inl refl)
 
     pub wr_open : IsOpen standing (s_wr r.label) 1
-    wr_open = open_of standing (Link 1 (s_wr r.label)) (s_wr r.label) 1 (at_stream _ (inr (inl refl))) (inl refl)
+    wr_open = open_of standing (InstanceWire 1 (s_wr r.label)) (s_wr r.label) 1 (at_stream _ (inr (inl refl))) (inl refl)
 
     pub rdy_open : IsOpen standing (s_rdy r.label) 1
-    rdy_open = open_of standing (Link 1 (s_rdy r.label)) (s_rdy r.label) 1 (at_stream _ (inr (inr (inl refl)))) (inl refl)
+    rdy_open = open_of standing (InstanceWire 1 (s_rdy r.label)) (s_rdy r.label) 1 (at_stream _ (inr (inr (inl refl)))) (inl refl)
 
     pub has_open : IsOpen standing (s_has r.label) 1
-    has_open = open_of standing (Link 1 (s_has r.label)) (s_has r.label) 1 (at_stream _ (inr (inr (inr (inl refl))))) (inl refl)
+    has_open = open_of standing (InstanceWire 1 (s_has r.label)) (s_has r.label) 1 (at_stream _ (inr (inr (inr (inl refl))))) (inl refl)
 
     pub dout_open : IsOpen standing (s_dout r.label) (token_bits r.kind)
-    dout_open = open_of standing (Link (token_bits r.kind) (s_dout r.label)) (s_dout r.label) (token_bits r.kind) (at_stream _ (inr (inr (inr (inr (inl refl)))))) (inl refl)
+    dout_open = open_of standing (InstanceWire (token_bits r.kind) (s_dout r.label)) (s_dout r.label) (token_bits r.kind) (at_stream _ (inr (inr (inr (inr (inl refl)))))) (inl refl)
 
     pub take_open : IsOpen standing (s_take r.label) 1
-    take_open = open_of standing (Link 1 (s_take r.label)) (s_take r.label) 1 (wires_among _ (take_there s r g)) (inl refl)
+    take_open = open_of standing (InstanceWire 1 (s_take r.label)) (s_take r.label) 1 (wires_among _ (take_there s r g)) (inl refl)
 
     pub din_net : IsNet standing (s_din r.label) (token_bits r.kind)
-    din_net = net_of standing (Link (token_bits r.kind) (s_din r.label)) (s_din r.label) (token_bits r.kind) (at_stream _ (inl refl)) (inl refl)
+    din_net = net_of standing (InstanceWire (token_bits r.kind) (s_din r.label)) (s_din r.label) (token_bits r.kind) (at_stream _ (inl refl)) (inl refl)
 
     pub wr_net : IsNet standing (s_wr r.label) 1
-    wr_net = net_of standing (Link 1 (s_wr r.label)) (s_wr r.label) 1 (at_stream _ (inr (inl refl))) (inl refl)
+    wr_net = net_of standing (InstanceWire 1 (s_wr r.label)) (s_wr r.label) 1 (at_stream _ (inr (inl refl))) (inl refl)
 
     pub rdy_net : IsNet front (s_rdy r.label) 1
-    rdy_net = net_of front (Link 1 (s_rdy r.label)) (s_rdy r.label) 1 (at_front _ (inr (inr (inl refl)))) (inl refl)
+    rdy_net = net_of front (InstanceWire 1 (s_rdy r.label)) (s_rdy r.label) 1 (at_front _ (inr (inr (inl refl)))) (inl refl)
 
     pub has_net : IsNet front (s_has r.label) 1
-    has_net = net_of front (Link 1 (s_has r.label)) (s_has r.label) 1 (at_front _ (inr (inr (inr (inl refl))))) (inl refl)
+    has_net = net_of front (InstanceWire 1 (s_has r.label)) (s_has r.label) 1 (at_front _ (inr (inr (inr (inl refl))))) (inl refl)
 
     pub dout_net : IsNet front (s_dout r.label) (token_bits r.kind)
-    dout_net = net_of front (Link (token_bits r.kind) (s_dout r.label)) (s_dout r.label) (token_bits r.kind) (at_front _ (inr (inr (inr (inr (inl refl)))))) (inl refl)
+    dout_net = net_of front (InstanceWire (token_bits r.kind) (s_dout r.label)) (s_dout r.label) (token_bits r.kind) (at_front _ (inr (inr (inr (inr (inl refl)))))) (inl refl)
 
     pub take_net : IsNet standing (s_take r.label) 1
-    take_net = net_of standing (Link 1 (s_take r.label)) (s_take r.label) 1 (wires_among _ (take_there s r g)) (inl refl)
+    take_net = net_of standing (InstanceWire 1 (s_take r.label)) (s_take r.label) 1 (wires_among _ (take_there s r g)) (inl refl)
 
   module _ (m : ℕ) (r : Memory) (g : slice_get program.memories.items m ≡ Some r) where
     at_memory : (e : Element) → Has (memory_ports (Some r)) e → Has standing e
@@ -179,4 +179,4 @@ module _ (program : Program) where
     rdata_net = net_of front (Input (bits_of r.kind) (m_rdata r.name)) (m_rdata r.name) (bits_of r.kind) (memory_front _ (inr (inr (inr (inr (inl refl)))))) (inl refl)
 
   pub ended_open : (i : ℕ) → i < length program.instances.items → IsOpen standing (ended_net i) 1
-  ended_open i l = open_of standing (Link 1 (ended_net i)) (ended_net i) 1 (wires_among _ (ended_there i l)) (inl refl)
+  ended_open i l = open_of standing (InstanceWire 1 (ended_net i)) (ended_net i) 1 (wires_among _ (ended_there i l)) (inl refl)

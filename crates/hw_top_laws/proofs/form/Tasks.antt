@@ -31,7 +31,7 @@ use Rattle.hw_build.proofs.Tables.{count_append}
 use Rattle.hw_build.specs.Scope.{each, IsNet}
 use Rattle.hw_build.specs.Fits.{IsAmong}
 use Rattle.hw_build.proofs.Parts.{has_each, of_each}
-use Rattle.hw_channel_lines.specs.Texts.{clocks, joined_to}
+use Rattle.hw_channel_lines.specs.Texts.{clocks, connected_to}
 use Rattle.hw_lines.specs.declared.nets.Net.TheVariants.{Done, Scalar as ScalarPort, Has as HasPort, Dout, Taken, Din, Wr, Rdy, Ack, Rdata, Addr, Wdata, We}
 use Rattle.hw_lines.specs.Nets.{name}
 use Rattle.hw_lines.specs.Shape.{Shape, shape_of, stream_kind, register_kind, memory_kind}
@@ -44,7 +44,7 @@ use Rattle.hw_top_lines.specs.Names.{s_has, s_dout, s_take, ended_net}
 use Rattle.hw_top_lines.specs.Bounds.{parameter_kind, bound_by, parameters}
 use Rattle.hw_top_lines.specs.Designs.{is_used}
 use Rattle.hw_top_lines.specs.Legal.{IsReady}
-use Rattle.hw_top_lines.specs.Texts.{ports, token_bits, stream_label, memory_name, scalar_ends, written_ends, read_ends, stream_ends, named_ends, memory_ends, task_ends}
+use Rattle.hw_top_lines.specs.Texts.{ports, token_bits, stream_label, memory_name, scalar_connections, written_connections, read_connections, stream_connections, named_connections, memory_connections, task_connections}
 use Rattle.hw_top_laws.specs.modules.Lower.{lower_modules, task_module, KeepPromises}
 use Rattle.hw_top_laws.proofs.modules.Lower.{tasks_found}
 use Rattle.hw_top_laws.proofs.modules.Tasks.{some_index}
@@ -107,7 +107,7 @@ first_same : (title : Name) (x : Name) → joined (clocks []) x ≡ ported (empt
 unfolding clk rst
 first_same title x = refl
 
-stream_same : (p : ℕ) (l : Name) (v : ℕ) (x : Name) (b : Bool) → joined (cond b (written_ends p l) (read_ends p l)) x
+stream_same : (p : ℕ) (l : Name) (v : ℕ) (x : Name) (b : Bool) → joined (cond b (written_connections p l) (read_connections p l)) x
     ≡ ported (cond b (inward 1 (Rdy p) ∷ []) (inward 1 (HasPort p) ∷ inward v (Dout p) ∷ [])) x + ported (cond b (outward 1 (Wr p) ∷ outward v (Din p) ∷ []) (outward 1 (Taken p) ∷ [])) x
 stream_same p l v x true = count_append (λ y. bytes_eq y x) (name (Rdy p) ∷ []) (name (Wr p) ∷ name (Din p) ∷ [])
 stream_same p l v x false = count_append (λ y. bytes_eq y x) (name (HasPort p) ∷ name (Dout p) ∷ []) (name (Taken p) ∷ [])
@@ -184,7 +184,7 @@ module _ (program : Program) (machines : List Fsm) (added : List ℕ) (ready : I
     named = tasks_found program machines added ready kept x.body leaf machine got_leaf got_machine used
 
     abbrev ends : List Connection
-    ends = task_ends program i x leaf
+    ends = task_connections program i x leaf
 
     -- ---- each port is joined once
 
@@ -193,10 +193,10 @@ module _ (program : Program) (machines : List Fsm) (added : List ℕ) (ready : I
 
     pub same : (y : Name) → joined ends y ≡ ported all_ports y
     same y =
-        let scalars = each (scalar_ends i x) (length leaf.scalars.items) in
-        let streams = each (stream_ends program x leaf) (length leaf.streams.items) in
-        let memories = each (memory_ends program x) (length leaf.memories.items) in
-        let done = joined_to (name Done) (ended_net i) ∷ [] in
+        let scalars = each (scalar_connections i x) (length leaf.scalars.items) in
+        let streams = each (stream_connections program x leaf) (length leaf.streams.items) in
+        let memories = each (memory_connections program x) (length leaf.memories.items) in
+        let done = connected_to (name Done) (ended_net i) ∷ [] in
         let first = clocks done in
         let a1 : joined ends y ≡ joined (first ++ scalars ++ streams) y + joined memories y = joined_append (first ++ scalars ++ streams) memories y in
         let a2 = joined_append (first ++ scalars) streams y in
@@ -216,12 +216,12 @@ module _ (program : Program) (machines : List Fsm) (added : List ℕ) (ready : I
         let c1 = first_same (task_name machine.name) y in
         let c2 : joined done y ≡ ported (outward 1 Done ∷ []) y = refl in
         let c3 : joined scalars y ≡ ported s_in y =
-        each_same (scalar_ends i x) (scalar_input S) (length leaf.scalars.items) y (λ p. refl) ∙ ap (λ n. ported (each (scalar_input S) n) y) (sym scalars_long) in
+        each_same (scalar_connections i x) (scalar_input S) (length leaf.scalars.items) y (λ p. refl) ∙ ap (λ n. ported (each (scalar_input S) n) y) (sym scalars_long) in
         let c4 : joined streams y ≡ ported t_in y + ported t_out y =
-        each_two (stream_ends program x leaf) (stream_in S) (stream_out S) (length leaf.streams.items) y
+        each_two (stream_connections program x leaf) (stream_in S) (stream_out S) (length leaf.streams.items) y
         (λ p. stream_same p (stream_label program (slice_index x.streams.items p)) (bits_of (stream_kind S p) + 1) y (is_written (slice_get leaf.streams.items p))) in
         let c5 : joined memories y ≡ ported m_in y + ported m_out y =
-        each_two (memory_ends program x) (memory_in S) (memory_out S) (length leaf.memories.items) y
+        each_two (memory_connections program x) (memory_in S) (memory_out S) (length leaf.memories.items) y
         (λ p. count_append (λ z. bytes_eq z y) (name (Ack p) ∷ name (Rdata p) ∷ []) (name (Addr p) ∷ name (Wdata p) ∷ name (We p) ∷ [])) in
         omega (arith, a1, a2, a3, a4, b1, b2, b3, b4, b5, b6, c1, c2, c3, c4, c5)
 
@@ -360,11 +360,11 @@ module _ (program : Program) (machines : List Fsm) (added : List ℕ) (ready : I
     abbrev Right : Connection → Type 0
     Right l = IsOrdered program all_ports l
 
-    clock_right : Right (joined_to (codes "clk") (codes "clk"))
+    clock_right : Right (connected_to (codes "clk") (codes "clk"))
     unfolding clk
     clock_right = AtClock refl refl (inl refl)
 
-    reset_right : Right (joined_to (codes "rst") (codes "rst"))
+    reset_right : Right (connected_to (codes "rst") (codes "rst"))
     unfolding rst
     reset_right = AtInput 1 (inr (inl refl)) (inl refl)
 
@@ -380,7 +380,7 @@ module _ (program : Program) (machines : List Fsm) (added : List ℕ) (ready : I
         let b : parameter_kind leaf p ≡ k.0 = ap (λ n. slice_index_or leaf.vars.items n U64) index ∙ get_or_from_slice_get leaf.vars.items v.0 k.0 U64 k.1 in
         ap bits_of (a ∙ sym b)
 
-    scalar_right : (p : ℕ) → p < length leaf.scalars.items → Right (joined_to (name (ScalarPort p)) (bound_by i p (slice_get x.scalars.items p)))
+    scalar_right : (p : ℕ) → p < length leaf.scalars.items → Right (connected_to (name (ScalarPort p)) (bound_by i p (slice_get x.scalars.items p)))
     scalar_right p l =
         let among : IsAmong (scalars program ++ parameters program i x leaf) (front program) =
         both_among (scalars program) (parameters program i x leaf) (front program) (λ e h. left_among (ports program) (streams program ++ bounds program ++ ends_of program) e (scalars_among program e h)) (parameters_front program i x leaf got_x got_leaf) in
@@ -388,7 +388,7 @@ module _ (program : Program) (machines : List Fsm) (added : List ℕ) (ready : I
         net_in (scalars program ++ parameters program i x leaf) (front program) among _ (bits_of (parameter_kind leaf p)) (parameter_net program i x leaf ok p l) in
         AtInput (bits_of (register_kind S (slice_index S.scalars p))) (scalar_port p l) (subst (λ w. IsNet (front program) (bound_by i p (slice_get x.scalars.items p)) w) (sym (scalar_bits p l)) net)
 
-    pub written_right : (p : ℕ) (l : p < length leaf.streams.items) → IsWay p true → (t : Name) → t ≡ (stream_at p l).at.stream.label → (c : Connection) → Has (written_ends p t) c → Right c
+    pub written_right : (p : ℕ) (l : p < length leaf.streams.items) → IsWay p true → (t : Name) → t ≡ (stream_at p l).at.stream.label → (c : Connection) → Has (written_connections p t) c → Right c
     written_right p l e t s c (inl q) =
         subst Right q (AtInput 1 (rdy_port p l e) (subst (λ z. IsNet (front program) (s_rdy z) 1) (sym s) (rdy_net program (stream_at p l).number (stream_at p l).at.stream (stream_at p l).at.is)))
     written_right p l e t s c (inr (inl q)) =
@@ -400,7 +400,7 @@ module _ (program : Program) (machines : List Fsm) (added : List ℕ) (ready : I
         (subst (λ w. IsOpen (standing program) (s_din (stream_at p l).at.stream.label) w) (sym (stream_at p l).bits) (din_open program (stream_at p l).number (stream_at p l).at.stream (stream_at p l).at.is))))
     written_right p l e t s c (inr (inr (inr n))) = absurd n
 
-    pub read_right : (p : ℕ) (l : p < length leaf.streams.items) → IsWay p false → (t : Name) → t ≡ (stream_at p l).at.stream.label → (c : Connection) → Has (read_ends p t) c → Right c
+    pub read_right : (p : ℕ) (l : p < length leaf.streams.items) → IsWay p false → (t : Name) → t ≡ (stream_at p l).at.stream.label → (c : Connection) → Has (read_connections p t) c → Right c
     read_right p l e t s c (inl q) =
         subst Right q (AtInput 1 (has_port p l e) (subst (λ z. IsNet (front program) (s_has z) 1) (sym s) (has_net program (stream_at p l).number (stream_at p l).at.stream (stream_at p l).at.is)))
     read_right p l e t s c (inr (inl q)) =
@@ -413,11 +413,11 @@ module _ (program : Program) (machines : List Fsm) (added : List ℕ) (ready : I
     read_right p l e t s c (inr (inr (inr n))) = absurd n
 
     stream_right : (p : ℕ) → p < length leaf.streams.items → (b : Bool) → IsWay p b → (c : Connection)
-        → Has (cond b (written_ends p (stream_label program (slice_index x.streams.items p))) (read_ends p (stream_label program (slice_index x.streams.items p)))) c → Right c
+        → Has (cond b (written_connections p (stream_label program (slice_index x.streams.items p))) (read_connections p (stream_label program (slice_index x.streams.items p)))) c → Right c
     stream_right p l true e c h = written_right p l e (stream_label program (slice_index x.streams.items p)) (stream_at p l).label c h
     stream_right p l false e c h = read_right p l e (stream_label program (slice_index x.streams.items p)) (stream_at p l).label c h
 
-    memory_right : (p : ℕ) (l : p < length leaf.memories.items) (t : Name) → t ≡ (memory_at p l).at.memory.name → (c : Connection) → Has (named_ends p t) c → Right c
+    memory_right : (p : ℕ) (l : p < length leaf.memories.items) (t : Name) → t ≡ (memory_at p l).at.memory.name → (c : Connection) → Has (named_connections p t) c → Right c
     memory_right p l t s c (inl q) =
         subst Right q (AtInput 1 (memory_in_there p l _ (inl refl)) (subst (λ z. IsNet (front program) (m_ack z) 1) (sym s) (ack_net program (memory_at p l).number (memory_at p l).at.memory (memory_at p l).at.is)))
     memory_right p l t s c (inr (inl q)) =
@@ -436,7 +436,7 @@ module _ (program : Program) (machines : List Fsm) (added : List ℕ) (ready : I
         subst Right q (AtOutput 1 (memory_out_there p l _ (inr (inr (inl refl)))) (subst (λ z. IsOpen (standing program) (m_we z) 1) (sym s) (we_open program (memory_at p l).number (memory_at p l).at.memory (memory_at p l).at.is)))
     memory_right p l t s c (inr (inr (inr (inr (inr n))))) = absurd n
 
-    scalar_of : (p : ℕ) → p < length leaf.scalars.items → (c : Connection) → Has (scalar_ends i x p) c → Right c
+    scalar_of : (p : ℕ) → p < length leaf.scalars.items → (c : Connection) → Has (scalar_connections i x p) c → Right c
     scalar_of p l c (inl q) = subst Right q (scalar_right p l)
     scalar_of p l c (inr n) = absurd n
 
@@ -445,15 +445,15 @@ module _ (program : Program) (machines : List Fsm) (added : List ℕ) (ready : I
     end_right c (inr (inl q)) = subst Right q reset_right
     end_right c (inr (inr (inl q))) = subst Right q (AtOutput 1 done_port (ended_open program i (some_index program.instances.items i x got_x)))
     end_right c (inr (inr (inr h))) =
-        let scalars = each (scalar_ends i x) (length leaf.scalars.items) in
-        let streams = each (stream_ends program x leaf) (length leaf.streams.items) in
-        let memories = each (memory_ends program x) (length leaf.memories.items) in
+        let scalars = each (scalar_connections i x) (length leaf.scalars.items) in
+        let streams = each (stream_connections program x leaf) (length leaf.streams.items) in
+        let memories = each (memory_connections program x) (length leaf.memories.items) in
         ⊎_elim
         (λ k.
-        ⊎_elim (λ l. let r = of_each (scalar_ends i x) (length leaf.scalars.items) c l in scalar_of r.0 r.1 c r.2)
-        (λ l. let r = of_each (stream_ends program x leaf) (length leaf.streams.items) c l in stream_right r.0 r.1 (is_written (slice_get leaf.streams.items r.0)) refl c r.2)
+        ⊎_elim (λ l. let r = of_each (scalar_connections i x) (length leaf.scalars.items) c l in scalar_of r.0 r.1 c r.2)
+        (λ l. let r = of_each (stream_connections program x leaf) (length leaf.streams.items) c l in stream_right r.0 r.1 (is_written (slice_get leaf.streams.items r.0)) refl c r.2)
         (has_split scalars streams c k))
-        (λ l. let r = of_each (memory_ends program x) (length leaf.memories.items) c l in memory_right r.0 r.1 (memory_name program (slice_index x.memories.items r.0)) (memory_at r.0 r.1).title c r.2)
+        (λ l. let r = of_each (memory_connections program x) (length leaf.memories.items) c l in memory_right r.0 r.1 (memory_name program (slice_index x.memories.items r.0)) (memory_at r.0 r.1).title c r.2)
         (has_split (scalars ++ streams) memories c h)
 
     pub task_joined : IsJoined (lower_modules program machines added) (standing program) (task_name leaf.name) ends

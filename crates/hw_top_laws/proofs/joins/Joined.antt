@@ -16,7 +16,7 @@ use Rattle.vlog_tree.specs.V2.{all_connected}
 use Rattle.tapa_base.proofs.Lists.{has_map, has_flat, of_flat}
 use Rattle.vlog_module_laws.proofs.Lists.{count_cons, counted, both_true}
 use Rattle.vlog_run_laws.proofs.runs.Alone.{module_is}
-use Rattle.hw_build.specs.Elements.{Element, Input, Output, Outlet, Wire, Link, Register, Memory, Block, Instance}
+use Rattle.hw_build.specs.Elements.{Element, Input, Output, Outlet, Wire, InstanceWire, Register, Memory, Block, Instance}
 use Rattle.hw_build.proofs.Forms.{yes_and}
 use Rattle.hw_build.proofs.Tables.{times, same_name, found}
 use Rattle.hw_build.proofs.Uses.{all_has}
@@ -82,8 +82,8 @@ connected ports ls once same = connected_all ports ls one where
 open_name_of : (e : Element) (x : Name) (w : ℕ) → Has {N = Name × ℕ} (open_nets e) (x, w) → Has (declared_names e) x
 open_name_of (Outlet v y) x w (inl s) = inl (ap (λ (q : Name × ℕ). q.0) s)
 open_name_of (Outlet v y) x w (inr n) = absurd n
-open_name_of (Link v y) x w (inl s) = inl (ap (λ (q : Name × ℕ). q.0) s)
-open_name_of (Link v y) x w (inr n) = absurd n
+open_name_of (InstanceWire v y) x w (inl s) = inl (ap (λ (q : Name × ℕ). q.0) s)
+open_name_of (InstanceWire v y) x w (inr n) = absurd n
 open_name_of (Input v y) x w h = absurd h
 open_name_of (Output v y d) x w h = absurd h
 open_name_of (Wire v y d) x w h = absurd h

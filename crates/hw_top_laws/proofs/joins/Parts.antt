@@ -8,7 +8,7 @@ use Rattle.vlog_tree.specs.Form.{ModuleTree}
 use Rattle.tapa_base.specs.Lists.{Has}
 use Rattle.vlog_tree.specs.Table.{Name}
 use Rattle.tapa_base.proofs.Lists.{has_left, has_flat, of_flat}
-use Rattle.hw_build.specs.Elements.{Element, Input, Output, Outlet, Wire, Link, Register, Memory, Block, Instance}
+use Rattle.hw_build.specs.Elements.{Element, Input, Output, Outlet, Wire, InstanceWire, Register, Memory, Block, Instance}
 use Rattle.hw_build.specs.Scope.{each, readable, IsNet, FitsAfter}
 use Rattle.hw_build.specs.Fits.{IsAmong}
 use Rattle.hw_build.proofs.Parts.{fits_more, more_behind}
@@ -19,7 +19,7 @@ alone_after ms before (Input w x) h = h
 alone_after ms before (Output w x v) h = h
 alone_after ms before (Outlet w x) h = absurd h
 alone_after ms before (Wire w x v) h = h
-alone_after ms before (Link w x) h = absurd h
+alone_after ms before (InstanceWire w x) h = absurd h
 alone_after ms before (Register w x) h = h
 alone_after ms before (Memory w x n) h = h
 alone_after ms before (Block b) h = h
@@ -51,7 +51,7 @@ module _ (ms : List ModuleTree) (some all : List Element) (among : IsAmong some 
   after_more (Output w x v) h = fits_more some all among (Output w x v) h
   after_more (Outlet w x) h = h
   after_more (Wire w x v) h = fits_more some all among (Wire w x v) h
-  after_more (Link w x) h = h
+  after_more (InstanceWire w x) h = h
   after_more (Register w x) h = fits_more some all among (Register w x) h
   after_more (Memory w x n) h = fits_more some all among (Memory w x n) h
   after_more (Block b) h = fits_more some all among (Block b) h

@@ -21,7 +21,7 @@ use Rattle.tapa_base.proofs.Lists.{has_left, has_split, has_flat, of_flat}
 use Rattle.vlog_module_laws.proofs.Larger.{known_by}
 use Rattle.vlog_module_laws.proofs.Lists.{count_cons, counted, all_at}
 use Rattle.vlog_run_laws.proofs.runs.Alone.{module_is}
-use Rattle.hw_build.specs.Elements.{Element, Input, Output, Outlet, Wire, Link, Register, Memory, Block, Instance}
+use Rattle.hw_build.specs.Elements.{Element, Input, Output, Outlet, Wire, InstanceWire, Register, Memory, Block, Instance}
 use Rattle.hw_build.specs.Fitting.{declarations, first_table, is_new, are_kept, child_ports, has_fitting_names, have_fitting_names, HasFittingWidths, HaveFittingWidths, link_names, instance_driven, drive_links_once}
 use Rattle.hw_build.proofs.Appended.{table_append}
 use Rattle.hw_build.proofs.Forms.{yes_and}
@@ -54,10 +54,10 @@ open_by before (Outlet v y) x w has (inl s) =
     let d : Declaration = record { name = y; net_kind = OutputNet; bits = v; cells = 0 } in
     record { is = d; has = stays_new before first_table (Outlet v y) d has (inl refl); name = ap (λ (q : Name × ℕ). q.0) s; kind = refl; bits = ap (λ (q : Name × ℕ). q.1) s }
 open_by before (Outlet v y) x w has (inr n) = absurd n
-open_by before (Link v y) x w has (inl s) =
+open_by before (InstanceWire v y) x w has (inl s) =
     let d : Declaration = record { name = y; net_kind = WireNet; bits = v; cells = 0 } in
-    record { is = d; has = stays_new before first_table (Link v y) d has (inl refl); name = ap (λ (q : Name × ℕ). q.0) s; kind = refl; bits = ap (λ (q : Name × ℕ). q.1) s }
-open_by before (Link v y) x w has (inr n) = absurd n
+    record { is = d; has = stays_new before first_table (InstanceWire v y) d has (inl refl); name = ap (λ (q : Name × ℕ). q.0) s; kind = refl; bits = ap (λ (q : Name × ℕ). q.1) s }
+open_by before (InstanceWire v y) x w has (inr n) = absurd n
 open_by before (Input v y) x w has h = absurd h
 open_by before (Output v y d) x w has h = absurd h
 open_by before (Wire v y d) x w has h = absurd h
@@ -185,7 +185,7 @@ module _ (ms : List ModuleTree) (ports_once : PortsAreOnce ms) (before : List El
   names_stand (Output w x v) new h = names_fit before once ms (Output w x v) new h
   names_stand (Outlet w x) new h = new x (inl refl)
   names_stand (Wire w x v) new h = names_fit before once ms (Wire w x v) new h
-  names_stand (Link w x) new h = new x (inl refl)
+  names_stand (InstanceWire w x) new h = new x (inl refl)
   names_stand (Register w x) new h = names_fit before once ms (Register w x) new h
   names_stand (Memory w x n) new h = names_fit before once ms (Memory w x n) new h
   names_stand (Block b) new h = names_fit before once ms (Block b) new h
@@ -196,7 +196,7 @@ module _ (ms : List ModuleTree) (ports_once : PortsAreOnce ms) (before : List El
   widths_stand (Output w x v) h = widths_fit before once ms (Output w x v) h
   widths_stand (Outlet w x) h = h
   widths_stand (Wire w x v) h = widths_fit before once ms (Wire w x v) h
-  widths_stand (Link w x) h = h
+  widths_stand (InstanceWire w x) h = h
   widths_stand (Register w x) h = widths_fit before once ms (Register w x) h
   widths_stand (Memory w x n) h = widths_fit before once ms (Memory w x n) h
   widths_stand (Block b) h = widths_fit before once ms (Block b) h
@@ -221,8 +221,8 @@ stand_from ms ports_once before (e ∷ elements) once h =
 open_link_of : (e : Element) (x : Name) (w : ℕ) → Has {N = Name × ℕ} (open_nets e) (x, w) → Has (link_names e) x
 open_link_of (Outlet v y) x w (inl s) = inl (ap (λ (q : Name × ℕ). q.0) s)
 open_link_of (Outlet v y) x w (inr n) = absurd n
-open_link_of (Link v y) x w (inl s) = inl (ap (λ (q : Name × ℕ). q.0) s)
-open_link_of (Link v y) x w (inr n) = absurd n
+open_link_of (InstanceWire v y) x w (inl s) = inl (ap (λ (q : Name × ℕ). q.0) s)
+open_link_of (InstanceWire v y) x w (inr n) = absurd n
 open_link_of (Input v y) x w h = absurd h
 open_link_of (Output v y d) x w h = absurd h
 open_link_of (Wire v y d) x w h = absurd h
@@ -267,7 +267,7 @@ module _ (ms : List ModuleTree) (ports_once : PortsAreOnce ms) where
   drive_of before (Output w y v) s x h = absurd h
   drive_of before (Outlet w y) s x h = absurd h
   drive_of before (Wire w y v) s x h = absurd h
-  drive_of before (Link w y) s x h = absurd h
+  drive_of before (InstanceWire w y) s x h = absurd h
   drive_of before (Register w y) s x h = absurd h
   drive_of before (Memory w y n) s x h = absurd h
   drive_of before (Block b) s x h = absurd h

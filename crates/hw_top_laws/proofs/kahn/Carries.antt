@@ -14,7 +14,7 @@ use Rattle.tapa_syntax.specs.declared.program.Memory.{Memory}
 use Rattle.tapa_syntax.specs.declared.program.Program.{Program}
 use Rattle.tapa_syntax.specs.declared.program.Stream.{Stream}
 use Rattle.vlog_tree.specs.Cycle.{Cycle, Path}
-use Rattle.vlog_tree.specs.Environment.{Environment, FitsShape, IsDone, shape_of, cells_at, ready_at, carried as carried_bits, tokens, token_of}
+use Rattle.vlog_tree.specs.Environment.{Environment, FitsShape, RaisesDone, shape_of, cells_at, ready_at, carried as carried_bits, tokens, token_of}
 use Rattle.vlog_run_laws.specs.Beside.{RunsBeside, answers_in}
 use Rattle.vlog_run_laws.proofs.widths.Beside.{runs_beside}
 use Rattle.vlog_tree.specs.Form.{ModuleTree}
@@ -212,26 +212,26 @@ module _ (program : Program) (w : IsWellFormed program) (added : List ℕ) (shor
   pub streams_are : (s n : ℕ) (q : Stream) → slice_get program.streams.items s ≡ Some q → carried_by nets q n ≡ written net (count_at net clock (suc n)) s
   streams_are s n q at = sym (seen_is s q at n) ∙ (in_step net clock p T h (in_clock program w added short machines all place c env env_fits acks nets r seen same) n).0.put s
 
-  pub done_is : (n : ℕ) → IsDone top (suc n) ↔ HaveJoinedEnded net (count_at net clock (suc n))
+  pub done_is : (n : ℕ) → RaisesDone top (suc n) ↔ HaveJoinedEnded net (count_at net clock (suc n))
   done_is n = (λ d. D.told (suc n) d.0 (done_over (suc n) d.1), λ ended. (omega arith, over_done (suc n) (D.only (suc n) (omega arith) ended)))
 
   pub begins : (s n : ℕ) (q : Stream) → slice_get program.streams.items s ≡ Some q → IsKahnPrefix net s (carried_by nets q n)
   begins s n q at = subst (IsKahnPrefix net s) (seen_is s q at n) (D.begins s (suc n))
 
-  pub whole : (s n m : ℕ) (q : Stream) → slice_get program.streams.items s ≡ Some q → IsDone top n → n ≤ m → IsJoined net q.producer → IsKahnStream net s (carried_by nets q m)
+  pub whole : (s n m : ℕ) (q : Stream) → slice_get program.streams.items s ≡ Some q → RaisesDone top n → n ≤ m → IsJoined net q.producer → IsKahnStream net s (carried_by nets q m)
   whole s n m q at d le joined = subst (IsKahnStream net s) (seen_is s q at m) (D.whole s n (suc m) d.0 (omega (arith, le)) (done_over n d.1) (writer_inside s q at) (writer_joined s q at joined))
 
-  pub shows : (bound : ℕ) (k : ℕ → ℕ) → EndsWithin net bound k → (s n m : ℕ) (q : Stream) → slice_get program.streams.items s ≡ Some q → IsDone top n → n ≤ m → IsJoined net q.producer → carried_by nets q m ≡ shown net k s
+  pub shows : (bound : ℕ) (k : ℕ → ℕ) → EndsWithin net bound k → (s n m : ℕ) (q : Stream) → slice_get program.streams.items s ≡ Some q → RaisesDone top n → n ≤ m → IsJoined net q.producer → carried_by nets q m ≡ shown net k s
   shows bound k e s n m q at d le joined = sym (seen_is s q at m) ∙ D.shows bound k e s n (suc m) d.0 (omega (arith, le)) (done_over n d.1) (writer_inside s q at) (writer_joined s q at joined)
 
-  pub in_time : (most : ℕ) (ready : ℕ → Bool) (waits : ℕ) → IsClock clock most ready waits → (bound : ℕ) (k : ℕ → ℕ) → EndsWithin net bound k → (a : ℕ) × IsLeastToEnd net a × ((n : ℕ) × IsDone top n × (n ≤ (a + 2) * (2 * most + 4) + waits))
+  pub in_time : (most : ℕ) (ready : ℕ → Bool) (waits : ℕ) → IsClock clock most ready waits → (bound : ℕ) (k : ℕ → ℕ) → EndsWithin net bound k → (a : ℕ) × IsLeastToEnd net a × ((n : ℕ) × RaisesDone top n × (n ≤ (a + 2) * (2 * most + 4) + waits))
   in_time most ready waits is_clock bound k e =
       let t = D.in_time most ready waits is_clock bound k e in
       (t.0, t.1, (t.2.0, (t.2.1, over_done t.2.0 t.2.3), t.2.2))
 
   -- by the answers up to then alone
   pub in_time_beside : (most : ℕ) (ready : ℕ → Bool) → ((s : ℕ) → slice_index added s ≤ most) → ((n : ℕ) → ready n ≡ true → (i m : ℕ) → seen i m n ≡ true) → (bound : ℕ) (k : ℕ → ℕ) → EndsWithin net bound k
-      → (a : ℕ) × IsLeastToEnd net a × ((limit : ℕ) → (a + 2) * (2 * most + 4) + lost ready limit ≤ limit → (n : ℕ) × IsDone top n × (n ≤ (a + 2) * (2 * most + 4) + lost ready n))
+      → (a : ℕ) × IsLeastToEnd net a × ((limit : ℕ) → (a + 2) * (2 * most + 4) + lost ready limit ≤ limit → (n : ℕ) × RaisesDone top n × (n ≤ (a + 2) * (2 * most + 4) + lost ready n))
   in_time_beside most ready late answered bound k e =
       let ok = (in_clock program w added short machines all place c env env_fits acks nets r seen same).network in
       let least = least_to_end net ok bound k e in
@@ -263,14 +263,14 @@ module _ (program : Program) (w : IsWellFormed program) (added : List ℕ) (shor
         omega (arith, l, z)
 
     -- its instance has ended
-    over_at : (n l : ℕ) → IsDone top n → n ≤ l → (h o.owner).ended l ≡ true
+    over_at : (n l : ℕ) → RaisesDone top n → n ≤ l → (h o.owner).ended l ≡ true
     over_at n l d le = D.stays n l d.0 le (done_over n d.1) o.owner owner_inside joined
 
-    quiet_at : (n l : ℕ) → IsDone top n → n ≤ l → (top l).net (m_we o.name) ≡ 0
+    quiet_at : (n l : ℕ) → RaisesDone top n → n ≤ l → (top l).net (m_we o.name) ≡ 0
     quiet_at n zero d le = (let some : 1 ≤ n = d.0 in absurd (omega (arith, some, le)))
     quiet_at n (suc l) d le = idle program w added short machines all place c env env_fits acks nets r seen same m o at l (over_at n (suc l) d le)
 
-    leaves_at : (bound : ℕ) (k : ℕ → ℕ) → EndsWithin net bound k → (n l : ℕ) → IsDone top n → n ≤ l → cells_at top o.name (slice_index_or env.memories m []) l ≡ cells_of program env.scalars env.memories k m
+    leaves_at : (bound : ℕ) (k : ℕ → ℕ) → EndsWithin net bound k → (n l : ℕ) → RaisesDone top n → n ≤ l → cells_at top o.name (slice_index_or env.memories m []) l ≡ cells_of program env.scalars env.memories k m
     leaves_at bound k e n zero d le = (let some : 1 ≤ n = d.0 in absurd (omega (arith, some, le)))
     leaves_at bound k e n (suc l) d le =
         let ok = (in_clock program w added short machines all place c env env_fits acks nets r seen same).network in
@@ -282,11 +282,11 @@ module _ (program : Program) (w : IsWellFormed program) (added : List ℕ) (shor
         ≡ after_stores (memory_at (slice_get program.instances.items j)) m (slice_index_or env.memories m []) (ticks_made net k j)) owner
         (ap (after_stores (memory_at (slice_get program.instances.items o.owner)) m (slice_index_or env.memories m [])) made)
 
-  pub quiet : (m n l : ℕ) (o : Memory) → slice_get program.memories.items m ≡ Some o → IsJoined net o.owner → IsDone top n → n ≤ l → (top l).net (m_we o.name) ≡ 0
+  pub quiet : (m n l : ℕ) (o : Memory) → slice_get program.memories.items m ≡ Some o → IsJoined net o.owner → RaisesDone top n → n ≤ l → (top l).net (m_we o.name) ≡ 0
   quiet m n l o at joined = quiet_at m o at joined n l
 
   pub leaves :
-      (bound : ℕ) (k : ℕ → ℕ) → EndsWithin net bound k → (m n l : ℕ) (o : Memory) → slice_get program.memories.items m ≡ Some o → IsJoined net o.owner → IsDone top n → n ≤ l
+      (bound : ℕ) (k : ℕ → ℕ) → EndsWithin net bound k → (m n l : ℕ) (o : Memory) → slice_get program.memories.items m ≡ Some o → IsJoined net o.owner → RaisesDone top n → n ≤ l
       → cells_at top o.name (slice_index_or env.memories m []) l ≡ cells_of program env.scalars env.memories k m
   leaves bound k e m n l o at joined = leaves_at m o at joined bound k e n l
 

@@ -18,7 +18,7 @@ use Rattle.tapa_base.specs.Lists.{Has}
 use Rattle.vlog_tree.specs.Labels.{rst, done, scalar, m_ack, m_rdata, m_addr, m_wdata, m_we, s_din, s_wr, s_rdy}
 use Rattle.vlog_tree.specs.Names.{goes_on}
 use Rattle.vlog_tree.specs.Table.{Name, clk}
-use Rattle.hw_build.specs.Elements.{Element, Input, Outlet, Link, Output, Instance as InstanceElement}
+use Rattle.hw_build.specs.Elements.{Element, Input, Outlet, InstanceWire, Output, Instance as InstanceElement}
 use Rattle.hw_build.specs.Trees.{tree_nodes}
 use Rattle.hw_build.specs.Scope.{each}
 use Rattle.hw_build.specs.Fits.{declared_names}
@@ -32,7 +32,7 @@ use Rattle.hw_top_lines.specs.Names.{s_has, s_dout, s_take, task_instance, chann
 use Rattle.hw_top_lines.specs.Bounds.{parameter_kind, bound_elements, parameters}
 use Rattle.hw_top_lines.specs.Legal.{IsCountable}
 use Rattle.tapa_syntax.specs.OwnNames.{AreApart, HasOwnNames}
-use Rattle.hw_top_lines.specs.Texts.{scalar_port, memory_ports, ports, token_bits, stream_wires, take_wire, of_leaf, of_instance, at_instance, task_ends, task_part, ended_wire, still_waits, is_detached, waiting, none_waits, doneness, channel_ends, channel_part, wires, instances, top_elements}
+use Rattle.hw_top_lines.specs.Texts.{scalar_port, memory_ports, ports, token_bits, stream_wires, take_wire, of_leaf, of_instance, at_instance, task_connections, task_part, ended_wire, still_waits, is_detached, waiting, none_waits, doneness, channel_connections, channel_part, wires, instances, top_elements}
 use Rattle.hw_top_laws.specs.names.Names.{TopNamesAreOnce, TopNetsAreNamed}
 use Rattle.hw_top_laws.proofs.names.Written.{label_goes_on}
 use Rattle.hw_top_laws.proofs.names.Made.{sort, IsMade, same_label, made_addr, made_wdata, made_we, made_ack, made_rdata, made_din, made_wr, made_rdy, made_has, made_dout, made_take, IsFronted, same_fronted, fronted_scalar, fronted_task, fronted_channel, clk_sort, rst_sort, done_sort, done_is_name}
@@ -167,11 +167,11 @@ module _ (program : Program) (own : HasOwnNames program) where
       let w = stream_written k r e in
       let b = token_bits r.kind in
       let Q = StreamAt k in
-      names_more Q 8 9 13 (Link b (s_din r.label)) _ (omega arith) (omega arith) (stream_one k r e 8 _ (s_din r.label) refl (made_din r.label w))
-      (names_more Q 9 10 13 (Link 1 (s_wr r.label)) _ (omega arith) (omega arith) (stream_one k r e 9 _ (s_wr r.label) refl (made_wr r.label w))
-      (names_more Q 10 11 13 (Link 1 (s_rdy r.label)) _ (omega arith) (omega arith) (stream_one k r e 10 _ (s_rdy r.label) refl (made_rdy r.label w))
-      (names_more Q 11 12 13 (Link 1 (s_has r.label)) _ (omega arith) (omega arith) (stream_one k r e 11 _ (s_has r.label) refl (made_has r.label w))
-      (stream_one k r e 12 (Link b (s_dout r.label)) (s_dout r.label) refl (made_dout r.label w)))))
+      names_more Q 8 9 13 (InstanceWire b (s_din r.label)) _ (omega arith) (omega arith) (stream_one k r e 8 _ (s_din r.label) refl (made_din r.label w))
+      (names_more Q 9 10 13 (InstanceWire 1 (s_wr r.label)) _ (omega arith) (omega arith) (stream_one k r e 9 _ (s_wr r.label) refl (made_wr r.label w))
+      (names_more Q 10 11 13 (InstanceWire 1 (s_rdy r.label)) _ (omega arith) (omega arith) (stream_one k r e 10 _ (s_rdy r.label) refl (made_rdy r.label w))
+      (names_more Q 11 12 13 (InstanceWire 1 (s_has r.label)) _ (omega arith) (omega arith) (stream_one k r e 11 _ (s_has r.label) refl (made_has r.label w))
+      (stream_one k r e 12 (InstanceWire b (s_dout r.label)) (s_dout r.label) refl (made_dout r.label w)))))
 
   told_stream : (j k : ℕ) (x : Name) → StreamAt j x → StreamAt k x → j ≡ k
   told_stream = told_at program.streams.items (λ (r : Stream). r.label) (Made (codes "s_")) (λ l m x a b. same_made (codes "s_") l m x a b) own.streams
@@ -182,7 +182,7 @@ module _ (program : Program) (own : HasOwnNames program) where
 
   take_names : (k : ℕ) (o : Option Stream) → slice_get program.streams.items k ≡ o → Names (StreamAt k) 15 16 (take_wire o)
   take_names k None e = names_none (StreamAt k) 15 16
-  take_names k (Some r) e = stream_one k r e 15 (Link 1 (s_take r.label)) (s_take r.label) refl (made_take r.label (stream_written k r e))
+  take_names k (Some r) e = stream_one k r e 15 (InstanceWire 1 (s_take r.label)) (s_take r.label) refl (made_take r.label (stream_written k r e))
 
   takes_named : Names Any 15 16 (each (λ s. take_wire (slice_get program.streams.items s)) (length program.streams.items))
   takes_named =
@@ -197,7 +197,7 @@ module _ (program : Program) (own : HasOwnNames program) where
   part_names k x e None = names_none (InstanceAt k) 18 19
   part_names k x e (Some leaf) =
       let f = fronted_task x.label (instance_written k x e) in
-      names_one (InstanceAt k) 18 (InstanceElement (task_name leaf.name) (task_instance x.label) (task_ends program k x leaf)) (task_instance x.label) refl (record { part = x; got = e; made = f }) f.sorted f.named
+      names_one (InstanceAt k) 18 (InstanceElement (task_name leaf.name) (task_instance x.label) (task_connections program k x leaf)) (task_instance x.label) refl (record { part = x; got = e; made = f }) f.sorted f.named
 
   instance_names : (k : ℕ) (o : Option Instance) → slice_get program.instances.items k ≡ o → Names (InstanceAt k) 18 19 (of_instance program (task_part program k) o)
   instance_names k None e = names_none (InstanceAt k) 18 19
@@ -216,7 +216,7 @@ module _ (program : Program) (own : HasOwnNames program) where
   channel_names late k None e = names_none (ChannelAt k) 19 20
   channel_names late k (Some r) e =
       let f = fronted_channel r.label (stream_written k r e) in
-      names_one (ChannelAt k) 19 (InstanceElement (channel_name (token_bits r.kind) r.depth late) (channel_instance r.label) (channel_ends r.label)) (channel_instance r.label) refl (record { part = r; got = e; made = f }) f.sorted f.named
+      names_one (ChannelAt k) 19 (InstanceElement (channel_name (token_bits r.kind) r.depth late) (channel_instance r.label) (channel_connections r.label)) (channel_instance r.label) refl (record { part = r; got = e; made = f }) f.sorted f.named
 
   channels_named : (late : ℕ → ℕ) → Names Any 19 20 (each (λ s. channel_part (late s) (slice_get program.streams.items s)) (length program.streams.items))
   channels_named late =
@@ -276,7 +276,7 @@ module _ (program : Program) (own : HasOwnNames program) where
     EndedAt k x = (x ≡ ended_net k) × (k < 2 ^ 64)
 
     ended_at : (k : ℕ) → k < 2 ^ 64 → Names (EndedAt k) 14 15 (ended_wire k)
-    ended_at k small = let f = ended_facts k small in names_one (EndedAt k) 14 (Link 1 (ended_net k)) (ended_net k) refl (refl, small) f.0 f.1
+    ended_at k small = let f = ended_facts k small in names_one (EndedAt k) 14 (InstanceWire 1 (ended_net k)) (ended_net k) refl (refl, small) f.0 f.1
 
     ends_named : Names Any 14 15 (each ended_wire (length program.instances.items))
     ends_named =

@@ -15,7 +15,7 @@ use Rattle.hw_channel_lines.specs.Names.{channel_name}
 use Rattle.hw_lines.specs.Texts.{task_name}
 use Rattle.hw_top_lines.specs.Bounds.{parameters}
 use Rattle.hw_top_lines.specs.Names.{task_instance, channel_instance}
-use Rattle.hw_top_lines.specs.Texts.{token_bits, ports, wires, doneness, instances, top_elements, of_leaf, of_instance, at_instance, task_part, task_ends, channel_part, channel_ends, stream_wires, take_wire, ended_wire}
+use Rattle.hw_top_lines.specs.Texts.{token_bits, ports, wires, doneness, instances, top_elements, of_leaf, of_instance, at_instance, task_part, task_connections, channel_part, channel_connections, stream_wires, take_wire, ended_wire}
 
 module _ (program : Program) (added : List ℕ) where
   abbrev before : List Element
@@ -40,7 +40,7 @@ module _ (program : Program) (added : List ℕ) where
   channels = each (λ s. channel_part (slice_index added s) (slice_get program.streams.items s)) (length program.streams.items)
 
   abbrev task_element : ℕ → Instance → Leaf → Element
-  task_element i x leaf = InstanceElement (task_name leaf.name) (task_instance x.label) (task_ends program i x leaf)
+  task_element i x leaf = InstanceElement (task_name leaf.name) (task_instance x.label) (task_connections program i x leaf)
 
   pub task_there : (i : ℕ) (x : Instance) (leaf : Leaf) → slice_get program.instances.items i ≡ Some x → slice_get program.bodies.items x.body ≡ Some leaf → Has (top_elements program added) (task_element i x leaf)
   task_there i x leaf e b =
@@ -50,7 +50,7 @@ module _ (program : Program) (added : List ℕ) where
       (subst (λ es. Has es (task_element i x leaf)) (sym (at_is (task_part program) i x leaf e b)) (inl refl))))
 
   abbrev channel_element : ℕ → Stream → Element
-  channel_element s r = InstanceElement (channel_name (token_bits r.kind) r.depth (slice_index added s)) (channel_instance r.label) (channel_ends r.label)
+  channel_element s r = InstanceElement (channel_name (token_bits r.kind) r.depth (slice_index added s)) (channel_instance r.label) (channel_connections r.label)
 
   pub channel_there : (s : ℕ) (r : Stream) → slice_get program.streams.items s ≡ Some r → Has (top_elements program added) (channel_element s r)
   channel_there s r e =

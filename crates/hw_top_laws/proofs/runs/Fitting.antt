@@ -48,7 +48,7 @@ use Rattle.hw_task_laws.proofs.names.Ported.{modules_have_ports}
 use Rattle.hw_task_laws.proofs.steps.Allowed.{stream_there, side_is}
 use Rattle.hw_network_laws.specs.modules.Tasks.{shape_for}
 use Rattle.hw_top_lines.specs.Names.{task_instance, channel_instance}
-use Rattle.hw_top_lines.specs.Texts.{token_bits, top_elements, top_tree, task_ends, channel_ends}
+use Rattle.hw_top_lines.specs.Texts.{token_bits, top_elements, top_tree, task_connections, channel_connections}
 use Rattle.hw_top_laws.proofs.runs.Elements.{task_there, channel_there}
 
 pub kind_bits : (k : Kind) → (1 ≤ bits_of k) × (bits_of k ≤ 64)
@@ -91,7 +91,7 @@ module _ (program : Program) (added : List ℕ) (all : List ModuleTree) (place :
       (instance_there root k i ls (line_there (task_name program.top) (top_elements program added) (InstanceElement k i ls) (InstanceLine k i ls) there (inl refl))) named
 
   pub task_placed : (i : ℕ) (x : Instance) (leaf : Leaf) (m : ModuleTree) → slice_get program.instances.items i ≡ Some x → slice_get program.bodies.items x.body ≡ Some leaf → module_named all (task_name leaf.name) ≡ Some m → module_at all root (task_instance x.label ∷ []) ≡ Some m
-  task_placed i x leaf m at body named = placed_at (task_name leaf.name) (task_instance x.label) (task_ends program i x leaf) m (task_there program added i x leaf at body) named
+  task_placed i x leaf m at body named = placed_at (task_name leaf.name) (task_instance x.label) (task_connections program i x leaf) m (task_there program added i x leaf at body) named
 
   -- ---- channels
 
@@ -113,7 +113,7 @@ module _ (program : Program) (added : List ℕ) (all : List ModuleTree) (place :
       are = are;
       found = found;
       ports = outer.1;
-      at = placed_at (channel_name bits r.depth late) (channel_instance r.label) (channel_ends r.label) m (channel_there program added s r at) (ap (module_named all) (sym outer.0) ∙ found m (inl refl));
+      at = placed_at (channel_name bits r.depth late) (channel_instance r.label) (channel_connections r.label) m (channel_there program added s r at) (ap (module_named all) (sym outer.0) ∙ found m (inl refl));
     }
 
     pub channel_placed : 0 < r.depth → r.depth + 2 * late ≤ 1048576 → (ms : List ModuleTree) → AreModules bits r.depth late ms → AreFoundIn all ms → IsPlaced bits r.depth late all root path

@@ -22,7 +22,7 @@ machine_in machines (Some x) = slice_get machines x.body
 abbrev pub machine_of : Program → List Fsm → ℕ → Option Fsm
 machine_of program machines i = machine_in machines (slice_get program.instances.items i)
 
--- the modules are a circuit, whose top stands last
+-- the modules are a circuit, whose top is the last
 abbrev pub DesignsAreCircuits : Type 0
 DesignsAreCircuits =
     OfReady (λ program machines added. IsCircuit program added (machine_of program machines) (design_tree program machines added) (length (lower_modules program machines added)))

@@ -11,7 +11,7 @@ use Rattle.hw_top_laws.specs.modules.Lower.{lower_modules, OfReady}
 abbrev pub DesignsAreSound : Type 0
 DesignsAreSound = OfReady (λ program machines added. IsSound (design_tree program machines added))
 
--- the top is the only module that stands in no other
+-- the top is the only module that no other contains
 abbrev pub TopsAreRoots : Type 0
 TopsAreRoots = OfReady (λ program machines added. roots (design_tree program machines added) ≡ top_tree program added ∷ [])
 

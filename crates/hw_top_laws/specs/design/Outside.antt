@@ -1,4 +1,4 @@
--- What stands at the outside of a circuit.
+-- The ports of a circuit.
 use Rattle.std.specs.Prelude.{◌≡◌}
 use Rattle.vlog_tree.specs.Environment.{shape_of, streams_of}
 use Rattle.hw_top_lines.specs.Legal.{scalar_ports, memory_ports, stream_ports}

@@ -1,7 +1,7 @@
--- When elements with links, outlets and instances fit: each behind those before it, every name once, every link driven once.
+-- When elements with instances and the nets that they drive fit: each after those before it, every name once, every such net driven once.
 --
--- An instance of a module is joined to nets that stand before it: its inputs to nets that can be read, its outputs to links
--- and outlets, each with the width of its port.
+-- An instance of a module is connected to nets that are declared before it: its inputs to nets that can be read, its outputs to
+-- `InstanceWire`s and `Outlet`s, each with the width of its port.
 use Rattle.std.specs.Prelude.{◌≡◌, ℕ, ◌<◌, true, List, [], ◌∷◌, ◌++◌, Some, map, IsTrue}
 use Rattle.std.specs.List.{list_all, flat_map, AllByRecursion}
 use Rattle.vlog_tree.specs.declared.tree.Connection.{Connection}
@@ -13,7 +13,7 @@ use Rattle.vlog_tree.specs.Labels.{rst}
 use Rattle.vlog_tree.specs.Names.{is_name}
 use Rattle.vlog_tree.specs.Table.{Name, clk, module_named, times_in}
 use Rattle.vlog_tree.specs.V3.{is_width}
-use Rattle.hw_build.specs.Elements.{Element, Input, Output, Outlet, Wire, Link, Register, Memory, Block, Instance}
+use Rattle.hw_build.specs.Elements.{Element, Input, Output, Outlet, Wire, InstanceWire, Register, Memory, Block, Instance}
 use Rattle.hw_build.specs.Fitting.{link_names, instance_driven, have_own_blocks, AreFitting}
 use Rattle.hw_build.specs.Forms.{is_element}
 use Rattle.hw_build.specs.Fits.{declared_names, AreOnce, IsAmong}
@@ -22,7 +22,7 @@ use Rattle.hw_build.specs.Scope.{each, IsNet, FitsAfter, FitInOrder}
 -- the nets that an instance may drive, with their widths
 abbrev pub open_nets : Element → List (Name × ℕ)
 open_nets (Outlet w x) = (x, w) ∷ []
-open_nets (Link w x) = (x, w) ∷ []
+open_nets (InstanceWire w x) = (x, w) ∷ []
 open_nets (Input w x) = []
 open_nets (Output w x v) = []
 open_nets (Wire w x v) = []
@@ -59,10 +59,10 @@ pub record IsJoined (ms : List ModuleTree) (before : List Element) (k : Name) (c
   pub same : (x : Name) → times_in (joined_ports connections) x ≡ times_in (port_names child.ports) x
   pub joins : AllByRecursion (IsJoin before child.ports) connections
 
--- an element behind others
+-- an element after others
 abbrev pub StandsAfter : List ModuleTree → List Element → Element → Type 0
 StandsAfter ms before (Outlet w x) = IsTrue (is_width w)
-StandsAfter ms before (Link w x) = IsTrue (is_width w)
+StandsAfter ms before (InstanceWire w x) = IsTrue (is_width w)
 StandsAfter ms before (Instance k i connections) = IsJoined ms before k connections
 StandsAfter ms before (Input w x) = FitsAfter before (Input w x)
 StandsAfter ms before (Output w x v) = FitsAfter before (Output w x v)
@@ -84,7 +84,7 @@ pub record FitTogether (ms : List ModuleTree) (elements : List Element) : Type 0
   pub order : StandInOrder ms [] elements
   pub names : AreOnce (clk ∷ rst ∷ flat_map declared_names elements)
   pub blocks : IsTrue (have_own_blocks elements)
-  -- no net is driven by two outputs, and each link and each outlet by one
+  -- no net is driven by two outputs, and each `InstanceWire` and each `Outlet` by one
   pub driven : AreOnce (flat_map (instance_driven ms) elements)
   pub all_driven : (x : Name) → Has (flat_map link_names elements) x → Has (flat_map (instance_driven ms) elements) x
 
@@ -94,18 +94,19 @@ TogetherIsFitting = (ms : List ModuleTree) (elements : List Element) → FitToge
 -- an instance has the form of one
 abbrev pub JoinedHasForm : Type 0
 JoinedHasForm =
-    (ms : List ModuleTree) (before : List Element) (k i : Name) (connections : List Connection) → ((m : ModuleTree) → Has ms m → IsModule m) → list_all is_name (flat_map declared_names before) ≡ true
+    (ms : List ModuleTree) (before : List Element) (k i : Name) (connections : List Connection) → ((m : ModuleTree) → Has ms m → IsModule m)
+    → list_all is_name (flat_map declared_names before) ≡ true
     → is_name i ≡ true → IsJoined ms before k connections → is_element (Instance k i connections) ≡ true
 
--- what fits in order without instances stands in order
+-- what fits in order without instances fits in order with them
 abbrev pub AloneStands : Type 0
 AloneStands = (ms : List ModuleTree) (before elements : List Element) → FitInOrder before elements → StandInOrder ms before elements
 
--- what stands behind some elements stands behind more
+-- what fits after some elements fits after more
 abbrev pub StandsBehindMore : Type 0
 StandsBehindMore = (ms : List ModuleTree) (some all : List Element) → IsAmong some all → (elements : List Element) → StandInOrder ms some elements → StandInOrder ms all elements
 
--- parts stand one after another
+-- parts fit one after another
 abbrev pub PartsStand : Type 0
 PartsStand = (ms : List ModuleTree) (before xs ys : List Element) → StandInOrder ms before xs → StandInOrder ms (before ++ xs) ys → StandInOrder ms before (xs ++ ys)
 

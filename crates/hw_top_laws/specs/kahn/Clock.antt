@@ -24,7 +24,7 @@ counts program added env n = count_at (network_of program env.scalars env.memori
 abbrev pub all_answer : Environment → ℕ → Bool
 all_answer env n = nat_lt 0 n && list_all (λ (ready : List Bool). ready_at ready n == 1) env.ready
 
--- ---- by the cycles in which memories are seen to answer, in place of an environment's lists
+-- ---- by the cycles in which memories are seen to answer, instead of an environment's lists
 
 abbrev pub answer_of : (ℕ → ℕ → Bool) → Option ℕ → ℕ → Bool
 answer_of answers None n = true

@@ -1,4 +1,4 @@
--- The names of the top of a circuit stand once each.
+-- Each name of the top of a circuit occurs once.
 use Rattle.std.specs.Prelude.{◌≡◌, ℕ, true, List, ◌∷◌}
 use Rattle.std.specs.List.{list_all, flat_map}
 use Rattle.tapa_syntax.specs.declared.program.Program.{Program}
@@ -14,9 +14,11 @@ use Rattle.hw_top_lines.specs.Texts.{top_elements}
 -- no name is declared twice
 abbrev pub TopNamesAreOnce : Type 0
 TopNamesAreOnce =
-    (program : Program) (added : List ℕ) → IsWellFormed program → HasOwnNames program → IsCountable program added → AreOnce (clk ∷ rst ∷ flat_map declared_names (top_elements program added))
+    (program : Program) (added : List ℕ) → IsWellFormed program → HasOwnNames program → IsCountable program added
+    → AreOnce (clk ∷ rst ∷ flat_map declared_names (top_elements program added))
 
 -- and each is a name
 abbrev pub TopNetsAreNamed : Type 0
 TopNetsAreNamed =
-    (program : Program) (added : List ℕ) → IsWellFormed program → HasOwnNames program → IsCountable program added → list_all is_name (flat_map declared_names (top_elements program added)) ≡ true
+    (program : Program) (added : List ℕ) → IsWellFormed program → HasOwnNames program → IsCountable program added
+    → list_all is_name (flat_map declared_names (top_elements program added)) ≡ true

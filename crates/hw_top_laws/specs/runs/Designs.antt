@@ -23,7 +23,7 @@ use Rattle.hw_top_lines.specs.Texts.{token_bits, top_tree}
 use Rattle.hw_network_laws.specs.modules.Designs.{IsDesignOf}
 use Rattle.hw_top_laws.specs.runs.Parts.{instance_run, instance_rows, channel_run, streams_seen}
 
--- the module of a leaf task stands among these, and runs the leaf's machine
+-- the module of a leaf task is among these, and runs the leaf's machine
 pub record StandsForTask (leaf : Leaf) (o : Option Fsm) (all : List ModuleTree) : Type 0 where
   pub machine : Fsm
   pub is : o ≡ Some machine
@@ -49,13 +49,16 @@ pub record IsCircuit (program : Program) (added : List ℕ) (machines : ℕ → 
 -- in a run in an environment that fits it, from any power-up contents
 abbrev pub CircuitsAreDesigns : Type 0
 CircuitsAreDesigns =
-    (program : Program) → IsWellFormed program → (added : List ℕ) → AreShort added → (machines : ℕ → Option Fsm) (all : List ModuleTree) (at : ℕ) → IsCircuit program added machines all at
+    (program : Program) → IsWellFormed program → (added : List ℕ) → AreShort added → (machines : ℕ → Option Fsm) (all : List ModuleTree) (at : ℕ)
+    → IsCircuit program added machines all at
     → (env : Environment) → FitsShape env (shape_of (top_tree program added)) → (nets : ℕ → Path → Cycle) → RunsIn all (top_tree program added) env nets
     → IsDesignOf program env.scalars env.memories (slice_index added) machines (instance_run program nets) (instance_rows program env nets) (channel_run program nets) (streams_seen program nets)
 
 -- and so in a run beside memories that show a cell where they answer
 abbrev pub CircuitsAreDesignsBeside : Type 0
 CircuitsAreDesignsBeside =
-    (program : Program) → IsWellFormed program → (added : List ℕ) → AreShort added → (machines : ℕ → Option Fsm) (all : List ModuleTree) (at : ℕ) → IsCircuit program added machines all at
-    → (env : Environment) → FitsShape env (shape_of (top_tree program added)) → (answers : ℕ → ℕ → Bool) (nets : ℕ → Path → Cycle) → RunsBeside all (top_tree program added) env answers nets
+    (program : Program) → IsWellFormed program → (added : List ℕ) → AreShort added → (machines : ℕ → Option Fsm) (all : List ModuleTree) (at : ℕ)
+    → IsCircuit program added machines all at
+    → (env : Environment) → FitsShape env (shape_of (top_tree program added)) → (answers : ℕ → ℕ → Bool) (nets : ℕ → Path → Cycle)
+    → RunsBeside all (top_tree program added) env answers nets
     → IsDesignOf program env.scalars env.memories (slice_index added) machines (instance_run program nets) (instance_rows program env nets) (channel_run program nets) (streams_seen program nets)

@@ -11,8 +11,8 @@ pub fn law_top_outside()
     ensures streams { TopsHaveStreams }
 {}
 
-/// Where an output of an instance of the top rests on an input of it, the input's net stands before the output's, and what a
-/// memory answers stands behind the place that it is asked for. So no net of the top rests on itself, and no name of the
+/// Where an output of an instance of the top depends on an input of it, the input's net is declared before the output's, and what a
+/// memory answers is declared after the address that it is asked for. So no net of the top depends on itself, and no name of the
 /// circuit is on a loop.
 pub fn law_designs_are_loopless()
     ensures order { TopsKeepOrder }
@@ -21,13 +21,13 @@ pub fn law_designs_are_loopless()
     ensures designs { DesignsAreLoopless }
 {}
 
-/// No output of a circuit rests on an input of it within a cycle: a memory around it may answer by what it is asked in the same
+/// No output of a circuit depends on an input of it within a cycle: a memory around it may answer by what it is asked in the same
 /// cycle.
 pub fn law_designs_rest_on_no_input()
     ensures { DesignsRestOnNoInput }
 {}
 
-/// The modules of a circuit break no rule on names, widths and drivers. The top alone stands in no other module, its ports are
+/// The modules of a circuit break no rule on names, widths and drivers. The top alone is in no other module, its ports are
 /// those of a design, and the clock of an instance is the clock. So a circuit is a design with this top.
 pub fn law_designs_are_legal()
     ensures sound { DesignsAreSound }

@@ -3,7 +3,7 @@
 ghost use Rattle.hw_top_laws.specs.modules.Lower.{ChannelsAreFound, LowerAreApart, LowerAreModules, LowerAreRight, LowerIsSound, LowerPortsAreOnce, TasksAreFound, TopIsApart};
 
 /// No two modules below the top have one name, and none has the top's; each channel's and each used leaf task's modules are
-/// found there by their names.
+/// there under their names.
 pub fn law_modules_are_apart()
     ensures apart { LowerAreApart }
     ensures top { TopIsApart }

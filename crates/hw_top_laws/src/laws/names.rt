@@ -2,7 +2,7 @@
 
 ghost use Rattle.hw_top_laws.specs.names.Names.{TopNamesAreOnce, TopNetsAreNamed};
 
-/// No name is declared twice in the top of a circuit, and each is one: the parts of its program are told apart by their
+/// No name is declared twice in the top of a circuit, and each is one: the parts of its program have distinct
 /// labels, and numbers are below 2^64.
 pub fn law_top_names()
     ensures once { TopNamesAreOnce }

@@ -18,7 +18,7 @@ use Rattle.vlog_tree.specs.Labels.{address_of}
 use Rattle.vlog_tree.specs.Table.{Name, declared, port_declared, declaration_name, net_kind_of, net_kind_is_read, net_kind_is_driven, net_kind_is_input, ports_of, first_violation}
 use Rattle.vlog_tree.specs.V2.{v2_uses}
 use Rattle.vlog_tree.specs.V6.{is_top, roots, first_name, has_port}
-use Rattle.vlog_tree.specs.Loops.{port_of, connection_edge, line_edges, direct_edges, memory_edges, answer_edges, asked_port, value_nets, Rests, directly, through, after, TextPlace, LiesOnLoop, IsFirst}
+use Rattle.vlog_tree.specs.Loops.{port_of, connection_edge, line_edges, direct_edges, memory_edges, answer_edges, asked_port, value_nets, Rests, directly, through, after, TextPlace, LiesOnLoop, IsFirstIn}
 use Rattle.vlog_tree.specs.Flattened.{FlatNet, parts, outer_parts, lines_of}
 use Rattle.vlog_tree.specs.Refused.{IsSound, Refuses}
 use Rattle.tapa_base.proofs.Lists.{has_flat, of_flat, has_map, of_map, has_split, chains}
@@ -197,4 +197,4 @@ pub loops_are_flat : (ms : List ModuleTree) (root : ModuleTree) (s : TextPlace) 
 loops_are_flat ms root s forms sound only flat h = loop_of ms forms sound.names root only flat s h
 
 pub refused_is_flat : (ms : List ModuleTree) (root : ModuleTree) (x : Name) → AllByRecursion IsModule ms → roots ms ≡ root ∷ [] → ContainsNoneItself ms → Refuses ms (V5 x) → HasLoop ms root
-refused_is_flat ms root x forms only flat h = let first : IsFirst (LiesOnLoop ms (is_top ms)) _ h.1.0 = h.1.1 in loops_are_flat ms root h.1.0 forms h.0 only flat first.this
+refused_is_flat ms root x forms only flat h = let first : IsFirstIn (LiesOnLoop ms (is_top ms)) _ h.1.0 = h.1.1 in loops_are_flat ms root h.1.0 forms h.0 only flat first.this

@@ -14,7 +14,7 @@ use Rattle.vlog_tree.specs.Refused.{IsSound, Refuses}
 abbrev pub ContainsNoneItself : List ModuleTree → Type 0
 ContainsNoneItself ms = (x : Name) → Reaches (containment ms) x x → ⊥
 
--- some net of the flattened design rests on itself within a cycle
+-- some net of the flattened design depends on itself within a cycle
 abbrev pub HasLoop : List ModuleTree → ModuleTree → Type 0
 HasLoop ms root = (n : FlatNet) × OnLoop (parts ms root true) n
 

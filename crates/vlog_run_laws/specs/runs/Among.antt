@@ -23,7 +23,8 @@ pub record StandsAmong (top : ModuleTree) (env : Environment) (answers : ℕ →
       ≡ (if answers i n then unwrap_or (slice_get (cells_at run l.name (slice_index_or env.memories i []) n) ((run n).net (m_addr l.name))) 0 else others i n)
 
 -- a run of a design beside them from these contents
-pub record IsRunAmong (ms : List ModuleTree) (top : ModuleTree) (env : Environment) (answers : ℕ → ℕ → Bool) (others : ℕ → ℕ → ℕ) (contents : Path → Cycle) (nets : ℕ → Path → Cycle) : Type 0 where
+pub record IsRunAmong (ms : List ModuleTree) (top : ModuleTree) (env : Environment) (answers : ℕ → ℕ → Bool) (others : ℕ → ℕ → ℕ)
+    (contents : Path → Cycle) (nets : ℕ → Path → Cycle) : Type 0 where
   pub runs : Runs ms top nets
   pub stands : StandsAmong top env answers others (λ n. nets n [])
   pub begins : BeginsWith ms top contents nets

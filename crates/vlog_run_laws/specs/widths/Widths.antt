@@ -92,7 +92,9 @@ pub record DriverFits (s : Sizes) (w : ℕ) (c : Cycle) (e : Value) : Type 0 whe
 
 -- each driver of a module fits in this cycle, by sizes that its ports and lines allow
 abbrev pub DriversFit : ModuleTree → Cycle → Type 0
-DriversFit m c = (s : Sizes) → AllByRecursion (PortHolds s) m.ports → AllByRecursion (Holds s c) m.items → (x : Name) (e : Value) → Has m.items (Assign x e) → DriverFits s (bits_of (declared m) x) c e
+DriversFit m c =
+    (s : Sizes) → AllByRecursion (PortHolds s) m.ports → AllByRecursion (Holds s c) m.items
+    → (x : Name) (e : Value) → Has m.items (Assign x e) → DriverFits s (bits_of (declared m) x) c e
 
 -- what a module is given in a cycle fits: its own inputs, and the nets that outputs of its instances drive
 pub record GivenFits (ms : List ModuleTree) (m : ModuleTree) (c : Cycle) : Type 0 where

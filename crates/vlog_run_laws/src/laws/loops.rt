@@ -2,8 +2,8 @@
 
 ghost use Rattle.vlog_run_laws.specs.loops.Loops.{LoopsAreFlat, RefusedLoopsAreFlat};
 
-/// A place of the text that lies on a loop, by its module's lines and what instances do inside, shows a net of the flattened
-/// design that rests on itself within a cycle. Modules have the form of modules, since a name with a dot could be taken for
+/// A position of the text that lies on a loop, by its module's lines and what instances do inside, shows a net of the flattened
+/// design that depends on itself within a cycle. Modules have the form of modules, since a name with a dot could be taken for
 /// a port of an instance.
 pub fn law_loops_are_flat()
     ensures { LoopsAreFlat }

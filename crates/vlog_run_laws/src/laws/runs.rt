@@ -12,8 +12,8 @@ ghost use Rattle.vlog_run_laws.specs.runs.Filled.{FillFits, FilledIsFilled};
 ghost use Rattle.vlog_run_laws.specs.runs.OneRun.{FitsPowerUp, IsRunOf, IsRunFrom, IsOnly};
 ghost use Rattle.vlog_tree.specs.Environment.{Environment};
 
-/// In a design each net of the flattened tree rests on others in finitely many steps, where what a memory of the top
-/// gives rests on the address that it is asked for.
+/// In a design each net of the flattened tree depends on others in finitely many steps, where a memory's read data at the top
+/// depends on its address.
 pub fn law_design_is_grounded()
     ensures { (ms : List ModuleTree) (top : ℕ) (m : ModuleTree) → IsDesign ms top → slice_get ms top ≡ Some m → (n : FlatNet) → IsGrounded (parts ms m true) n }
 {}

@@ -7,7 +7,7 @@ use Rattle.vlog_tree.specs.Environment.{tokens}
 use Rattle.vlog_run_laws.proofs.runs.Sound.{true_not_false}
 use Rattle.vlog_design.specs.Environments.{lists_of}
 use Rattle.cycle_sim.specs.Simulators.{sim_of}
-use Rattle.cycle_sim.specs.Sims.{IsNext, IsLater, AreAdded, IsRunTo}
+use Rattle.cycle_sim.specs.Sims.{IsNext, IsLater, AreTokensAdded, IsRunTo}
 use Rattle.cycle_sim.proofs.Adding.{tokens_next, later_next, later_none, run_on}
 use Rattle.cycle_sim.proofs.sim.run_cycles.Goals as goal
 
@@ -21,7 +21,7 @@ returns-then-done-clause-tokens c =
     let w : (with_items v c.go_on.new.tokens).items ≡ c.go_on.new.tokens = with_items_is v c.go_on.new.tokens long in
     let old : List (List Token) = lists_of v.items in
     let new : List (List Token) = lists_of (with_items v c.go_on.new.tokens).items in
-    let added : AreAdded next old new = subst (λ l. AreAdded next old (lists_of l)) (sym w) (subst (λ l. AreAdded next (lists_of l) (lists_of c.go_on.new.tokens)) c.deref_mut.ensures.value c.in_ok-go_on.ensures.added) in
+    let added : AreTokensAdded next old new = subst (λ l. AreTokensAdded next old (lists_of l)) (sym w) (subst (λ l. AreTokensAdded next (lists_of l) (lists_of c.go_on.new.tokens)) c.deref_mut.ensures.value c.in_ok-go_on.ensures.added) in
     let step : IsNext now next = c.in_ok-go_on.ensures.next in
     let run : IsRunTo first now old = c.loop-cycle.invariant.1 in
     let cycle : next.told.cycle ≡ c.loop-cycle.cycle + 1 = step.cycle ∙ ap (λ n. n + 1) c.loop-cycle.invariant.0 in
@@ -37,7 +37,7 @@ loop-cycle-preserved c =
     let w : (with_items v c.go_on.new.tokens).items ≡ c.go_on.new.tokens = with_items_is v c.go_on.new.tokens long in
     let old : List (List Token) = lists_of v.items in
     let new : List (List Token) = lists_of (with_items v c.go_on.new.tokens).items in
-    let added : AreAdded next old new = subst (λ l. AreAdded next old (lists_of l)) (sym w) (subst (λ l. AreAdded next (lists_of l) (lists_of c.go_on.new.tokens)) c.deref_mut.ensures.value c.in_ok-go_on.ensures.added) in
+    let added : AreTokensAdded next old new = subst (λ l. AreTokensAdded next old (lists_of l)) (sym w) (subst (λ l. AreTokensAdded next (lists_of l) (lists_of c.go_on.new.tokens)) c.deref_mut.ensures.value c.in_ok-go_on.ensures.added) in
     let step : IsNext now next = c.in_ok-go_on.ensures.next in
     let run : IsRunTo first now old = c.loop-cycle.invariant.1 in
     let cycle : next.told.cycle ≡ c.loop-cycle.cycle + 1 = step.cycle ∙ ap (λ n. n + 1) c.loop-cycle.invariant.0 in

@@ -13,8 +13,8 @@ returns c =
       draft =
           state_grows (form c.args.shape.now) c.args.k F c.args.draft.now c.add_index.new.draft c.add_value.new.draft c.add_more.new.draft c.add_go.new.draft c.add_next_wire.new.draft c.state-state.ensures
           c.in_ok-index.ensures.draft c.in_ok-value.ensures.draft c.in_ok-add_more.ensures
-          (c.in_ok-add_go.ensures ∙ ap (λ w. with_all c.add_more.new.draft (go_of c.args.k w c.acts_late.result)) c.awaited.ensures
-          ∙ ap (λ b. with_all c.add_more.new.draft (go_of c.args.k (awaited F) b)) c.acts_late.ensures)
+          (c.in_ok-add_go.ensures ∙ ap (λ w. with_all c.add_more.new.draft (go_of c.args.k w c.needs_go.result)) c.awaited.ensures
+          ∙ ap (λ b. with_all c.add_more.new.draft (go_of c.args.k (awaited F) b)) c.needs_go.ensures)
           c.in_ok-add_next_wire.ensures;
       operands = record { index = c.in_ok-index.ensures.atom; value = c.in_ok-value.ensures.atom };
     }

@@ -1,7 +1,7 @@
 use Rattle.std.proofs.Common.{ap, ◌∙◌}
 use Rattle.hw_build.specs.Elements.{with_all}
 use Rattle.hw_build.specs.Choices.{pick_elements}
-use Rattle.hw_lines.specs.declared.nets.Choice.TheVariants.{Spot}
+use Rattle.hw_lines.specs.declared.nets.Choice.TheVariants.{ArrayIndex}
 use Rattle.hw_lines.specs.Nets.{front}
 use Rattle.hw_nets.specs.Entries.{entry_forms}
 use Rattle.hw_nets.specs.Shapes.{form}
@@ -12,4 +12,4 @@ pub returns : goal.returns
 returns c =
     let E = entry_forms c.args.found.now in
     answered_grows (form c.args.shape.now) c.args.p c.args.a E c.args.draft.now c.add_any.new.draft c.add_pick.new.draft c.add_cell.new.draft c.requires c.in_ok-add_any.ensures
-    (c.in_ok-add_pick.ensures ∙ ap (λ w. with_all c.add_any.new.draft (pick_elements w (front (Spot c.args.p c.args.a)) E)) c.index_bits-width.ensures.value) c.in_ok-add_cell.ensures
+    (c.in_ok-add_pick.ensures ∙ ap (λ w. with_all c.add_any.new.draft (pick_elements w (front (ArrayIndex c.args.p c.args.a)) E)) c.index_bits-width.ensures.value) c.in_ok-add_cell.ensures

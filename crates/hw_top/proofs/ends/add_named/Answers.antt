@@ -1,4 +1,4 @@
-use Rattle.hw_channel_lines.specs.Texts.{joined_to}
+use Rattle.hw_channel_lines.specs.Texts.{connected_to}
 use Rattle.vlog_tree.specs.Labels.{m_ack, m_addr, m_rdata, m_wdata, m_we}
 use Rattle.hw_lines.specs.declared.nets.Net.TheVariants.{Ack, Addr, Rdata, Wdata, We}
 use Rattle.hw_lines.specs.Nets.{name}
@@ -15,10 +15,10 @@ returns c =
     let three = c.join_port-3.new.ends.items in
     let four = c.join_port-4.new.ends.items in
     let all = c.join_port-5.new.ends.items in
-    let x = joined_to (name (Ack p)) (m_ack m) in
-    let y = joined_to (name (Rdata p)) (m_rdata m) in
-    let z = joined_to (name (Addr p)) (m_addr m) in
-    five_more none three four all x y z (joined_to (name (Wdata p)) (m_wdata m)) (joined_to (name (We p)) (m_we m))
+    let x = connected_to (name (Ack p)) (m_ack m) in
+    let y = connected_to (name (Rdata p)) (m_rdata m) in
+    let z = connected_to (name (Addr p)) (m_addr m) in
+    five_more none three four all x y z (connected_to (name (Wdata p)) (m_wdata m)) (connected_to (name (We p)) (m_we m))
     (three_more none one two three x y z
     (joined_as none one (name (Ack p)) c.in_ok-ack.field-0 (m_ack m) c.in_ok-join_port.ensures c.in_ok-ack.ensures)
     (joined_as one two (name (Rdata p)) c.in_ok-rdata.field-0 (m_rdata m) c.in_ok-join_port-2.ensures c.in_ok-rdata.ensures)

@@ -1,7 +1,7 @@
 use Rattle.std.proofs.Common.{◌≡◌, ◌++◌}
 use Rattle.hw_build.specs.Scope.{each}
-use Rattle.hw_top_lines.specs.Texts.{stream_ends}
+use Rattle.hw_top_lines.specs.Texts.{stream_connections}
 use Rattle.hw_top.proofs.ends.add_streams.Given as goal
 
 abbrev pub invariant-loop-p : goal.invariant-loop-p
-invariant-loop-p l = l.ends.items ≡ l.initial.ends.items ++ each (stream_ends l.program l.x l.leaf) l.p
+invariant-loop-p l = l.ends.items ≡ l.initial.ends.items ++ each (stream_connections l.program l.x l.leaf) l.p

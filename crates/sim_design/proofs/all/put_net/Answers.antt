@@ -1,6 +1,6 @@
 use Rattle.std.proofs.Common.{◌≡◌, ◌<◌, length, get_or, None, sym, subst, ap, ◌∙◌, arith}
 use Rattle.std.specs.Prelude.{is_some, IfSome}
-use Rattle.sim_design.specs.States.{IsTold, AreRead, PartsPlaced}
+use Rattle.sim_design.specs.States.{HasNumbersOf, AreRead, PartsPlaced}
 use Rattle.sim_tape.specs.Trees.{tree_of}
 use Rattle.sim_design.proofs.Telling.{kept, slots_put, placed_more, same_placed, not_placed, put_some}
 use Rattle.sim_flat.proofs.Standing.{number_low}
@@ -33,7 +33,7 @@ returns-clause-more c = λ ms top plan.
     let low : c.args.number < length c.args.pairs.now.items = omega (arith, c.args.pairs.now.ok.0) in
     let none = sym (c.is_placed.ensures ∙ ap (λ l. is_some (get_or l c.args.number None)) c.deref.ensures.value) ∙ c.if-is_placed.false in
     placed_more c.args.pairs.now.items c.args.number c.in_ok-pair.pair low none ms top f memories (tree_of c.args.tape.now) t c.in_ok-pair.ensures.extends
-    (λ n h count was. subst (λ l. IfSome c.in_ok-pair.pair (λ p. IsTold ms top f memories l t n p)) same
+    (λ n h count was. subst (λ l. IfSome c.in_ok-pair.pair (λ p. HasNumbersOf ms top f memories l t n p)) same
     (c.in_ok-pair.ensures.told ms top n plan h (subst (λ l. length l ≡ length f.owners.items) (sym same) count) (subst (λ l. AreRead ms top f l) (sym same) was)))
     (λ n m h at. c.in_ok-pair.ensures.read ms top n m plan h at)
 

@@ -2,7 +2,7 @@ use Rattle.std.proofs.Common.{◌≡◌, length, sym, ap, subst, ◌∙◌, arit
 use Rattle.vlog_tree.specs.Environment.{shape_of}
 use Rattle.sim_tape.specs.Trees.{tree_of}
 use Rattle.sim_flat.specs.Order.{IsNetOrder}
-use Rattle.sim_design.specs.States.{Tells}
+use Rattle.sim_design.specs.States.{TellsNumbers}
 use Rattle.sim_design.proofs.Giving.{given_free, given_read}
 use Rattle.sim_design.proofs.Drafting.{is_plan}
 use Rattle.sim_design.proofs.drafts.placed_of.Goals as goal
@@ -48,5 +48,5 @@ returns-clause-tells c = λ m top.
     let given = c.in_ok-pairs.ensures.given ms m flat in
     let t = tree_of c.give_all.new.tape in
     let same = c.deref.ensures.value in
-    subst (λ l. Tells ms m f c.place_all.new.pairs.items l (tree_of c.place_all.new.tape)) same
+    subst (λ l. TellsNumbers ms m f c.place_all.new.pairs.items l (tree_of c.place_all.new.tape)) same
     (c.in_ok-place_all.ensures.tells ms m (is_plan ms m _ numbers widths flat c.modules.ensures.value (c.deref-2.ensures.value ∙ shape.1) same own) c.in_ok-pairs.ensures.count (given_read ms m f pairs t given) (given_free ms m f pairs t given)).1

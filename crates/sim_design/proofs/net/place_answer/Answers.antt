@@ -2,7 +2,7 @@ use Rattle.std.proofs.Common.{◌≡◌, sym, subst, ap, ◌∙◌}
 use Rattle.std.specs.Prelude.{IfSome}
 use Rattle.vlog_tree.specs.Labels.{rdata_of}
 use Rattle.sim_tape.specs.Trees.{tree_of}
-use Rattle.sim_design.specs.States.{IsTold}
+use Rattle.sim_design.specs.States.{HasNumbersOf}
 use Rattle.sim_design.proofs.Owning.{is_answer, name_is, is_input_net, is_free, at_top}
 use Rattle.sim_design.proofs.Answering.{asked_placed}
 use Rattle.sim_design.specs.States.{PartsPlaced}
@@ -19,7 +19,7 @@ returns-clause-told c = λ ms top n plan a zero source.
     let t = c.args.table.now in
     let name = name_is ms top f plan.flat t c.args.spot c.args.place n a c.in-Some.d.now c.in-Some.ensures in
     let r = is_answer ms top f plan.flat t c.args.spot c.args.place n a zero source c.in-Some-rdata_of.label.now (ap rdata_of (sym name) ∙ sym c.in-Some-rdata_of.ensures.value) in
-    subst (λ b. IfSome c.in_ok-pair.pair (λ p. IsTold ms top f c.args.plan.now.memories.now c.args.pairs.now (tree_of c.pair_of_answer.new.tape) b p)) (sym r.3)
+    subst (λ b. IfSome c.in_ok-pair.pair (λ p. HasNumbersOf ms top f c.args.plan.now.memories.now c.args.pairs.now (tree_of c.pair_of_answer.new.tape) b p)) (sym r.3)
     (c.in_ok-pair.ensures.told ms top f c.args.plan.now.memories.now plan.flat r.0 plan.outside r.1 r.2)
 
 pub returns-clause-some : goal.returns-clause-some

@@ -21,7 +21,7 @@ use Rattle.sim_flat.specs.Edges.{table_at}
 use Rattle.sim_flat.specs.Flat.{IsFlat}
 use Rattle.sim_flat.proofs.Standing.{table_of}
 use Rattle.sim_design.specs.declared.drafts.Commit.{Commit}
-use Rattle.sim_design.specs.Left.{own_pairs, module_of_instance, AreAdded}
+use Rattle.sim_design.specs.Left.{own_pairs, module_of_instance, AreLinesAdded}
 use Rattle.sim_design.proofs.Within.{room, blocks_ready}
 use Rattle.sim_design.proofs.Following.{one_more}
 use Rattle.sim_design.proofs.rows.add_row.Goals as goal
@@ -57,10 +57,10 @@ module _ (ds es : List Declaration) (b first : ℕ) (items lines : List Item) (i
   room_by : (all : List (Option Pair)) → first + length es ≤ length all → b + length ds ≤ length all
   room_by all h = subst (λ z. z + length ds ≤ length all) (sym j) (subst (λ z. first + length z ≤ length all) (sym i) h)
 
-  added_by : (pairs memories : List (Option Pair)) (t : TapeTree) (commits more : List Commit) (stores more_stores : List Store) → AreAdded ds b items pairs memories t commits more stores more_stores → AreAdded es first lines pairs memories t commits more stores more_stores
+  added_by : (pairs memories : List (Option Pair)) (t : TapeTree) (commits more : List Commit) (stores more_stores : List Store) → AreLinesAdded ds b items pairs memories t commits more stores more_stores → AreLinesAdded es first lines pairs memories t commits more stores more_stores
   added_by pairs memories t commits more stores more_stores h =
-      subst (λ z. AreAdded es first z pairs memories t commits more stores more_stores) l
-      (subst (λ z. AreAdded es z items pairs memories t commits more stores more_stores) j (subst (λ z. AreAdded z b items pairs memories t commits more stores more_stores) i h))
+      subst (λ z. AreLinesAdded es first z pairs memories t commits more stores more_stores) l
+      (subst (λ z. AreLinesAdded es z items pairs memories t commits more stores more_stores) j (subst (λ z. AreLinesAdded z b items pairs memories t commits more stores more_stores) i h))
 
   ready_by : (pairs memories : List (Option Pair)) → AllByRecursion (IsReady es (own_pairs first es pairs) (own_pairs first es memories)) lines → AllByRecursion (IsReady ds (own_pairs b ds pairs) (own_pairs b ds memories)) items
   ready_by pairs memories h =

@@ -4,7 +4,7 @@ use Rattle.tapa_files.specs.Outside.{AppendsPart}
 use Rattle.tapa_files.proofs.Known.{appends_none, part_so_far}
 use Rattle.vlog_tree.specs.Form.{ModuleTree}
 use Rattle.vlog_tree.specs.Refused.{IsDesign}
-use Rattle.vlog_tree.specs.Environment.{IsDone}
+use Rattle.vlog_tree.specs.Environment.{RaisesDone}
 use Rattle.vlog_run_laws.proofs.runs.Sound.{true_not_false}
 use Rattle.vlog_design.specs.Designs.{DesignTree, TopOf}
 use Rattle.run_data.proofs.Joining.{on_err}

@@ -1,5 +1,5 @@
 use Rattle.std.proofs.Common.{◌≡◌, ◌+◌, ◌-◌, suc, length, drop, take, ap, sym, subst, ◌∙◌, arith, rules}
-use Rattle.stream_arrays.specs.Answers.{IsCause}
+use Rattle.stream_arrays.specs.Answers.{IsArrayCause}
 use Rattle.stream_arrays.specs.Reading.{known, adding}
 use Rattle.stream_arrays.specs.Written as spec
 use Rattle.stream_arrays.proofs.Arguments.{argument_fault, last_argument, next_argument}
@@ -16,10 +16,10 @@ returns-in_err-push_argument c =
     let text = c.args.text.now in
     let s = known c.args.scope.now in
     let e = one_more (λ n. spec.pieces_from text s c.args.count n c.loop-turn.pieces.items c.loop-turn.rest.now) _ c.loop-turn.turn c.loop-turn-test.true c.loop-turn.invariant in
-    let h : IsCause c.in_err-push_argument.field-0.0 (adding c.loop-turn.pieces.items (spec.argument_pieces text s c.args.count (take c.argument_size-size.result c.loop-turn.rest.now))) =
-    subst (λ z. IsCause c.in_err-push_argument.field-0.0 (adding c.loop-turn.pieces.items (spec.argument_pieces text s c.args.count z))) c.front.ensures c.in_err-push_argument.ensures in
-    let k : IsCause c.in_err-push_argument.field-0.0 (spec.pieces_from text s c.args.count (suc (length c.args.inside.now)) c.args.pieces.now.items c.args.inside.now) =
-    subst (λ o. IsCause c.in_err-push_argument.field-0.0 o) (sym e)
+    let h : IsArrayCause c.in_err-push_argument.field-0.0 (adding c.loop-turn.pieces.items (spec.argument_pieces text s c.args.count (take c.argument_size-size.result c.loop-turn.rest.now))) =
+    subst (λ z. IsArrayCause c.in_err-push_argument.field-0.0 (adding c.loop-turn.pieces.items (spec.argument_pieces text s c.args.count z))) c.front.ensures c.in_err-push_argument.ensures in
+    let k : IsArrayCause c.in_err-push_argument.field-0.0 (spec.pieces_from text s c.args.count (suc (length c.args.inside.now)) c.args.pieces.now.items c.args.inside.now) =
+    subst (λ o. IsArrayCause c.in_err-push_argument.field-0.0 o) (sym e)
     (argument_fault text s c.args.count (length c.args.inside.now + 1 - (c.loop-turn.turn + 1)) c.loop-turn.pieces.items c.loop-turn.rest.now c.argument_size-size.result c.in_err-push_argument.field-0.0 c.argument_size-size.ensures h) in
     search rules
 

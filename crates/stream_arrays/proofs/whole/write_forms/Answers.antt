@@ -1,6 +1,6 @@
 use Rattle.std.proofs.Common.{◌≡◌, ◌+◌, ◌-◌, ◌≤◌, ◌∷◌, [], Ok, length, length-drop, take, drop, min, ap, sym, subst, ◌∙◌, arith, rules}
 use Rattle.std.specs.Prelude.{slice_range}
-use Rattle.stream_arrays.specs.Answers.{IsCause}
+use Rattle.stream_arrays.specs.Answers.{IsArrayCause}
 use Rattle.stream_arrays.specs.Forms.{inside_size}
 use Rattle.stream_arrays.specs.Reading.{known}
 use Rattle.stream_arrays.specs.Words.{end_of}
@@ -22,10 +22,10 @@ returns-in_err-size c =
     let rest = drop at ls in
     let p = split_of c.behind-rest.result.now (omega arith) in
     let e0 : rest ≡ p.0 ∷ drop 1 c.behind-rest.result.now = sym c.behind-rest.ensures ∙ p.1 in
-    let h : IsCause c.in_err-size.field-0.0 (spec.step text s (take at ls) rest) =
-    subst (λ z. IsCause c.in_err-size.field-0.0 (spec.step text s (take at ls) z)) c.behind-rest.ensures (subst (λ z. IsCause c.in_err-size.field-0.0 (spec.step text s z c.behind-rest.result.now)) c.front-before.ensures c.in_err-size.ensures.steps) in
-    let k : IsCause c.in_err-size.field-0.0 (ending (writing c.args.out.now).text (spec.whole text ls)) =
-    subst (λ o. IsCause c.in_err-size.field-0.0 o) (sym (one_more (λ n. ending w (spec.written_from text n s (take at ls) c.loop-turn.end rest)) _ c.loop-turn.turn c.loop-turn-test.true c.loop-turn.invariant.written))
+    let h : IsArrayCause c.in_err-size.field-0.0 (spec.step text s (take at ls) rest) =
+    subst (λ z. IsArrayCause c.in_err-size.field-0.0 (spec.step text s (take at ls) z)) c.behind-rest.ensures (subst (λ z. IsArrayCause c.in_err-size.field-0.0 (spec.step text s z c.behind-rest.result.now)) c.front-before.ensures c.in_err-size.ensures.steps) in
+    let k : IsArrayCause c.in_err-size.field-0.0 (ending (writing c.args.out.now).text (spec.whole text ls)) =
+    subst (λ o. IsArrayCause c.in_err-size.field-0.0 o) (sym (one_more (λ n. ending w (spec.written_from text n s (take at ls) c.loop-turn.end rest)) _ c.loop-turn.turn c.loop-turn-test.true c.loop-turn.invariant.written))
     (form_fault text ls _ s at c.loop-turn.end p.0 (drop 1 c.behind-rest.result.now) w c.in_err-size.field-0.0 e0 h) in
     search rules
 

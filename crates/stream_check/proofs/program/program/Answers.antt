@@ -1,7 +1,7 @@
 use Rattle.std.proofs.Common.{◌≡◌, List, [], Some, map, sym, ap, subst, ◌∙◌}
 use Rattle.std.specs.Prelude.{Err, slice_get}
 use Rattle.std.proofs.lemmas.Result.{err_from_is_err_and}
-use Rattle.check_scope.specs.Answers.{Answers}
+use Rattle.check_scope.specs.Answers.{ScopeAnswers}
 use Rattle.check_upper.specs.declared.task.Task.{Task}
 use Rattle.check_upper.specs.Views.{task_view}
 use Rattle.stream_check.specs.Programs.{limit_faults, top_parts}
@@ -18,7 +18,7 @@ returns-in_err-parts c =
     let task = task_view c.in-Some.task.now in
     let there : slice_get tasks n ≡ Some task = sym (c.in-Some.ensures ∙ ap (λ xs. slice_get (map task_view xs) n) c.deref.ensures.value) in
     let parts = λ (xs : List Task). top_parts c.args.levels (map task_view xs) n task.declared in
-    let told = subst (λ (xs : List Task). Answers {A = Unit {0}} (λ x. flat_parts (parts xs)) (Err e) (limit_faults 0 0 (parts xs)) (flat_parts (parts xs))) c.deref-2.ensures.value c.in_err-parts.ensures in
+    let told = subst (λ (xs : List Task). ScopeAnswers {A = Unit {0}} (λ x. flat_parts (parts xs)) (Err e) (limit_faults 0 0 (parts xs)) (flat_parts (parts xs))) c.deref-2.ensures.value c.in_err-parts.ensures in
     rw (q.1, q.2) (whole_stops c.args.levels tasks n task e (flat_parts (parts c.args.tasks.items)) _ there c.in_ok-check_top.ensures.0 told)
 
 pub returns : goal.returns

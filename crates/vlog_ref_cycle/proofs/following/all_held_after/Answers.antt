@@ -2,7 +2,7 @@ use Rattle.std.proofs.Common.{◌≡◌, suc, ◌<◌, true, Option, length, get
 use Rattle.std.specs.Prelude.{is_some, IfSome}
 use Rattle.std.specs.List.{list_all}
 use Rattle.vlog_values.specs.declared.moment.Held.{Held}
-use Rattle.vlog_ref_cycle.specs.Moments.{HeldIs, InRuns}
+use Rattle.vlog_ref_cycle.specs.Moments.{HeldIs, InEachRun}
 use Rattle.vlog_ref_cycle.specs.Next.{IsAlike, held_known}
 use Rattle.vlog_ref_cycle.proofs.Leaves.{taken_more}
 use Rattle.vlog_ref_cycle.proofs.Listed.{passed, held_more}
@@ -23,6 +23,6 @@ loop-h-preserved c =
       known = passed (held_known design now c.args.depth) hs c.loop-h.h-index h (list_all (held_known design now c.args.depth) hs) low is known c.loop-h.invariant.known;
       alike = taken_more IsAlike hs c.loop-h.h-index h c.loop-h.out.items c.push.new.self.items k low is c.loop-h.invariant.alike alike c.in_ok-push-in-Some.ensures.items;
       value = held_more design now c.loop-h.h-index h k c.loop-h.out.items c.push.new.self.items low is c.loop-h.invariant.value
-          (subst (λ (o : Option Held). IfSome o (λ k. InRuns design now (λ env nets. HeldIs design.modules.now design.top.now (nets now.cycle) h → HeldIs design.modules.now design.top.now (nets (suc now.cycle)) k))) c.in-Some.is c.in_ok-after.ensures.value)
+          (subst (λ (o : Option Held). IfSome o (λ k. InEachRun design now (λ env nets. HeldIs design.modules.now design.top.now (nets now.cycle) h → HeldIs design.modules.now design.top.now (nets (suc now.cycle)) k))) c.in-Some.is c.in_ok-after.ensures.value)
           c.in_ok-push-in-Some.ensures.items;
     }

@@ -2,7 +2,7 @@ use Rattle.std.proofs.Common.{◌≡◌, ◌<◌, ◌≤◌, true, [], Option, l
 use Rattle.std.specs.Prelude.{is_some, IfSome}
 use Rattle.std.specs.List.{list_all}
 use Rattle.vlog_values.specs.declared.moment.OutsideMemory.{OutsideMemory}
-use Rattle.vlog_ref_cycle.specs.Moments.{InRuns}
+use Rattle.vlog_ref_cycle.specs.Moments.{InEachRun}
 use Rattle.vlog_ref_cycle.specs.Next.{outside_known, IsAfterStore, IsSameMemory}
 use Rattle.vlog_ref_cycle.proofs.Leaves.{taken_more}
 use Rattle.vlog_ref_cycle.proofs.InRuns.{all_taken}
@@ -24,7 +24,7 @@ loop-m-preserved c =
       known = passed (outside_known design now c.args.depth) ms c.loop-m.m-index m (list_all (outside_known design now c.args.depth) ms) low is known c.loop-m.invariant.known;
       same = taken_more IsSameMemory ms c.loop-m.m-index m c.loop-m.out.items c.push.new.self.items k low is c.loop-m.invariant.same same c.in_ok-push-in-Some.ensures.items;
       value = outside_more design now c.loop-m.m-index m k c.loop-m.out.items c.push.new.self.items low is c.loop-m.invariant.value
-          (subst (λ (o : Option OutsideMemory). IfSome o (λ k. InRuns design now (λ env nets. IsAfterStore (nets now.cycle []) m k))) c.in-Some.is c.in_ok-after.ensures.value)
+          (subst (λ (o : Option OutsideMemory). IfSome o (λ k. InEachRun design now (λ env nets. IsAfterStore (nets now.cycle []) m k))) c.in-Some.is c.in_ok-after.ensures.value)
           c.in_ok-push-in-Some.ensures.items;
     }
 

@@ -4,12 +4,12 @@ use Rattle.vlog_tree.specs.declared.fault.VFault.TheVariants.{V1, V2, V3, V4, V5
 use Rattle.vlog_tree.specs.Form.{ModuleTree}
 use Rattle.tapa_base.specs.Lists.{Has}
 use Rattle.vlog_tree.specs.V6.{is_top}
-use Rattle.vlog_tree.specs.Loops.{TextPlace, text_places, LiesOnLoop, IsFirst}
+use Rattle.vlog_tree.specs.Loops.{TextPlace, text_places, LiesOnLoop, IsFirstIn}
 use Rattle.vlog_tree.specs.Refused.{Refuses, IsDesign}
 use Rattle.tapa_base.proofs.Lists.{has_right}
 use Rattle.vlog_tree.proofs.laws.law_design_is_not_refused.Goals as goal
 
-there : {A : Type 0} (P : A → Type 0) (xs : List A) (x : A) → IsFirst P xs x → Has xs x
+there : {A : Type 0} (P : A → Type 0) (xs : List A) (x : A) → IsFirstIn P xs x → Has xs x
 there P xs x f = subst (λ l. Has l x) (sym f.split) (has_right f.before (x ∷ f.after) x (inl refl))
 
 not_refused : (ms : List ModuleTree) (top : _) (e : VFault) → IsDesign ms top → Refuses ms e → e ≡ OutOfMemory

@@ -1,7 +1,7 @@
 use Rattle.std.proofs.Common.{sym, ap, subst}
 use Rattle.vlog_design.specs.Designs.{DesignTree, TopOf}
 use Rattle.vlog_design.specs.Environments.{environment_of, lists_of}
-use Rattle.cycle_sim.specs.Told.{IsTold}
+use Rattle.cycle_sim.specs.Told.{TellsEachRun}
 use Rattle.cycle_sim.specs.Wholes.{sim_tree}
 use Rattle.cycle_sim.proofs.simulator.Sim.new.Goals as goal
 
@@ -16,6 +16,6 @@ returns c =
       cycle = c.in_ok-state.ensures.cycle;
       ready = c.in_ok-parts.ensures.ready;
       told = λ m at fits.
-          subst (λ (d : DesignTree). IsTold d.modules m env c.args.fill (sim_tree p s).told) same
+          subst (λ (d : DesignTree). TellsEachRun d.modules m env c.args.fill (sim_tree p s).told) same
           (c.in_ok-state.ensures.told m env (subst (λ (d : DesignTree). TopOf d m) (sym same) at) fits (sym c.in_ok-parts.ensures.scalars) (ap lists_of (sym c.deref.ensures.value)));
     }

@@ -4,7 +4,7 @@ use Rattle.net_core.specs.Settle.{IsSettled}
 use Rattle.net_case.specs.declared.case_state.CaseState.{CaseState}
 use Rattle.net_case.specs.State.{network, count, net_of, AreAllHome}
 use Rattle.net_case.specs.Claims.{IsFinished, MustWait, IsEnd}
-use Rattle.net_case.specs.Over.{Answers}
+use Rattle.net_case.specs.Over.{ClaimAnswers}
 use Rattle.net_case.proofs.Finish.{must_wait, is_end}
 use Rattle.net_case.proofs.case.Case.idle.Goals as goal
 
@@ -22,6 +22,6 @@ returns-else-some_out g c =
     let I = c.self.inside in
     let o = c.outcome.result in
     let finished = subst IsFinished (sym c.self.view_is) c.requires in
-    let a = subst (λ (v : CaseState). Answers (network v) v.budget (count v) o) (sym c.self.view_is) c.outcome.ensures.answer in
+    let a = subst (λ (v : CaseState). ClaimAnswers (network v) v.budget (count v) o) (sym c.self.view_is) c.outcome.ensures.answer in
     let s = subst (λ (v : CaseState). IsSettled (net_of v) o) (sym c.self.view_is) c.outcome.ensures.settled in
     subst (λ (v : CaseState). IsEnd v o v) c.self.view_is (is_end g.B.Body.stands (arc_value I.program) (arc_value I.input) I.budget I.homes.items I.queues.items I.taken.items I.offered.items I.counts.items I.pauses.items I.listed.items I.joined I.writers.items I.fed_by_self.items c.self.invariant.0 c.if-some_out.ensures finished o a s)

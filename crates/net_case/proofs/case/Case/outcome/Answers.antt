@@ -8,7 +8,7 @@ use Rattle.net_core.specs.Settle.{AreJoinedTold, IsSettled}
 use Rattle.net_case.specs.declared.case_state.CaseState.{CaseState}
 use Rattle.net_case.specs.State.{network, count, net_of, AreAllHome}
 use Rattle.net_case.specs.Claims.{IsFinished}
-use Rattle.net_case.specs.Over.{Answers}
+use Rattle.net_case.specs.Over.{ClaimAnswers}
 use Rattle.net_case.proofs.Finish.{answers, settles}
 use Rattle.net_case.proofs.case.Case.outcome.Goals as goal
 
@@ -19,8 +19,8 @@ returns-clause-answer g c =
     let home = subst AreAllHome (sym c.self.view_is) c.requires.home in
     let finished = subst IsFinished (sym c.self.view_is) c.requires.finished in
     let d = subst (λ (v : CaseState). MatchBool r (HaveJoinedEnded (network v) (count v)) (HasJoinedLeft (network v) (count v))) (sym c.self.view_is) c.is_done-done.ensures.ended in
-    subst (λ (v : CaseState). Answers (network v) v.budget (count v) c.ending.result) c.self.view_is
-    (subst (λ (o : Outcome). Answers (network_on (arc_value I.program) (arc_value I.input)) I.budget (count_of I.counts.items) o) (sym c.ending.ensures)
+    subst (λ (v : CaseState). ClaimAnswers (network v) v.budget (count v) c.ending.result) c.self.view_is
+    (subst (λ (o : Outcome). ClaimAnswers (network_on (arc_value I.program) (arc_value I.input)) I.budget (count_of I.counts.items) o) (sym c.ending.ensures)
     (answers g.B.Body.stands (arc_value I.program) (arc_value I.input) I.budget I.homes.items I.queues.items I.taken.items I.offered.items I.counts.items I.pauses.items I.listed.items I.joined I.writers.items I.fed_by_self.items c.self.invariant.0 home finished r c.goes_on-on.result d c.goes_on-on.ensures))
 
 pub returns-clause-settled : goal.returns-clause-settled

@@ -1,14 +1,13 @@
-ghost use Rattle.std.specs.Prelude.{◌≤◌, length};
-
+// Tests of runs: each report against the streams and traces that the slow functions compute, for programs that end and that stop.
 use crate::probes::{OPERATORS, STATEMENTS};
 use crate::programs::{
-    ARRAYS, BAD_TOKEN, CROSSING_ENDS, CROSSING_STOPS, FEEDBACK, GIVEN_NUMBERS, LEVELS,
-    LOOKS_FOR_EOT, MIX, NESTED_TRANSACTIONS, NO_TRANSACTION, PATH, PEEKS, RING, SELF_LOOP, SERVER,
-    STARVED, TRANSACTIONS,
+    ARRAYS, BAD_TOKEN, CROSSING_ENDS, FEEDBACK, GIVEN_NUMBERS, LEVELS, LOOKS_FOR_EOT, MIX,
+    NESTED_TRANSACTIONS, NO_TRANSACTION, PEEKS, RING, SELF_LOOP, SERVER, STARVED, TRANSACTIONS,
 };
 use coro_threads::{Crew, OpenGate};
 use kahn_reference::rounds::streams;
 use kahn_reference::slow::{Variables, trace};
+use layer_tests::{CROSSING_STOPS, PATH, short};
 use run_data::{Last, report_last, report_stream};
 use run_program::{RunEnd, run_program};
 use std::alloc::{AllocError, Global};
@@ -22,14 +21,6 @@ use tapa_syntax::{Bound, Instance, Leaf, Program};
 
 // More rounds than any of these programs needs.
 const ROUNDS: u64 = 24;
-
-// The bytes of a source, which is short.
-pub fn short(text: &str) -> &[u8]
-    ensures { length result.now ≤ 4096 }
-{
-    let bytes = text.as_bytes();
-    if bytes.len() <= 4096 { bytes } else { &[] }
-}
 
 // The variables of an instance before its first tick: zeros, and the numbers that its scalar parameters are given.
 fn first_state(alloc: Global, leaf: &Leaf, instance: &Instance) -> Result<Variables, AllocError> {
@@ -50,7 +41,7 @@ fn first_state(alloc: Global, leaf: &Leaf, instance: &Instance) -> Result<Variab
     })
 }
 
-// The ticks that all joined instances make on these tokens.
+// The ticks that all instances that are waited for make on these tokens.
 fn ticks_in_all(alloc: Global, program: &Program, lists: &[Vec<Token>]) -> Result<u64, Fail> {
     let mut total: u64 = 0;
     for instance in &program.instances {
@@ -119,7 +110,7 @@ fn with_body(alloc: Global, kind: &str, body: &str) -> Result<String, Fail> {
 }
 
 // Each small body runs to its end; its report is that of the whole Kahn stream and of the traces on it, and shows the
-// tokens that stand beside it.
+// tokens that are listed beside it.
 #[test]
 fn small_bodies_are_the_rounds(rt: HostRuntime) -> Result<(), Fail> {
     let alloc = rt.alloc();
@@ -165,7 +156,7 @@ fn ended_runs_are_the_rounds(rt: HostRuntime) -> Result<(), Fail> {
     Ok(())
 }
 
-// Where a run stops, each stream has carried a front part of its Kahn stream.
+// Where a run stops, each stream has carried a prefix of its Kahn stream.
 #[test]
 fn stopped_runs_are_front_parts(rt: HostRuntime) -> Result<(), Fail> {
     let alloc = rt.alloc();
