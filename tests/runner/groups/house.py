@@ -1,4 +1,4 @@
-"""How the crates are built: no crate without code but for laws and lines, small functions and files, few arguments, no body twice, no definition that nothing names, no comment that leans on another.
+"""How the crates are built: no crate without code but for laws and lines, small crates, functions and files, few arguments, no body twice, no definition that nothing names, no comment that leans on another.
 
 What does not hold yet stands in exceptions.txt, one line each; `tests/run.py house` prints what is found. A new exception is refused, and so is a line that holds no more."""
 import os
@@ -6,7 +6,7 @@ import re
 
 from runner.trial import ROOT, read
 
-LINES, FILE, ARGUMENTS = 40, 500, 8
+LINES, FILE, CRATE, ARGUMENTS = 40, 500, 1500, 8
 # Bodies of fewer letters are not looked at for copies.
 COPY = 80
 EXCEPTIONS = "tests/runner/exceptions.txt"
@@ -106,9 +106,10 @@ def leaning(text):
 
 def found_in(crate, bodies):
     """What of a crate is an exception; its bodies are put beside those of the others."""
-    has_code = False
+    has_code, lines = False, 0
     for path, text in files(crate):
         name = os.path.basename(path)
+        lines += sum(bool(line.strip()) for line in blank_comments(text).splitlines())
         if len(text.splitlines()) > FILE:
             yield f"file {name}"
         has_code |= bool(re.search(r"^\s*pub (?:struct|enum|trait) ", text, re.M))
@@ -127,6 +128,8 @@ def found_in(crate, bodies):
             yield f"file {os.path.basename(path)}"
         if "/specs/" in path:
             yield from (f"comment {comment[:80]}" for comment in leaning(text))
+    if lines >= CRATE:
+        yield f"size {crate}"
     if not has_code and not crate.endswith(("_laws", "_lines")):
         yield f"crate {crate}"
 

@@ -1,4 +1,4 @@
-"""What of the crates is not as CONTRIBUTING.md wants it: large functions and files, many arguments, bodies that stand twice, definitions that nothing names, comments that lean on another, crates without code.
+"""What of the crates is not as CONTRIBUTING.md wants it: large crates, functions and files, many arguments, bodies that stand twice, definitions that nothing names, comments that lean on another, crates without code.
 
 The runner refuses what is not in tests/runner/exceptions.txt, and what there holds no more.
 """
