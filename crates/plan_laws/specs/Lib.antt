@@ -1,0 +1,3 @@
+pub mod OneGraph
+pub mod OneDevice
+pub mod OnePlan
