@@ -1,0 +1,6 @@
+pub mod Unmoved
+pub mod Prefix
+pub mod Beside
+pub mod Fixed
+pub mod OneRun
+pub mod Circuits

@@ -1,0 +1,2 @@
+pub mod Reactive
+pub mod Circuits

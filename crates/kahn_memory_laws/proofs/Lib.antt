@@ -1,0 +1,10 @@
+pub mod Behaviors
+pub mod Stores
+pub mod Cells
+pub mod Flags
+pub mod Statements
+pub mod Leaves
+pub mod Uppers
+pub mod Tasks
+pub mod Parts
+pub mod Programs
