@@ -95,9 +95,11 @@ module _ (text top bytes : List ℕ) where
         let slots = (plan_once Lines Lines told more one two).0 in
         let borders : AreBorderLatencies two.graph two.device one.plan.slot.items two.is.1.latencies =
         subst (λ (xs : List ℕ). AreBorderLatencies two.graph two.device xs two.is.1.latencies) (sym slots) two.is.1.borders in
-        balance_same one.graph two.graph one.device two.device graphs devices one.plan.slot.items one.is.1.latencies two.is.1.latencies one.is.1.balance two.is.1.balance one.is.1.borders borders one.is.1.best two.is.1.best
+        balance_same one.graph two.graph one.device two.device graphs devices one.plan.slot.items one.is.1.latencies two.is.1.latencies
+        one.is.1.balance two.is.1.balance one.is.1.borders borders one.is.1.best two.is.1.best
 
-    pub builds_what_is_printed : (told more : List ℕ) (printed : HasPlan text top bytes mode Lines told) (built : HasPlan text top bytes mode (Circuit true) more) (e : ℕ) → e < streams printed.graph
+    pub builds_what_is_printed : (told more : List ℕ) (printed : HasPlan text top bytes mode Lines told) (built : HasPlan text top bytes mode (Circuit true) more) (e : ℕ)
+        → e < streams printed.graph
         → slice_index built.is.added e ≡ slice_index printed.is.1.latencies e + balance_of printed.graph printed.is.1.latencies printed.is.1.balance.s.items e
     builds_what_is_printed told more printed built e inside =
         let graphs = same_graph printed.program built.program printed.graph built.graph printed.device built.device printed.asked built.asked in
@@ -105,7 +107,8 @@ module _ (text top bytes : List ℕ) where
         let slots = (plan_once Lines (Circuit true) told more printed built).0 in
         let are : AreAdded built.graph built.device printed.plan.slot.items true built.is.added =
         subst (λ (xs : List ℕ). AreAdded built.graph built.device xs true built.is.added) (sym slots) built.is.are in
-        added_same printed.graph built.graph printed.device built.device graphs devices printed.plan.slot.items printed.is.1.latencies printed.is.1.balance built.is.added printed.is.1.borders printed.is.1.best are e inside
+        added_same printed.graph built.graph printed.device built.device graphs devices printed.plan.slot.items printed.is.1.latencies
+        printed.is.1.balance built.is.added printed.is.1.borders printed.is.1.best are e inside
 
     -- with the same device file two meanings are one
     on_once : (aim : PlanAim) (m n : PlanMeaning) → MeansOn text top (Bytes bytes) mode aim m → MeansOn text top (Bytes bytes) mode aim n → IsSamePlan m n

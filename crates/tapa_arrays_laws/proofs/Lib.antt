@@ -1,0 +1,10 @@
+pub mod Follows
+pub mod Lines
+pub mod Pieced
+pub mod Terminals
+pub mod Apart
+pub mod Holds
+pub mod Words
+pub mod Invokes
+pub mod FormFits
+pub mod Copied
