@@ -1,8 +1,0 @@
-use Rattle.tapa_arrays_laws.proofs.Copied.{have_lexemes, not_refused}
-use Rattle.tapa_arrays_laws.proofs.laws.law_written_out_texts_have_lexemes.Goals as goal
-
-pub returns-clause-lexemes : goal.returns-clause-lexemes
-returns-clause-lexemes c = have_lexemes
-
-pub returns-clause-refused : goal.returns-clause-refused
-returns-clause-refused c = not_refused

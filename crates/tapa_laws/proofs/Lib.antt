@@ -1,0 +1,5 @@
+pub mod written
+pub mod kahn
+pub mod memories
+pub mod circuits
+pub mod plans

@@ -1,0 +1,30 @@
+// What a source and a device file have one of: the contracts of functions that do nothing.
+ghost use Rattle.tapa_laws.specs.plans.OneGraph.{ProgramsHaveOneGraph, SourcesHaveOneGraph};
+ghost use Rattle.tapa_laws.specs.plans.OneDevice.{SourcesHaveOneDevice, SourcesHaveOneDeviceFault, DevicesHaveNoFault};
+ghost use Rattle.tapa_laws.specs.plans.OnePlan.{PlansMeanOneThing, SourcesHaveOnePlan, SourcesPrintOneBalance, SourcesBuildWhatPlanPrints};
+
+/// A source has one graph: its labels, groups, estimated uses and edges.
+pub fn law_one_graph()
+    ensures program { ProgramsHaveOneGraph }
+    ensures source { SourcesHaveOneGraph }
+{}
+
+/// A device file gives a source one device, or has one first fault for it, and never both.
+pub fn law_one_source_device()
+    ensures device { SourcesHaveOneDevice }
+    ensures fault { SourcesHaveOneDeviceFault }
+    ensures either { DevicesHaveNoFault }
+{}
+
+/// A source has at most one meaning with a device file: one plan by a mode, reported as lines or as a circuit, one reason for none,
+/// one fault of the device file, or one refusal.
+pub fn law_one_plan_meaning()
+    ensures one { PlansMeanOneThing }
+    ensures plan { SourcesHaveOnePlan }
+    ensures balance { SourcesPrintOneBalance }
+{}
+
+/// What `build` adds to a stream of a source by a device file, balanced, is the latency and the balance that `plan` prints for it.
+pub fn law_sources_build_what_plan_prints()
+    ensures { SourcesBuildWhatPlanPrints }
+{}
