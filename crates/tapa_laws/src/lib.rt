@@ -1,6 +1,6 @@
 //! Laws of whole sources that stand on several rooms: what is written out of one has lexemes; its streams are the least solution of its
 //! tasks' equations; its const memories keep their cells; its circuit has one run beside memories that answer in the same cycle; it
-//! has one graph, one device and one plan.
+//! has at most one graph, one device and one plan.
 #![tactic(auto)]
 
 mod laws;

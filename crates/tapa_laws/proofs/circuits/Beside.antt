@@ -27,7 +27,7 @@ use Rattle.vlog_run_laws.proofs.runs.Run.{World, worlds, asked_at}
 use Rattle.vlog_run_laws.proofs.runs.Same.{IsDecided}
 use Rattle.vlog_run_laws.proofs.runs.Surround.{Outside, cell_at, StandsAround, around, inputs_stand}
 use Rattle.hw_build.specs.Order.{RestsOnNoInput}
-use Rattle.tapa_laws.specs.circuits.Reactive.{net_kind_is_output, outputs}
+use Rattle.tapa_laws.specs.circuits.Reactive.{net_kind_is_output, outputs_of_top}
 use Rattle.tapa_laws.proofs.circuits.Unmoved.{output_same}
 use Rattle.tapa_laws.proofs.circuits.Prefix.{IsRunBelow, allowed, held_below}
 
@@ -190,5 +190,5 @@ module _ (ms : List ModuleTree) (place : ℕ) (m : ModuleTree) (d : IsDesign ms 
     by_kind n low x true e = net_same n low x (is_output _ e)
     by_kind n low x false e = refl
 
-    pub outputs_same : (n : ℕ) → n ≤ k → (x : Name) → outputs m (λ n. a n []) n x ≡ outputs m (λ n. b n []) n x
+    pub outputs_same : (n : ℕ) → n ≤ k → (x : Name) → outputs_of_top m (λ n. a n []) n x ≡ outputs_of_top m (λ n. b n []) n x
     outputs_same n low x = by_kind n low x (net_kind_is_output (net_kind_of (map port_declared m.ports) x)) refl

@@ -10,7 +10,7 @@ use Rattle.vlog_run_laws.specs.Beside.{RunsBeside}
 use Rattle.vlog_run_laws.specs.runs.OneRun.{FitsPowerUp}
 use Rattle.vlog_run_laws.proofs.widths.Beside.{among_is_beside}
 use Rattle.hw_top.specs.Circuits.{IsCircuitOf}
-use Rattle.tapa_laws.specs.circuits.Reactive.{Seen, outputs, IsCausal, IsReactiveRun}
+use Rattle.tapa_laws.specs.circuits.Reactive.{Seen, outputs_of_top, IsCausal, IsReactiveRun}
 use Rattle.tapa_laws.specs.circuits.Circuits.{AreMemoryRules, RunsByRules}
 use Rattle.tapa_laws.proofs.circuits.OneRun.{one_reactive_run}
 
@@ -21,9 +21,9 @@ module _ (program : Program) (added : List ℕ) (design : DesignTree) (circuit :
     (env : Environment) (answers : Seen → ℕ → ℕ → Bool) (others : Seen → ℕ → ℕ → ℕ) (contents : Path → Cycle)
     (fits : FitsShape env (shape_of circuit.top)) (rules : AreMemoryRules circuit.top answers others) (power_up : FitsPowerUp design.modules circuit.top contents) where
   runs_beside : (nets : ℕ → Path → Cycle) → IsReactiveRun design.modules circuit.top env answers others contents nets
-      → RunsBeside design.modules circuit.top env (answers (outputs circuit.top (λ n. nets n []))) nets
+      → RunsBeside design.modules circuit.top env (answers (outputs_of_top circuit.top (λ n. nets n []))) nets
   runs_beside nets r =
-      let seen : Seen = outputs circuit.top (λ n. nets n []) in
+      let seen : Seen = outputs_of_top circuit.top (λ n. nets n []) in
       among_is_beside design.modules design.top circuit.top circuit.legal circuit.is_top env fits (answers seen) (others seen) (rules.quiet seen) (rules.width seen) contents nets r
 
   pub circuit_runs : RunsByRules program added design circuit.top env answers others contents
@@ -31,5 +31,5 @@ module _ (program : Program) (added : List ℕ) (design : DesignTree) (circuit :
     one =
         one_reactive_run design.modules design.top circuit.top env answers others contents circuit.legal circuit.is_top circuit.rests rules.causal rules.causal_others power_up;
     beside = runs_beside;
-    carries = λ nets r. circuit.beside env fits (answers (outputs circuit.top (λ n. nets n []))) nets (runs_beside nets r);
+    carries = λ nets r. circuit.beside env fits (answers (outputs_of_top circuit.top (λ n. nets n []))) nets (runs_beside nets r);
   }

@@ -12,7 +12,7 @@ use Rattle.vlog_run_laws.specs.runs.OneRun.{FitsPowerUp, IsOnly, IsSameRun}
 use Rattle.vlog_run_laws.specs.runs.Among.{IsRunAmong}
 use Rattle.vlog_run_laws.proofs.runs.Among.{one_run_among}
 use Rattle.hw_build.specs.Order.{RestsOnNoInput}
-use Rattle.tapa_laws.specs.circuits.Reactive.{Seen, outputs, IsCausal, IsReactiveRun}
+use Rattle.tapa_laws.specs.circuits.Reactive.{Seen, outputs_of_top, IsCausal, IsReactiveRun}
 use Rattle.tapa_laws.proofs.circuits.Beside.{outputs_same}
 use Rattle.tapa_laws.proofs.circuits.Fixed.{Agree, limit, limit_fixed}
 
@@ -24,7 +24,7 @@ module _ (ms : List ModuleTree) (place : ℕ) (m : ModuleTree) (env : Environmen
   IsRunAsIf h nets = IsRunAmong ms m env (answers h) (others h) contents nets
 
   abbrev outputs_of : (ℕ → Path → Cycle) → Seen
-  outputs_of nets = outputs m (λ n. nets n [])
+  outputs_of nets = outputs_of_top m (λ n. nets n [])
 
   -- two such runs have the same outputs one cycle longer than the numbers agree
   near : (n : ℕ) (h k : Seen) (a b : ℕ → Path → Cycle) → IsRunAsIf h a → IsRunAsIf k b → Agree n h k → Agree (suc n) (outputs_of a) (outputs_of b)

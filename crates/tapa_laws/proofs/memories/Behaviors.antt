@@ -13,7 +13,7 @@ use Rattle.kahn_model.specs.declared.tick.StreamOperation.{StreamOperation}
 use Rattle.kahn_model.specs.declared.tick.StreamOperation.TheVariants.{Read as ByRead, Peek as ByPeek, TestEot, Open as ByOpen}
 use Rattle.kahn_model.specs.Behavior.{Behavior, Finished, OutOfTurns, Act, Await}
 use Rattle.kahn_model.specs.Trace.{State, cells_of, at_zero, expr, locals, turns, stmt, block, statements, job_of, act_at, at_streams}
-use Rattle.tapa_laws.specs.memories.Stores.{StoresAt, StoreAt, CodeStoresAt}
+use Rattle.tapa_laws.specs.memories.Stores.{StoresAt, RowStoresAt, CodeStoresAt}
 
 -- F holds of the position that an act stores to
 abbrev pub ActsAt : (ℕ → Type 0) → Action → Type 0
@@ -29,7 +29,7 @@ BehavesAt F OutOfTurns = Unit {0}
 BehavesAt F (Act a rest) = ActsAt F a × BehavesAt F rest
 BehavesAt F (Await s how rest) = (v : ℕ) → BehavesAt F (rest v)
 
--- the same as a record, whose arguments antt finds
+-- BehavesAt as a record, so that its arguments are found where it is used
 record Kept (F : ℕ → Type 0) (t : Behavior) : Type 0 where
   kept : BehavesAt F t
 
@@ -95,7 +95,7 @@ mutual
   kept_stmt F K n Break u f fo fa h ho ha σ = ho σ
   kept_stmt F K n Continue u f fo fa h ho ha σ = ha σ
 
-  kept_block : {l : _} → (F : ℕ → Type 0) (K : Kinds) (n : ℕ) (b : Row_of-Stmt l) → StoreAt F (flat_row b) → (f fo fa : State → Behavior) → AreKept F f → AreKept F fo → AreKept F fa → (σ : State)
+  kept_block : {l : _} → (F : ℕ → Type 0) (K : Kinds) (n : ℕ) (b : Row_of-Stmt l) → RowStoresAt F (flat_row b) → (f fo fa : State → Behavior) → AreKept F f → AreKept F fo → AreKept F fa → (σ : State)
       → Kept F (block K n b σ f fo fa)
   kept_block F K n end_of-Stmt u f fo fa h ho ha σ = h σ
   kept_block F K n (more_of-Stmt s rest) (us, ur) f fo fa h ho ha σ =

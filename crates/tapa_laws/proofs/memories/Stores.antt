@@ -3,7 +3,7 @@ use Rattle.std.proofs.Common.{ℕ, List, [], ◌∷◌, ◌++◌}
 use Rattle.tapa_syntax.specs.Flat.{FlatStatement, set, set_cell, set_cell_by, store, store_by, read_variable, read_cell, read_store, write, take_end, put_end, discard, clear}
 use Rattle.tapa_syntax.specs.Flat.{branch, loop, break, continue}
 use Rattle.tapa_syntax.specs.Flat.{FlatStatements, no_statement, statement_then, in_row}
-use Rattle.tapa_laws.specs.memories.Stores.{StoresAt, StoreAt, CodeStoresAt}
+use Rattle.tapa_laws.specs.memories.Stores.{StoresAt, RowStoresAt, CodeStoresAt}
 
 mutual
   stores_wider : (F G : ℕ → Type 0) → ((p : ℕ) → F p → G p) → (s : FlatStatement) → StoresAt F s → StoresAt G s
@@ -25,7 +25,7 @@ mutual
   stores_wider F G f break h = tt
   stores_wider F G f continue h = tt
 
-  row_wider : (F G : ℕ → Type 0) → ((p : ℕ) → F p → G p) → (ss : FlatStatements) → StoreAt F ss → StoreAt G ss
+  row_wider : (F G : ℕ → Type 0) → ((p : ℕ) → F p → G p) → (ss : FlatStatements) → RowStoresAt F ss → RowStoresAt G ss
   row_wider F G f no_statement h = tt
   row_wider F G f (statement_then s ss) (a, h) = (stores_wider F G f s a, row_wider F G f ss h)
 
@@ -37,6 +37,6 @@ pub code_joined : (F : ℕ → Type 0) (xs ys : List FlatStatement) → CodeStor
 code_joined F [] ys a b = b
 code_joined F (x ∷ xs) ys (p, a) b = (p, code_joined F xs ys a b)
 
-pub code_row : (F : ℕ → Type 0) (xs : List FlatStatement) → CodeStoresAt F xs → StoreAt F (in_row xs)
+pub code_row : (F : ℕ → Type 0) (xs : List FlatStatement) → CodeStoresAt F xs → RowStoresAt F (in_row xs)
 code_row F [] h = tt
 code_row F (x ∷ xs) (p, h) = (p, code_row F xs h)

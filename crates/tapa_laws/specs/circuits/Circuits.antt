@@ -10,7 +10,7 @@ use Rattle.vlog_run_laws.specs.Beside.{RunsBeside}
 use Rattle.vlog_run_laws.specs.runs.OneRun.{FitsPowerUp, IsOnly}
 use Rattle.hw_top_laws.specs.kahn.Carries.{CarriesBeside}
 use Rattle.hw_top.specs.Circuits.{IsCircuitOf}
-use Rattle.tapa_laws.specs.circuits.Reactive.{Seen, outputs, IsCausal, IsReactiveRun}
+use Rattle.tapa_laws.specs.circuits.Reactive.{Seen, outputs_of_top, IsCausal, IsReactiveRun}
 
 -- Rules by which memories outside a top answer its outputs, and by which they show numbers while they do not answer: they look at no
 -- later cycle, none answers in reset, and the numbers are of the memories' widths.
@@ -22,13 +22,13 @@ pub record AreMemoryRules (top : ModuleTree) (answers : Seen → ℕ → ℕ →
 
 -- A circuit has exactly one run beside memories that answer by these rules. It is a run beside memories that show a cell in the cycles
 -- in which they answer, which are those by the rule for its outputs, and it carries the program's streams by these answers.
-pub record RunsByRules (program : Program) (added : List ℕ) (design : DesignTree) (top : ModuleTree) (env : Environment) (answers : Seen → ℕ → ℕ → Bool) (others : Seen → ℕ → ℕ → ℕ)
-    (contents : Path → Cycle) : Type 0 where
+pub record RunsByRules (program : Program) (added : List ℕ) (design : DesignTree) (top : ModuleTree) (env : Environment)
+    (answers : Seen → ℕ → ℕ → Bool) (others : Seen → ℕ → ℕ → ℕ) (contents : Path → Cycle) : Type 0 where
   pub one : IsOnly design.modules top (IsReactiveRun design.modules top env answers others contents)
   pub beside : (nets : ℕ → Path → Cycle) → IsReactiveRun design.modules top env answers others contents nets
-      → RunsBeside design.modules top env (answers (outputs top (λ n. nets n []))) nets
+      → RunsBeside design.modules top env (answers (outputs_of_top top (λ n. nets n []))) nets
   pub carries : (nets : ℕ → Path → Cycle) → IsReactiveRun design.modules top env answers others contents nets
-      → CarriesBeside program added env (answers (outputs top (λ n. nets n []))) nets
+      → CarriesBeside program added env (answers (outputs_of_top top (λ n. nets n []))) nets
 
 -- from each power-up, in each environment that fits
 abbrev pub CircuitsRunByRules : Type 0

@@ -28,8 +28,8 @@ abbrev pub Seen : Type 0
 Seen = ℕ → Name → ℕ
 
 -- those of a design's top in a run; other names have 0
-abbrev pub outputs : ModuleTree → (ℕ → Cycle) → Seen
-outputs top run n x = if net_kind_is_output (net_kind_of (map port_declared top.ports) x) then (run n).net x else 0
+abbrev pub outputs_of_top : ModuleTree → (ℕ → Cycle) → Seen
+outputs_of_top top run n x = if net_kind_is_output (net_kind_of (map port_declared top.ports) x) then (run n).net x else 0
 
 -- what is answered depends on no outputs of later cycles: memory i in cycle n answers by the outputs up to cycle n
 abbrev pub IsCausal : {A : Type 0} → (Seen → ℕ → ℕ → A) → Type 0
@@ -37,9 +37,10 @@ IsCausal f = (h k : Seen) (i n : ℕ) → ((j : ℕ) → j ≤ n → (x : Name) 
 
 -- A run of a design from these contents beside memories that answer in cycles that depend on the outputs, by number and cycle. In
 -- these they show the cell that is asked for, and in the others numbers that depend on the outputs too.
-abbrev pub IsReactiveRun : List ModuleTree → ModuleTree → Environment → (Seen → ℕ → ℕ → Bool) → (Seen → ℕ → ℕ → ℕ) → (Path → Cycle) → (ℕ → Path → Cycle) → Type 0
+abbrev pub IsReactiveRun : List ModuleTree → ModuleTree → Environment → (Seen → ℕ → ℕ → Bool) → (Seen → ℕ → ℕ → ℕ)
+    → (Path → Cycle) → (ℕ → Path → Cycle) → Type 0
 IsReactiveRun ms top env answers others contents nets =
-    let seen = outputs top (λ n. nets n []) in
+    let seen = outputs_of_top top (λ n. nets n []) in
     IsRunAmong ms top env (answers seen) (others seen) contents nets
 
 -- where no output rests on an input within a cycle and memories look at no later cycle, there is one from each power-up

@@ -12,15 +12,15 @@ abbrev mutual
   StoresAt F (store m i e) = F m
   StoresAt F (store_by m i o k e) = F m
   StoresAt F (read_store s m i) = F m
-  StoresAt F (branch e left right) = StoreAt F left × StoreAt F right
-  StoresAt F (loop e body step) = StoreAt F body × StoreAt F step
+  StoresAt F (branch e left right) = RowStoresAt F left × RowStoresAt F right
+  StoresAt F (loop e body step) = RowStoresAt F body × RowStoresAt F step
   StoresAt F _ = Unit {0}
 
-  pub StoreAt : (ℕ → Type 0) → FlatStatements → Type 0
-  StoreAt F no_statement = Unit {0}
-  StoreAt F (statement_then s rest) = StoresAt F s × StoreAt F rest
+  pub RowStoresAt : (ℕ → Type 0) → FlatStatements → Type 0
+  RowStoresAt F no_statement = Unit {0}
+  RowStoresAt F (statement_then s rest) = StoresAt F s × RowStoresAt F rest
 
--- the same of the statements of a list
+-- F holds of each position of a memory that the statements of a list store to
 abbrev pub CodeStoresAt : (ℕ → Type 0) → List FlatStatement → Type 0
 CodeStoresAt F [] = Unit {0}
 CodeStoresAt F (s ∷ rest) = StoresAt F s × CodeStoresAt F rest

@@ -16,6 +16,6 @@ SourcesHaveOneDevice =
 abbrev pub SourcesHaveOneDeviceFault : Type 0
 SourcesHaveOneDeviceFault = (text top bytes : List ℕ) (fault other : DeviceFault) → HasBadDevice text top bytes fault → HasBadDevice text top bytes other → fault ≡ other
 
--- and where it gives a device it has none
+-- a file that gives a source a device has no fault for it
 abbrev pub DevicesHaveNoFault : Type 0
 DevicesHaveNoFault = (text top bytes : List ℕ) (p : Program) (g : Graph) (d : Device) (fault : DeviceFault) → IsAskedOn text top bytes p g d → HasBadDevice text top bytes fault → ⊥

@@ -27,7 +27,7 @@ SourcesHaveOnePlan =
     (text top bytes : List ℕ) (mode : PlanMode) (aim other : PlanAim) (told more : List ℕ) (one : HasPlan text top bytes mode aim told) (two : HasPlan text top bytes mode other more)
     → (one.plan.slot.items ≡ two.plan.slot.items) × (one.plan.used.items ≡ two.plan.used.items) × (one.plan.cost ≡ two.plan.cost)
 
--- and so are the latencies and the balance in two texts of its lines
+-- two texts of the lines of a source's plan have the same latencies and the same balance
 abbrev pub SourcesPrintOneBalance : Type 0
 SourcesPrintOneBalance =
     (text top bytes : List ℕ) (mode : PlanMode) (told more : List ℕ) (one : HasPlan text top bytes mode Lines told) (two : HasPlan text top bytes mode Lines more)

@@ -3,13 +3,13 @@ ghost use Rattle.tapa_laws.specs.plans.OneGraph.{ProgramsHaveOneGraph, SourcesHa
 ghost use Rattle.tapa_laws.specs.plans.OneDevice.{SourcesHaveOneDevice, SourcesHaveOneDeviceFault, DevicesHaveNoFault};
 ghost use Rattle.tapa_laws.specs.plans.OnePlan.{PlansMeanOneThing, SourcesHaveOnePlan, SourcesPrintOneBalance, SourcesBuildWhatPlanPrints};
 
-/// A source has one graph: its labels, groups, estimated uses and edges.
+/// A source has at most one graph: its labels, groups, estimated uses and edges.
 pub fn law_one_graph()
     ensures program { ProgramsHaveOneGraph }
     ensures source { SourcesHaveOneGraph }
 {}
 
-/// A device file gives a source one device, or has one first fault for it, and never both.
+/// A device file gives a source at most one device, has at most one first fault for it, and never both.
 pub fn law_one_source_device()
     ensures device { SourcesHaveOneDevice }
     ensures fault { SourcesHaveOneDeviceFault }
