@@ -1,157 +1,71 @@
 #!/usr/bin/env python3
 """Tries a built `tapa` on the cases of this folder, on the documents' tables and on the examples.
 
-    tests/run.py PROGRAM            for example crates/tapa_cli/out/tapa_cli
-    tests/run.py PROGRAM --only W   the groups of cases whose name has W
-    tests/run.py write crates       puts the list of crates into docs/ARCHITECTURE.md
-    tests/run.py write reference PROGRAM   puts circuits and what they show into crates/vlog_tests
-    tests/run.py house [--shrink]   what of the crates is not as CONTRIBUTING.md wants it; takes exceptions away that hold no more
+    tests/run.py [PROGRAM] [--only W | --failed] [-j N]   for example crates/tapa_cli/out/tapa_cli; without PROGRAM the one that `./tapa` runs
+    tests/run.py --list                                   the groups of cases, each with what it tries
+    tests/run.py write crates | rooms | groups            puts lists into docs/ARCHITECTURE.md and this folder's README.md
+    tests/run.py write chain                              draws the chain of theorems, docs/chain.svg
+    tests/run.py write reference PROGRAM                  puts circuits and what they show into crates/vlog_tests
+    tests/run.py write mistakes PROGRAM                   records what is shown of the mistakes in cases/mistakes
+    tests/run.py house [--shrink]                         what of the crates is not as CONTRIBUTING.md wants it
 
-Each case that fails is printed. The last line is `N passed, M failed`, and the exit status is 1 where M is not 0.
+Each case that fails is printed. At the end stands a summary of at most 20 lines, whose last one is `N passed, M failed`; the status is 1 where M is not 0.
 tests/README.md says how cases are written.
 """
-import os
 import sys
 
-from runner.groups import (
-    arrays,
-    balances,
-    benches,
-    bounds,
-    changes,
-    circuits,
-    crates,
-    documents,
-    dumps,
-    endings,
-    examples,
-    explanations,
-    faults,
-    halving,
-    house,
-    icarus,
-    inputs,
-    installing,
-    limits,
-    looks,
-    module,
-    names,
-    networks,
-    newcomer,
-    outputs,
-    parts,
-    pictures,
-    pipelines,
-    placement,
-    placing,
-    plans,
-    profiles,
-    readers,
-    recipes,
-    reference,
-    reports,
-    scripts,
-    sessions,
-    sources,
-    terminal,
-    texts,
-    tools,
-    values,
-    words,
-    workers,
-)
-from runner.trial import Trial
-from runner.write import crates as write_crates
-from runner.write import house as write_house
-from runner.write import reference as write_reference
+sys.dont_write_bytecode = True
+from runner import groups, rounds  # noqa: E402
+from runner.write import chain, crates, house, lists, mistakes, reference, rooms  # noqa: E402
+from vechaqir import script  # noqa: E402
+from vechaqir.host import program  # noqa: E402
+
+WRITTEN = {"crates": crates, "rooms": rooms, "groups": groups}
+DRAWN = {"chain": chain.main, "mistakes": mistakes.main, "reference": reference.main}
 
 
-GROUPS = [
-    ("sources", sources.try_all),
-    ("data", inputs.try_all),
-    ("grammar", changes.try_all),
-    ("runs", sessions.try_all),
-    ("arrays", arrays.try_all),
-    ("plans", plans.try_all),
-    ("balances", balances.try_all),
-    ("halving", halving.try_all),
-    ("placing", placing.try_all),
-    ("placement", placement.try_all),
-    ("texts", texts.try_all),
-    ("values", values.try_all),
-    ("words", words.try_all),
-    ("networks", networks.try_all),
-    ("endings", endings.try_all),
-    ("workers", workers.try_all),
-    ("faults", faults.try_all),
-    ("outputs", outputs.try_all),
-    ("examples", examples.try_all),
-    ("circuits", circuits.try_all),
-    ("pipelines", pipelines.try_all),
-    ("limits", limits.try_all),
-    ("bounds", bounds.try_all),
-    ("reference", reference.try_all),
-    ("dumps", dumps.try_all),
-    ("icarus", icarus.try_all),
-    ("names", names.try_all),
-    ("profiles", profiles.try_all),
-    ("reports", reports.try_all),
-    ("pictures", pictures.try_all),
-    ("looks", looks.try_all),
-    ("readers", readers.try_all),
-    ("benches", benches.try_all),
-    ("installing", installing.try_all),
-    ("module", module.try_all),
-    ("parts", parts.try_all),
-    ("explanations", explanations.try_all),
-    ("newcomer", newcomer.try_all),
-    ("documents", documents.try_all),
-    ("tools", tools.try_all),
-    ("scripts", scripts.try_all),
-    ("terminal", terminal.try_all),
-    ("crates", crates.try_all),
-    ("house", house.try_all),
-    ("recipes", recipes.try_all),
-    ("messages", documents.try_messages),
-]
+def words():
+    asked = script.Words(__doc__)
+    asked.add_argument("words", metavar="PROGRAM | write NAME | house", nargs="*", help="the program, or what is written or told")
+    asked.add_argument("--only", metavar="W", default="", help="tries the groups whose name has W")
+    asked.add_argument("--failed", action="store_true", help="tries the groups that failed when they were tried last")
+    asked.add_argument("-j", dest="jobs", metavar="N", type=script.number(1, 64), default=1, help="tries N groups at once; some measure time, and may fail beside others")
+    asked.add_argument("--list", action="store_true", help="prints the groups")
+    asked.add_argument("--shrink", action="store_true", help="with house: takes exceptions away that hold no more")
+    return asked
 
 
-# What writes or tells something in place of trying cases.
-WRITERS = {("write", "crates"): write_crates.main, ("write", "reference"): write_reference.main, ("house",): write_house.main}
+def write(name, more):
+    """Writes a list into its pages, or a file."""
+    if name in WRITTEN and not more:
+        for page, text in WRITTEN[name].LISTS.items():
+            lists.put(page, name, text())
+    elif name not in DRAWN or DRAWN[name](more) == 2:
+        raise script.Usage(f"what is written is one of {', '.join([*WRITTEN, *DRAWN])}, and reference and mistakes take a program")
 
 
-def written(given):
-    """The status of a writer whose words these begin with, or None where there is none."""
-    for words, writer in WRITERS.items():
-        if tuple(given[:len(words)]) == words:
-            status = writer(given[len(words):])
-            if status == 2:
-                print(__doc__.strip(), file=sys.stderr)
-            return status
-    return None
+def chosen(asked):
+    """The groups that are tried."""
+    failed = rounds.kept()["failed"]
+    found = [name for name in groups.names() if asked.only in name and (not asked.failed or name in failed)]
+    if not found and not asked.failed:
+        raise script.Usage(f"no group has {asked.only} in its name: {', '.join(groups.names())}")
+    return found
 
 
-def main(given):
-    status = written(given)
-    if status is not None:
-        return status
-    only = given[2] if len(given) == 3 and given[1] == "--only" else ""
-    if len(given) != (3 if only else 1) or given[0].startswith("-"):
-        print(__doc__.strip(), file=sys.stderr)
-        return 2
-    if not os.path.isfile(given[0]) or not os.access(given[0], os.X_OK):
-        print(f"tests/run.py: {given[0]} is no program: rt run in crates/tapa_cli builds it", file=sys.stderr)
-        return 2
-    if not any(only in name for name, _ in GROUPS):
-        print(f"tests/run.py: no group has {only} in its name: {', '.join(name for name, _ in GROUPS)}", file=sys.stderr)
-        return 2
-    trial = Trial(given[0], is_whole=not only)
-    for name, group in GROUPS:
-        if only in name:
-            trial.begin(name)
-            group(trial)
-    return trial.end()
+def main(asked):
+    if asked.list:
+        print("\n".join(f"{name:12} {groups.row(name)}" for name in groups.names()))
+        return 0
+    if asked.words[:1] == ["write"] and len(asked.words) > 1:
+        return write(asked.words[1], asked.words[2:])
+    if asked.words == ["house"]:
+        return house.main(["--shrink"] if asked.shrink else [])
+    if len(asked.words) > 1:
+        raise script.Usage("there is one program")
+    names = chosen(asked)
+    return rounds.run(program.given(asked.words[0]) if asked.words else program.find(), names, not asked.only and not asked.failed, asked.jobs)
 
 
 if __name__ == "__main__":
-    sys.exit(main(sys.argv[1:]))
+    script.run(words(), main)

@@ -4,7 +4,7 @@ what `tapa run` shows.
 
     tools/check_memories.py PROGRAM [SOURCE TOP DATA [--text F.v [--memories random]]]
 
-Each circuit (by default those of the examples that end) runs with the lines for a block RAM of docs/VERILOG.md around it, and with memories that are ready in random
+Each circuit (by default those of the examples that end) runs with the lines for a block RAM of docs/CIRCUIT.md around it, and with memories that are ready in random
 cycles and show random bits in the others. Each run is reset several times, for one cycle or more, at random moments, from registers that are unknown at first. Beside
 the report it is looked at that no memory is ready or changes while `rst` is 1, and that what a memory is asked for stays as it is until the memory is ready. With --text
 the circuit is read from a file, and not built from the source; an address that comes only with `ack` is found with random memories alone, since it does not settle where `ack` comes
@@ -15,23 +15,20 @@ import os
 import random
 import re
 import subprocess
-import signal
 import sys
 import tempfile
 
 sys.dont_write_bytecode = True
-# Until the modules are there Ctrl-C ends the script without a word; `script.run` says it by itself from then on.
-signal.signal(signal.SIGINT, signal.SIG_DFL)
-from icarus import report, top_of  # noqa: E402
 from vechaqir import script  # noqa: E402
+from vechaqir.measure.icarus import report, top_of  # noqa: E402
 
-ROOT = os.path.dirname(os.path.dirname(os.path.abspath(__file__)))
+ROOT = script.ROOT
 LIMIT = 20_000
 
 
 def page_lines():
-    """The lines of docs/VERILOG.md for a block RAM."""
-    with open(os.path.join(ROOT, "docs", "VERILOG.md"), encoding="utf-8") as file:
+    """The lines of docs/CIRCUIT.md for a block RAM."""
+    with open(os.path.join(ROOT, "docs", "CIRCUIT.md"), encoding="utf-8") as file:
         return re.search(r"^```verilog\n(reg \[31:0\] cells .*?)^```$", file.read(), re.M | re.S)[1]
 
 
@@ -68,7 +65,7 @@ end
 
 
 MEMORIES = {
-    "the lines of docs/VERILOG.md": lambda *memory: block_ram(page_lines(), *memory),
+    "the lines of docs/CIRCUIT.md": lambda *memory: block_ram(page_lines(), *memory),
     "random memories": random_memory,
 }
 
@@ -131,7 +128,7 @@ def shown_in_icarus(folder, text, data, kind, resets):
     said = subprocess.run(["vvp", "-n", paths[2]], check=True, capture_output=True, text=True).stdout.splitlines()
     bad = sorted({line for line in said if line.startswith("bad ")})
     last = len(said) - said[::-1].index("again")
-    return report(text, data, [line for line in said[last:] if not line.startswith("bad ")]), bad
+    return report(text, [line for line in said[last:] if not line.startswith("bad ")]), bad
 
 
 def built(program, source, top, *words):
@@ -172,27 +169,37 @@ def check(program, source, top, file, chance, text=None, kinds=tuple(MEMORIES)):
     return wrong
 
 
-def main(given):
-    text, kinds = None, tuple(MEMORIES)
-    if given[-2:] == ["--memories", "random"]:
-        given, kinds = given[:-2], ("random memories",)
-    if len(given) > 2 and given[-2] == "--text":
-        with open(given[-1], encoding="utf-8") as file:
+def examples():
+    """The sources of the examples with their top tasks and data."""
+    for name in sorted(os.listdir(os.path.join(ROOT, "examples"))):
+        if name.endswith(".cpp"):
+            with open(os.path.join(ROOT, "examples", name), encoding="utf-8") as file:
+                yield (*file.readline().split()[3:], None)[:3]
+
+
+def words():
+    asked = script.Words(__doc__)
+    asked.add_argument("program", metavar="PROGRAM", help="the built `tapa`")
+    asked.add_argument("source", metavar="SRC", nargs="?", help="a source, in place of the examples that end")
+    asked.add_argument("top", metavar="TOP", nargs="?", help="its top task")
+    asked.add_argument("data", metavar="DATA", nargs="?", help="its data")
+    asked.add_argument("--text", metavar="F.v", help="the circuit, in place of the one that is built of the source")
+    asked.add_argument("--memories", choices=("all", "random"), default="all", help="all memories, or the random ones alone")
+    return asked
+
+
+def main(asked):
+    if asked.source and not asked.top or asked.text and not asked.source:
+        raise script.Usage("a text needs its source, and a source its top task")
+    text = None
+    if asked.text:
+        with open(asked.text, encoding="utf-8") as file:
             text = file.read()
-        given = given[:-2]
-    if len(given) not in (1, 3, 4) or (text and len(given) == 1):
-        print(__doc__.strip(), file=sys.stderr)
-        return 2
-    program, chance = os.path.abspath(given[0]), random.Random(2001)
-    sources = [tuple(given[1:])] if len(given) > 1 else []
-    if not sources:
-        for name in sorted(os.listdir(os.path.join(ROOT, "examples"))):
-            if name.endswith(".cpp"):
-                with open(os.path.join(ROOT, "examples", name), encoding="utf-8") as file:
-                    sources.append(tuple(file.readline().split()[3:]))
+    program, chance = os.path.abspath(asked.program), random.Random(2001)
+    kinds = ("random memories",) if asked.memories == "random" else tuple(MEMORIES)
     tried, wrong = 0, []
-    for source, top, *file in sources:
-        found = check(program, source, top, file[0] if file else None, chance, text, kinds)
+    for source, top, data in [(asked.source, asked.top, asked.data)] if asked.source else examples():
+        found = check(program, source, top, data, chance, text, kinds)
         tried += found is not None
         wrong += found or []
     print("\n".join([*wrong, f"{tried} circuits, {len(wrong)} runs otherwise"]))
@@ -200,4 +207,4 @@ def main(given):
 
 
 if __name__ == "__main__":
-    script.run("tools/check_memories.py", __doc__, main)
+    script.run(words(), main)

@@ -1,18 +1,36 @@
 #!/usr/bin/env python3
 """Prints what each task and each instance of a program uses of a device: the estimate of docs/DEVICE.md, by the program's own numbers.
 
-    tools/estimate.py F.cpp TOP [DEVICE.json] [--json]
+    tools/estimate.py SRC TOP [DEV] [--json]
 
-With a device the numbers of its key `tasks` stand in place of estimates, and what its slots have is shown beside what is used. Where they have no
-room for the tasks, the lines at the end say which resource is short. With --json the same is printed as one JSON object.
+With a device the numbers of its key `tasks` are in place of estimates, and what its slots have is shown next to what is used. Where they have no
+room for the tasks, the lines at the end say which resource is short.
 """
-import signal
+import json
 import sys
 
 sys.dont_write_bytecode = True
-# Until the modules are there Ctrl-C ends the script without a word; `script.run` says it by itself from then on.
-signal.signal(signal.SIGINT, signal.SIG_DFL)
-from vechaqir import estimate_table, script  # noqa: E402
+from vechaqir import script  # noqa: E402
+from vechaqir.host import device, estimate, inputs, slot_groups, table  # noqa: E402
+
+
+def words():
+    asked = script.Words(__doc__).design()
+    asked.add_argument("device", metavar="DEV", nargs="?", help="a device file")
+    asked.add_argument("--json", action="store_true", help="prints one object of JSON")
+    return asked
+
+
+def main(asked):
+    called = inputs.program_for(asked.source, asked.top, asked.device)
+    known = device.read(asked.device) if asked.device else None
+    found = estimate.estimate(called, asked.source, asked.top, known.tasks if known else None)
+    groups = slot_groups.groups(found.labels, slot_groups.links(asked.source, asked.top, found.labels, found.widths))
+    if asked.json:
+        print(json.dumps(table.as_object(found, groups, known), indent=2))
+    else:
+        print("\n".join(table.in_words(found, groups, known)))
+
 
 if __name__ == "__main__":
-    script.run("tools/estimate.py", __doc__, estimate_table.main)
+    script.run(words(), main)

@@ -10,13 +10,12 @@ explained, and a place of the text in which arrays are written out (docs/LANGUAG
 words behind it, as `./tapa` does on a terminal: its messages are explained, a run of more than a second tells once a second how long it has run, and the end is the program's own.
 Nothing here is proved.
 """
-import signal
 import sys
+from argparse import REMAINDER
 
 sys.dont_write_bytecode = True
-# Until the modules are there Ctrl-C ends the script without a word; `script.run` says it by itself from then on.
-signal.signal(signal.SIGINT, signal.SIG_DFL)
-from vechaqir import explain_run, script  # noqa: E402
+from vechaqir import script  # noqa: E402
+from vechaqir.explain import run  # noqa: E402
 
 
 def out(text):
@@ -24,19 +23,24 @@ def out(text):
     sys.stdout.buffer.flush()
 
 
-def main(given):
-    if len(given) > 1 and given[0] == "--run":
-        explain_run.run(given[1], given[2:])
-    if given and given[0] != "--" and given != ["--places"]:
-        raise script.Usage()
-    from vechaqir import explain
-    if given == ["--places"]:
+def words():
+    asked = script.Words(__doc__)
+    asked.add_argument("words", metavar="-- WORDS", nargs="*", help="the words with which `tapa` was called")
+    asked.add_argument("--places", action="store_true", help="puts places in the source into the messages")
+    asked.add_argument("--run", metavar="PROGRAM WORDS", nargs=REMAINDER, help="runs the program with these words")
+    return asked
+
+
+def main(asked):
+    if asked.run:
+        run.run(asked.run[0], asked.run[1:])
+    from vechaqir.explain import explainer
+    if asked.places:
         for line in sys.stdin.buffer:
-            out((explain.placed(line.decode("utf-8", "surrogateescape").rstrip("\n")) + "\n").encode("utf-8", "surrogateescape"))
-        return 0
-    explain.run(sys.stdin.buffer, out, explain.Command(given[1:] if given else None))
-    return 0
+            out((explainer.placed(line.decode("utf-8", "surrogateescape").rstrip("\n")) + "\n").encode("utf-8", "surrogateescape"))
+    else:
+        explainer.run(sys.stdin.buffer, out, explainer.Command(asked.words or None))
 
 
 if __name__ == "__main__":
-    script.run("tools/explain.py", __doc__, main)
+    script.run(words(), main)

@@ -1,8 +1,41 @@
 #!/usr/bin/env python3
-"""The command of tools/draw/floorplan.py by its shorter name."""
-import os
-import runpy
+"""Draws what `tapa plan` printed as an SVG: the slots with how full they are, the tasks in them, and the streams over each border as a bundle.
+
+    ./tapa plan SRC TOP DEV > F.plan
+    tools/floorplan.py F.plan DEV SRC TOP > F.svg
+
+A stream over several borders is counted at each: it goes along its writer's column, and then along its reader's row. Without a source and its top task
+no bundles are drawn, since a plan does not tell where streams begin and end. In slots with many tasks each is a small box in the colour of its leaf task.
+"""
 import sys
 
 sys.dont_write_bytecode = True
-runpy.run_path(os.path.join(os.path.dirname(os.path.abspath(__file__)), "draw", "floorplan.py"), run_name="__main__")
+from vechaqir import script  # noqa: E402
+from vechaqir.host import device, plan, slot_groups  # noqa: E402
+from vechaqir.show import floorplan  # noqa: E402
+
+
+def words():
+    asked = script.Words(__doc__)
+    asked.add_argument("plan", metavar="F.plan", help="what `tapa plan` printed")
+    asked.add_argument("device", metavar="DEV", help="the device file")
+    asked.add_argument("source", metavar="SRC", nargs="?", help="the source")
+    asked.add_argument("top", metavar="TOP", nargs="?", help="its top task")
+    return asked
+
+
+def main(asked):
+    if asked.source and not asked.top:
+        raise script.Usage("a source needs its top task")
+    with open(asked.plan, encoding="utf-8") as lines:
+        planned = plan.parse(lines.read())
+    known = device.read(asked.device)
+    if set(planned.slots) != {known.place(number) for number in range(len(known.slots))}:
+        raise script.Fault(f"{asked.plan} is no plan on the device {asked.device}: they have other slots")
+    widths = {stream.name: stream.width for stream in planned.streams}
+    links = slot_groups.links(asked.source, asked.top, list(planned.tasks), widths) if asked.source else []
+    print("\n".join(floorplan.drawing(planned, known, links)))
+
+
+if __name__ == "__main__":
+    script.run(words(), main)

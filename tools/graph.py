@@ -1,8 +1,34 @@
 #!/usr/bin/env python3
-"""The command of tools/draw/graph.py by its shorter name."""
-import os
-import runpy
+"""Draws the tasks, streams and memories of a circuit that `tapa build` wrote, as an SVG.
+
+    ./tapa build SRC TOP > F.v && tools/graph.py F.v > F.svg
+    ./tapa run SRC TOP 2> F.told; tools/graph.py F.v F.told > F.svg
+
+With the messages of a run that has stopped, streams that an instance waits for are marked, with who waits for what. An arrow is a stream, with the bits of a token (one of them marks the end of a transaction), the depth of its FIFO, and the registers on its way where there are
+some. A round box is a memory of the top task, a dashed box an upper-level task. Nothing here is proved: the picture shows what the top module of the text joins.
+"""
 import sys
 
 sys.dont_write_bytecode = True
-runpy.run_path(os.path.join(os.path.dirname(os.path.abspath(__file__)), "draw", "graph.py"), run_name="__main__")
+from vechaqir import script  # noqa: E402
+from vechaqir.show import networks  # noqa: E402
+
+
+def words():
+    asked = script.Words(__doc__)
+    asked.add_argument("circuit", metavar="F.v", help="what `tapa build` printed")
+    asked.add_argument("told", metavar="F.told", nargs="?", help="the messages of a run that has stopped")
+    return asked
+
+
+def main(asked):
+    with open(asked.circuit, encoding="utf-8") as file:
+        network, facts, late = networks.of_circuit(file.read())
+    if asked.told:
+        with open(asked.told, encoding="utf-8") as file:
+            late = networks.put_waits(network, facts, file.read().splitlines())
+    print("\n".join(networks.drawing(network, facts, late)))
+
+
+if __name__ == "__main__":
+    script.run(words(), main)

@@ -9,9 +9,12 @@ a module is small, there is one processor, or a part cannot be made, the module 
 """
 import os
 import re
-import signal
 import subprocess
 import sys
+from argparse import REMAINDER
+
+sys.dont_write_bytecode = True
+from vechaqir import script  # noqa: E402
 
 # A module of fewer bytes is not cut; a function whose text has at most this many is copied.
 WHOLE, COPIED = 1_000_000, 1_500
@@ -174,21 +177,21 @@ def compile_parts(kit, words, source, made):
     return subprocess.run([f"{kit}/toolchain/bin/ld.lld", "-r", "-o", made, *objects], check=False).returncode == 0
 
 
-def main(given):
-    if given[:1] in (["--help"], ["-h"]):
-        signal.signal(signal.SIGPIPE, signal.SIG_DFL)
-        print(__doc__.strip())
-        return 0
-    if len(given) < 2:
-        print(__doc__.strip(), file=sys.stderr)
-        return 2
-    kit, words = given[0], words_for(given[1:])
+def words():
+    asked = script.Words(__doc__)
+    asked.add_argument("kit", metavar="KIT", help="the folder of the kit")
+    asked.add_argument("words", metavar="WORDS", nargs=REMAINDER, help="those of `clang`")
+    return asked
+
+
+def main(asked):
+    words = words_for(asked.words)
     if "-c" in words and "-x" in words[:-2] and "-o" in words[:-1]:
         source, made = words[words.index("-x") + 2], words[words.index("-o") + 1]
-        if compile_parts(kit, words, source, made):
-            return 0
-    os.execv(f"{kit}/toolchain/bin/clang", ["clang", *words])
+        if compile_parts(asked.kit, words, source, made):
+            return
+    os.execv(f"{asked.kit}/toolchain/bin/clang", ["clang", *words])
 
 
 if __name__ == "__main__":
-    sys.exit(main(sys.argv[1:]))
+    script.run(words(), main)

@@ -1,28 +1,31 @@
 #!/usr/bin/env python3
 """Prints a page of docs/ in another form: the page of `man` for the command, made from docs/COMMAND.md, or a page as HTML.
 
-    tools/manual.py man [NAME] > tapa.1     NAME is what the command is called, `tapa` where none is given
+    tools/manual.py man [NAME] > tapa.1
     tools/manual.py html PAGE.md > PAGE.html
 """
 import os
 import re
-import signal
 import sys
 
 sys.dont_write_bytecode = True
-# Until the modules are there Ctrl-C ends the script without a word; `script.run` says it by itself from then on.
-signal.signal(signal.SIGINT, signal.SIG_DFL)
-from vechaqir import markup, script  # noqa: E402
+from vechaqir import script  # noqa: E402
+from vechaqir.show import markup  # noqa: E402
 
-ROOT = os.path.dirname(os.path.dirname(os.path.realpath(__file__)))
-SEE = "The pages of docs/ beside the program: LANGUAGE.md, FROM_TAPA.md, DATA.md, DEVICE.md, VERILOG.md, REFUSALS.md. TAPA\\(aqs own command, which compiles for FPGAs of a vendor, is called \\fBtapa\\fR too."
+SEE = "The pages that are installed with the command, in the folder docs: TUTORIAL.md, LANGUAGE.md, REFUSALS.md, TROUBLESHOOTING.md, DATA.md, DEVICE.md, CIRCUIT.md and others. TAPA\\(aqs own command, which compiles for FPGAs of a vendor, is called \\fBtapa\\fR too."
+
+
+def version():
+    """The version of the program, from the file VERSION."""
+    with open(os.path.join(script.ROOT, "VERSION"), encoding="utf-8") as file:
+        return file.read().strip()
 
 
 def manual(text, name):
     """The page of `man`, from the text of docs/COMMAND.md."""
     found = markup.blocks(text)[1:]
     synopsis = next(it for it in found if it.sort == "code")
-    lines = [f".TH {name.upper()} 1", ".SH NAME", f"{name} \\- run, plan, build and simulate TAPA designs", ".SH SYNOPSIS", ".nf"]
+    lines = [f'.TH {name.upper()} 1 "" "tapa {version()}"', ".SH NAME", f"{name} \\- run, plan, build and simulate TAPA designs", ".SH SYNOPSIS", ".nf"]
     lines += [markup.plain_man(line.replace("./tapa", name)) for line in synopsis.text.split("\n")]
     lines += [".fi", ".SH DESCRIPTION"]
     for block in found:
@@ -31,20 +34,25 @@ def manual(text, name):
     return "\n".join([*lines, ".SH SEE ALSO", SEE, ""])
 
 
-def main(given):
-    if given[:1] == ["man"] and len(given) <= 2:
-        name = given[1] if len(given) == 2 else "tapa"
+def words():
+    asked = script.Words(__doc__)
+    asked.add_argument("form", metavar="FORM", choices=("man", "html"), help="man or html")
+    asked.add_argument("what", metavar="NAME|PAGE.md", nargs="?", help="what the command is called, `tapa` if not given; or a page")
+    return asked
+
+
+def main(asked):
+    if asked.form == "man":
+        name = asked.what or "tapa"
         if not re.fullmatch(r"[A-Za-z][\w.+-]*", name):
             raise script.Usage(f"{name} is no name of a command")
-        with open(os.path.join(ROOT, "docs", "COMMAND.md"), encoding="utf-8") as file:
-            sys.stdout.write(manual(file.read(), name))
-        return 0
-    if given[:1] == ["html"] and len(given) == 2:
-        with open(given[1], encoding="utf-8") as file:
-            sys.stdout.write(markup.page_html(file.read()))
-        return 0
-    raise script.Usage()
+    elif not asked.what:
+        raise script.Usage("html needs a page")
+    path = asked.what if asked.form == "html" else os.path.join(script.ROOT, "docs", "COMMAND.md")
+    with open(path, encoding="utf-8") as file:
+        text = file.read()
+    sys.stdout.write(markup.page_html(text, os.path.relpath(os.path.realpath(path), script.ROOT)) if asked.form == "html" else manual(text, name))
 
 
 if __name__ == "__main__":
-    script.run("tools/manual.py", __doc__, main)
+    script.run(words(), main)

@@ -11,30 +11,22 @@ nets inside of tasks, which --gtkw names; --waves takes either.
 """
 import json
 import os
-import signal
 import sys
 
 sys.dont_write_bytecode = True
-# Until the modules are there Ctrl-C ends the script without a word; `script.run` says it by itself from then on.
-signal.signal(signal.SIGINT, signal.SIG_DFL)
-from vechaqir import dump, machine_run, names, script, source, waves_source  # noqa: E402
+from vechaqir import script  # noqa: E402
+from vechaqir.host import dump  # noqa: E402
+from vechaqir.language import source  # noqa: E402
+from vechaqir.machine import names, run, waveform  # noqa: E402
 
 
-def options(given):
-    """The words that are no option, and the options by name."""
-    words, found = [], {}
-    given = list(given)
-    while given:
-        word = given.pop(0)
-        if word == "--json":
-            found[word] = True
-        elif word in ("--gtkw", "--dump", "--waves") and given:
-            found[word] = given.pop(0)
-        elif word.startswith("-"):
-            raise script.Usage(f"{word} is no option")
-        else:
-            words.append(word)
-    return words, found
+def words():
+    asked = script.Words(__doc__).design()
+    asked.add_argument("--json", action="store_true", help="prints the table as JSON")
+    asked.add_argument("--gtkw", metavar="F.gtkw", help="writes a save file of GTKWave for the dump of --dump")
+    asked.add_argument("--dump", metavar="D", help="a dump")
+    asked.add_argument("--waves", metavar="D", help="prints the waveform of a dump by the source's names")
+    return asked
 
 
 def write_save_file(table, path, dumped):
@@ -47,25 +39,23 @@ def write_save_file(table, path, dumped):
         file.writelines(f"{line}\n" for line in names.save_file(table, dumped, folder, stem))
 
 
-def main(given):
-    words, found = options(given)
-    if len(words) != 2 or ("--gtkw" in found) != ("--dump" in found):
-        raise script.Usage()
-    read = source.read(words[0])
-    network = source.network(read, words[1])
-    if "--waves" in found:
-        for line in waves_source.dump(machine_run.Run(read, network, dump.read(found["--waves"]))):
+def main(asked):
+    if bool(asked.gtkw) != bool(asked.dump):
+        raise script.Usage("--gtkw and --dump go together")
+    read = source.read(asked.source)
+    network = source.network(read, asked.top)
+    if asked.waves:
+        for line in waveform.dump(run.Run(read, network, dump.read(asked.waves))):
             print(line)
-        return 0
+        return
     table = names.table(read, network)
-    if "--gtkw" in found:
-        write_save_file(table, found["--gtkw"], dump.read(found["--dump"]))
-    elif "--json" in found:
+    if asked.gtkw:
+        write_save_file(table, asked.gtkw, dump.read(asked.dump))
+    elif asked.json:
         print(json.dumps(table, indent=1))
     else:
         print("\n".join(names.text(table)))
-    return 0
 
 
 if __name__ == "__main__":
-    script.run("tools/names.py", __doc__, main)
+    script.run(words(), main)

@@ -1,27 +1,49 @@
 #!/usr/bin/env python3
 """Searches a placement of a program's tasks on a device, and prints the device file with a pin for each group of tasks.
 
-    tools/place.py F.cpp TOP DEVICE.json [--seconds N | --attempts N] [--seed N] [--workers N] [--levels] > PINNED.json
-    ./tapa plan F.cpp TOP PINNED.json
-    ./tapa build F.cpp TOP --device PINNED.json
-
---seconds how long to look, 10 if not given, and at least one attempt; --attempts how many attempts to make, however long that takes; --seed a number
-where the chance of all attempts begins, 1 if not given; --workers the processors, all if not given; --levels looks for the fewest registers, those of
-borders and of the balance, in place of the least cost: of the eight cheapest by the registers of borders the program tells those of the balance.
+    tools/place.py SRC TOP DEV [--seconds N | --attempts N] [--seed N] [--workers N] [--levels] > PINNED.json
+    ./tapa plan SRC TOP PINNED.json
+    ./tapa build SRC TOP --device PINNED.json
 
 Pins, forbidden slots and all else of the device file are kept. The search looks for the least cost, bits times borders, as `--plan exact` does, also
 where that one refuses for too many plans; nothing proves that it found the least, but the program checks, balances and certifies what it found. The
 cheapest of all attempts counts, the first of several, so the same seed and number of attempts give the same file on every machine; the seconds decide
-how many attempts are made. A line on standard error tells the cost and the attempt that found it. The status is 4 where no placement fits or none was
-found, with the resource that is short, and the program's own where it refuses a file.
+how many attempts are made. A line on standard error tells the cost and the attempt that found it. With --levels the one of the eight cheapest counts,
+in bits times the registers of borders, for which the program tells the fewest registers. The status is 4 where no placement fits or none was found,
+with the resource that is short, and the program's own where it refuses a file.
 """
-import signal
 import sys
 
 sys.dont_write_bytecode = True
-# Until the modules are there Ctrl-C ends the script without a word; `script.run` says it by itself from then on.
-signal.signal(signal.SIGINT, signal.SIG_DFL)
-from vechaqir import place_answer, script  # noqa: E402
+from vechaqir import script  # noqa: E402
+from vechaqir.host import device, inputs  # noqa: E402
+from vechaqir.place import attempts, placement, progress  # noqa: E402
+
+
+def words():
+    asked = script.Words(__doc__).design()
+    asked.add_argument("device", metavar="DEV", help="the device file")
+    asked.add_argument("--seconds", metavar="N", type=script.number(1, 86_400), default=10, help="how long to look, 10 if not given, and at least one attempt")
+    asked.add_argument("--attempts", metavar="N", type=script.number(1, 1_000_000), help="how many attempts to make, however long that takes")
+    asked.add_argument("--seed", metavar="N", type=script.number(0, 2**63), default=1, help="where the chance of all attempts begins, 1 if not given")
+    asked.add_argument("--workers", metavar="N", type=script.number(1, 64), default=min(64, attempts.processors()), help="processors, all if not given")
+    asked.add_argument("--levels", action="store_true", help="the fewest registers, those of the balance too, in place of the least cost")
+    return asked
+
+
+def main(asked):
+    tells = progress.Progress()
+    try:
+        program = inputs.program_for(asked.source, asked.top, asked.device)
+        request = placement.read_request(program, asked.source, asked.top, device.read(asked.device))
+        limits = attempts.Limits(asked.seconds, asked.attempts, asked.workers)
+        found = placement.place(request, asked.seed, limits, asked.levels, tells.tell)
+    finally:
+        tells.end()
+    sys.stdout.write(found.text)
+    sys.stdout.flush()
+    sys.stderr.write(f"{script.called()}: {progress.told(found, asked.seed, asked.levels)}\n")
+
 
 if __name__ == "__main__":
-    script.run("tools/place.py", __doc__, lambda given: place_answer.main(given, __doc__))
+    script.run(words(), main)

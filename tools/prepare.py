@@ -10,38 +10,42 @@ several steps in the head of a `for`, the elements that invokes take of an array
 templates, structs and functions is looked at once they are tasks. What else a rule refuses, `tapa run F.cpp TOP` tells. The status is 0 where nothing is left to change, and else 1.
 """
 import os
-import signal
 import sys
 
 sys.dont_write_bytecode = True
-# Until the modules are there Ctrl-C ends the script without a word; `script.run` says it by itself from then on.
-signal.signal(signal.SIGINT, signal.SIG_DFL)
-from vechaqir import prepare_list, prepare_write, script, source  # noqa: E402
+from vechaqir import script  # noqa: E402
+from vechaqir.language import source  # noqa: E402
+from vechaqir.prepare import changes, writing  # noqa: E402
 
 
 def write(path, out):
     """Writes the prepared source; what is left is told on standard error."""
     text = source.read(path).text
-    made, left = prepare_write.prepared(text, path)
+    made, left = writing.prepared(text, path)
     if out == path and not os.path.exists(path + ".orig"):
         with open(path + ".orig", "wb") as file:
             file.write(text)
     with open(out, "wb") as file:
         file.write(made)
-    print(f"tools/prepare.py: {out} is written; {len(left)} left to change by hand, marked by `{prepare_write.MARK.strip()}`", file=sys.stderr)
+    print(f"{script.called()}: {out} is written; {len(left)} left to change by hand, marked by `{writing.MARK.strip()}`", file=sys.stderr)
     return 1 if left else 0
 
 
-def main(given):
-    if len(given) in (2, 3) and given[1] == "--write":
-        return write(given[0], given[-1] if len(given) == 3 else given[0])
-    if len(given) != 1:
-        raise script.Usage()
-    found = prepare_list.changes(source.read(given[0]))
+def words():
+    asked = script.Words(__doc__)
+    asked.add_argument("source", metavar="F.cpp", help="the source")
+    asked.add_argument("--write", metavar="OUT.cpp", nargs="?", const="", help="writes the source anew")
+    return asked
+
+
+def main(asked):
+    if asked.write is not None:
+        return write(asked.source, asked.write or asked.source)
+    found = changes.changes(source.read(asked.source))
     for it in found:
-        print(f"{given[0]}:{it.place.line}:{it.place.column}: {it.construct}: {it.instead}")
+        print(f"{asked.source}:{it.place.line}:{it.place.column}: {it.construct}: {it.instead}")
     return 1 if found else 0
 
 
 if __name__ == "__main__":
-    script.run("tools/prepare.py", __doc__, main)
+    script.run(words(), main)

@@ -30,15 +30,20 @@ kit=$(rt version 2>/dev/null) || kit="an unknown kit"
 
 work=$(mktemp -d) || exit 1
 trap 'rm -rf "$work"' EXIT
-name=tapa-$(git rev-parse --short=12 HEAD)-linux-x86_64
+name=tapa-$(cat VERSION)-linux-x86_64
 home=$work/$name
 mkdir "$home" || exit 1
-git archive HEAD tapa README.md tools docs examples | tar -x -C "$home" || fail "the files of the commit could not be copied"
+git archive HEAD tapa README.md CHANGELOG.md SECURITY.md VERSION tools docs examples | tar -x -C "$home" || fail "the files of the commit could not be copied"
 mkdir -p "$home/program" "$home/share/man/man1"
 cp "$program" "$home/program/tapa" && chmod 755 "$home/program/tapa" || exit 1
 python3 -B "$home/tools/manual.py" man > "$home/share/man/man1/tapa.1" || exit 1
-for page in "$home"/docs/*.md "$home/README.md"; do
-  python3 -B "$home/tools/manual.py" html "$page" > "$home/docs/$(basename "$page" .md).html" || exit 1
+for page in "$home"/*.md "$home"/docs/*.md "$home/examples/README.md" "$home/tools/README.md"; do
+  case $page in
+    */examples/*) made=EXAMPLES ;;
+    */tools/*) made=TOOLS ;;
+    *) made=$(basename "$page" .md) ;;
+  esac
+  python3 -B "$home/tools/manual.py" html "$page" > "$home/docs/$made.html" || exit 1
 done
 sum=$(sha256sum < "$home/program/tapa" | cut -d' ' -f1)
 if [ "$state" = proved ]; then

@@ -2,18 +2,13 @@
 """Prints the page of a release, RELEASE.md: what was proved by which kit, what the program needs, and how to check the sums.
 
     tools/release_page.py FOLDER STATE COMMIT KIT
-
-FOLDER is the release's, STATE `proved` or `unproved`, COMMIT the commit of the repository and KIT what `rt version` says.
 """
 import hashlib
 import os
 import re
-import signal
 import sys
 
 sys.dont_write_bytecode = True
-# Until the modules are there Ctrl-C ends the script without a word; `script.run` says it by itself from then on.
-signal.signal(signal.SIGINT, signal.SIG_DFL)
 from vechaqir import script  # noqa: E402
 
 PROVED = """The prover of the kit accepted every crate that the program is made of, and the gate of the repository passed: its proofs, the edits that must be refused, the tests and the cases. What is promised is in
@@ -27,6 +22,7 @@ PAGE = """# This release
 
 | | |
 |---|---|
+| version | {version} |
 | commit | `{commit}` |
 | kit | {kit} |
 | program | `program/tapa`, sha256 `{sum}` |
@@ -47,17 +43,25 @@ The second one installs it under a name of your choice, with its page of `man` a
 """
 
 
-def main(given):
-    if len(given) != 4 or given[1] not in ("proved", "unproved"):
-        raise script.Usage()
-    folder, state, commit, kit = given
-    with open(os.path.join(folder, "program", "tapa"), "rb") as file:
+def words():
+    asked = script.Words(__doc__)
+    asked.add_argument("folder", metavar="FOLDER", help="the folder of the release")
+    asked.add_argument("state", metavar="STATE", choices=("proved", "unproved"), help="proved or unproved")
+    asked.add_argument("commit", metavar="COMMIT", help="the commit of the repository")
+    asked.add_argument("kit", metavar="KIT", help="what `rt version` says")
+    return asked
+
+
+def main(asked):
+    with open(os.path.join(asked.folder, "program", "tapa"), "rb") as file:
         program = file.read()
     versions = [tuple(map(int, it.split(b"."))) for it in re.findall(rb"GLIBC_(\d+\.\d+)", program)]
+    with open(os.path.join(asked.folder, "VERSION"), encoding="utf-8") as file:
+        version = file.read().strip()
     glibc = ".".join(map(str, max(versions, default=(2, 2))))
-    print(PAGE.format(state=PROVED if state == "proved" else UNPROVED, commit=commit, kit=kit, sum=hashlib.sha256(program).hexdigest(), glibc=glibc), end="")
-    return 0
+    state = PROVED if asked.state == "proved" else UNPROVED
+    print(PAGE.format(state=state, version=version, commit=asked.commit, kit=asked.kit, sum=hashlib.sha256(program).hexdigest(), glibc=glibc), end="")
 
 
 if __name__ == "__main__":
-    script.run("tools/release_page.py", __doc__, main)
+    script.run(words(), main)

@@ -1,20 +1,21 @@
 #!/usr/bin/env python3
 """Writes a data file for a source, to be filled in: each scalar parameter of the top task with 0, and each memory with a few cells.
 
-    tools/template.py F.cpp TOP [CELLS] > F.json
-
-CELLS is how many cells each memory gets, up to 65536, 4 if it is not there: the list's length is the memory's size (docs/DATA.md).
+    tools/template.py SRC TOP [CELLS] > F.json
 """
-import re
-import signal
 import sys
 
 sys.dont_write_bytecode = True
-# Until the modules are there Ctrl-C ends the script without a word; `script.run` says it by itself from then on.
-signal.signal(signal.SIGINT, signal.SIG_DFL)
-from vechaqir import script, source  # noqa: E402
+from vechaqir import script  # noqa: E402
+from vechaqir.language import source  # noqa: E402
 
 MOST_CELLS = 65_536
+
+
+def words():
+    asked = script.Words(__doc__).design()
+    asked.add_argument("cells", metavar="CELLS", nargs="?", type=script.number(0, MOST_CELLS), default=4, help="the cells of each memory, 4 if not given: the list's length is the memory's size (docs/DATA.md)")
+    return asked
 
 
 def template(network, cells):
@@ -24,20 +25,14 @@ def template(network, cells):
     return "{\n" + ",\n".join(f'  "{name}": {{\n' + ",\n".join(lines) + "\n  }" for name, lines in groups) + "\n}"
 
 
-def main(given):
-    if len(given) not in (2, 3):
-        raise script.Usage()
-    cells = given[2] if len(given) == 3 else "4"
-    if not re.fullmatch("[0-9]{1,9}", cells) or int(cells) > MOST_CELLS:
-        raise script.Usage(f"CELLS: {cells} is no whole number from 0 to {MOST_CELLS}")
-    read = source.read(given[0])
-    found = source.network(read, given[1])
-    if not read.tasks[given[1]].is_upper:
+def main(asked):
+    read = source.read(asked.source)
+    found = source.network(read, asked.top)
+    if not read.tasks[asked.top].is_upper:
         uppers = ", ".join(it.name for it in read.tasks.values() if it.is_upper)
-        raise script.Fault(f"{given[1]} invokes no task, so it is no top task: {f'{given[0]} has {uppers}' if uppers else f'{given[0]} has none'}")
-    print(template(found, int(cells)))
-    return 0
+        raise script.Fault(f"{asked.top} invokes no task, so it is no top task: {f'{asked.source} has {uppers}' if uppers else f'{asked.source} has none'}")
+    print(template(found, asked.cells))
 
 
 if __name__ == "__main__":
-    script.run("tools/template.py", __doc__, main)
+    script.run(words(), main)

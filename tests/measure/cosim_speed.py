@@ -27,11 +27,12 @@ import subprocess
 import sys
 import tempfile
 
+sys.dont_write_bytecode = True
 HERE = os.path.dirname(os.path.abspath(__file__))
-ROOT = os.path.dirname(os.path.dirname(HERE))
-sys.path.insert(0, os.path.join(ROOT, "tools"))
-
-import icarus  # noqa: E402
+sys.path.insert(0, os.path.dirname(HERE))
+from runner.trial import ROOT  # noqa: E402
+from vechaqir import script  # noqa: E402
+from vechaqir.measure import icarus  # noqa: E402
 
 TIMES, SHORT, CELLS, CYCLES = 500, 20, 60_000, 200_000
 COUNTED = (300, 1_300)
@@ -210,32 +211,23 @@ def measure(program, folder, only, simulators):
     print("\n".join(ends(found)))
 
 
-def taken_from(words, option, default):
-    """What stands behind an option among the words, which both lose; the default where it is not there."""
-    if option not in words[:-1]:
-        return default
-    at = words.index(option)
-    _, value = words[at : at + 2]
-    del words[at : at + 2]
-    return value
+def words():
+    asked = script.Words(__doc__).program()
+    asked.add_argument("--median", metavar="N", type=script.number(1), help="the median of N calls in place of the best of three")
+    asked.add_argument("--only", metavar="WORD", default="", help="the circuits whose name has the word")
+    asked.add_argument("--no-verilator", action="store_true", help="leaves Verilator out")
+    asked.add_argument("--g++-O3", dest="more", action="store_const", const=OPTIMISED, default=(), help="Verilator's program is compiled with -O3")
+    asked.add_argument("--counted", action="store_true", help="counts instructions")
+    return asked
 
 
-def main(words):
-    words = list(words)
-    only, median = taken_from(words, "--only", ""), taken_from(words, "--median", "")
-    rest = [word for word in words if word not in {"--counted", "--no-verilator", "--g++-O3"}]
-    if len(rest) != 1 or rest[0].startswith("--") or not re.fullmatch(r"[1-9]\d*|", median):
-        print(__doc__.strip(), file=sys.stderr)
-        return 2
-    program = os.path.abspath(rest[0])
+def main(asked):
     with tempfile.TemporaryDirectory() as folder:
-        if "--counted" in words:
-            count(program, folder, only)
+        if asked.counted:
+            count(asked.program, folder, asked.only)
         else:
-            more = OPTIMISED if "--g++-O3" in words else ()
-            measure(program, folder, only, ("--no-verilator" not in words, more, int(median or 3), bool(median)))
-    return 0
+            measure(asked.program, folder, asked.only, (not asked.no_verilator, asked.more, asked.median or 3, bool(asked.median)))
 
 
 if __name__ == "__main__":
-    sys.exit(main(sys.argv[1:]))
+    script.run(words(), main)

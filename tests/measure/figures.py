@@ -13,9 +13,11 @@ import subprocess
 import sys
 import tempfile
 
+sys.dont_write_bytecode = True
 sys.path.insert(0, os.path.dirname(os.path.dirname(os.path.abspath(__file__))))
 from runner.made.programs import chain, device, filled, name, network  # noqa: E402
 from runner.made.shapes import ORDERS, PLACES, SHAPES, shaped, slots_of  # noqa: E402
+from vechaqir import script  # noqa: E402
 
 
 TOP = "void F() {} void T() { tapa::task().invoke(F); }\n"
@@ -195,24 +197,21 @@ def slowest(program, folder, shape):
     return row + (f" status {worst}: {[run[1][:200] for run in runs if run[0]]}" if worst else ""), worst
 
 
-def main(words):
-    if len(words) != 1:
-        print(__doc__.strip(), file=sys.stderr)
-        return 2
+def main(asked):
     print("| what | time | memory |\n|---|---|---|")
     worst = 0
     with tempfile.TemporaryDirectory() as folder:
         for verb, what, source, data, more, wanted in commands():
-            status, err, seconds, megabytes = measured(os.path.abspath(words[0]), folder, verb, source, data, more)
+            status, err, seconds, megabytes = measured(asked.program, folder, verb, source, data, more)
             differs = status not in wanted
             worst = max(worst, status if differs else 0)
             print(f"| {what} | {seconds:.2f} s | {megabytes:.0f} MB |" + (f" status {status}: {err[:200].strip()}" if differs else ""), flush=True)
         for shape in SHAPES:
-            row, status = slowest(os.path.abspath(words[0]), folder, shape)
+            row, status = slowest(asked.program, folder, shape)
             worst = max(worst, status)
             print(row, flush=True)
     return worst
 
 
 if __name__ == "__main__":
-    sys.exit(main(sys.argv[1:]))
+    script.run(script.Words(__doc__).program(), main)

@@ -10,14 +10,12 @@ prove its tests, and those that try its edits. They are looked at twice a second
 import os
 import re
 import subprocess
-import signal
 import sys
 import threading
 import time
+from argparse import REMAINDER
 
 sys.dont_write_bytecode = True
-# Until the modules are there Ctrl-C ends the script without a word; `script.run` says it by itself from then on.
-signal.signal(signal.SIGINT, signal.SIG_DFL)
 sys.path.insert(0, os.path.join(os.path.dirname(os.path.abspath(__file__)), "..", "..", "tools"))
 from vechaqir import script  # noqa: E402
 
@@ -130,13 +128,17 @@ def table(log):
     return 0
 
 
-def main(words):
-    if len(words) > 2 and words[0] == "watch":
-        return watch(words[1], words[2:])
-    if len(words) == 2 and words[0] == "table":
-        return table(words[1])
-    raise script.Usage()
+def words():
+    asked = script.Words(__doc__)
+    asked.add_argument("what", metavar="watch|table", choices=("watch", "table"), help="runs a command and writes a log, or makes the table of it")
+    asked.add_argument("log", metavar="LOG", help="the log")
+    asked.add_argument("command", metavar="COMMAND", nargs=REMAINDER, help="the command")
+    return asked
+
+
+def main(asked):
+    return watch(asked.log, asked.command) if asked.what == "watch" else table(asked.log)
 
 
 if __name__ == "__main__":
-    script.run("tests/measure/gate_seconds.py", __doc__, main)
+    script.run(words(), main)

@@ -10,7 +10,10 @@ import os
 import re
 import sys
 
-ROOT = os.path.dirname(os.path.dirname(os.path.dirname(os.path.abspath(__file__))))
+sys.dont_write_bytecode = True
+sys.path.insert(0, os.path.dirname(os.path.dirname(os.path.abspath(__file__))))
+from runner.trial import ROOT  # noqa: E402
+from vechaqir import script  # noqa: E402
 
 
 def libraries():
@@ -40,19 +43,24 @@ def reach(crate, below):
         found += more
 
 
-def main(words):
+def words():
+    asked = script.Words(__doc__)
+    asked.add_argument("crates", metavar="CRATE", nargs="*", help="the crates, all if none is given")
+    return asked
+
+
+def main(asked):
     below, spent = libraries(), seconds()
-    if any(word not in below for word in words):
-        print(__doc__.strip(), file=sys.stderr)
-        return 2
-    reaches = {crate: reach(crate, below) for crate in words or below}
+    for crate in asked.crates:
+        if crate not in below:
+            raise script.Usage(f"{crate} is no crate")
+    reaches = {crate: reach(crate, below) for crate in asked.crates or below}
     cost = {crate: sum(spent.get(name, 0) for name in names) for crate, names in reaches.items()}
-    for crate in words or sorted(cost, key=lambda name: -cost[name]):
-        print(f"{cost[crate]:7} {len(reaches[crate]):3} {crate}" + (f": {' '.join(reaches[crate])}" if words else ""))
-    if not words:
+    for crate in asked.crates or sorted(cost, key=lambda name: -cost[name]):
+        print(f"{cost[crate]:7} {len(reaches[crate]):3} {crate}" + (f": {' '.join(reaches[crate])}" if asked.crates else ""))
+    if not asked.crates:
         print(f"{sum(cost.values()):7} in all")
-    return 0
 
 
 if __name__ == "__main__":
-    sys.exit(main(sys.argv[1:]))
+    script.run(words(), main)

@@ -25,8 +25,10 @@ import sys
 import tempfile
 import time
 
+sys.dont_write_bytecode = True
 sys.path.insert(0, os.path.dirname(os.path.dirname(os.path.abspath(__file__))))
 from runner.made.programs import apart, by_phases, chain, hub  # noqa: E402
+from vechaqir import script  # noqa: E402
 
 HERE = os.path.dirname(os.path.abspath(__file__))
 REPEATS = 7
@@ -283,27 +285,31 @@ def loops(program, wanted):
     return 0
 
 
-def main(words):
-    words, options = [word for word in words if not word.startswith("--")], [word for word in words if word.startswith("--")]
-    others = {"--workers": by_workers, "--counted": counted, "--loops": loops}
-    if len(words) not in (1, 2) or len(options) > 1 or not set(options) <= set(others):
-        print(__doc__.strip(), file=sys.stderr)
-        return 2
-    program, wanted = os.path.abspath(words[0]), words[1] if len(words) == 2 else ""
-    if options:
-        return others[options[0]](program, wanted)
+def words():
+    asked = script.Words(__doc__).program()
+    asked.add_argument("word", metavar="WORD", nargs="?", default="", help="those whose name has the word, all if not given")
+    for name, way in (("--workers", by_workers), ("--counted", counted), ("--loops", loops)):
+        asked.add_argument(name, dest="way", action="store_const", const=way, default=rows, help=way.__doc__)
+    return asked
+
+
+def rows(program, wanted):
+    """Each program beside its anchor."""
     print("| what | ticks | time | ticks a second | memory | g++ -O2 |\n|---|---|---|---|---|---|")
     with tempfile.TemporaryDirectory() as folder:
         plain = anchors(folder)
-        rows = [(name, call, ticks_of(call, folder)) for name, call in put_all(program, wanted, folder)]
+        found = [(name, call, ticks_of(call, folder)) for name, call in put_all(program, wanted, folder)]
         # (the calls of a row are spread over the whole run, so that a slow minute of the machine strikes no row alone)
-        spent = [[used(call, folder, subprocess.DEVNULL) for _, call, _ in rows] for _ in range(REPEATS)]
-        for at, (name, _, ticks) in enumerate(rows):
+        spent = [[used(call, folder, subprocess.DEVNULL) for _, call, _ in found] for _ in range(REPEATS)]
+        for at, (name, _, ticks) in enumerate(found):
             seconds, megabytes, _ = min(one[at] for one in spent)
             beside = next((f"{least:.3f} s" for start, least in plain.items() if name.startswith(f"{start},")), "")
             print(f"| {name} | {ticks:,} | {seconds:.2f} s | {ticks / max(seconds, 0.001) / 1e6:.0f} million | {megabytes:.0f} MB | {beside} |", flush=True)
-    return 0
+
+
+def main(asked):
+    return asked.way(asked.program, asked.word)
 
 
 if __name__ == "__main__":
-    sys.exit(main(sys.argv[1:]))
+    script.run(words(), main)

@@ -2,7 +2,7 @@
 """Writes a large text of the Verilog subset to a file, to measure `cosim` on it.
 
     tests/measure/verilog_texts.py KIND FILE
-    tests/measure/verilog_texts.py --list      the kinds, with the answer that each is to get
+    tests/measure/verilog_texts.py --list
 
 The most that `cosim` takes are 16,777,216 bytes, which `comments` has. All but `over`, `open` and `cut` are designs whose `done` is 1 from the
 first cycle on, without streams and memories, so `cosim FILE` writes the one line `done 1`.
@@ -10,8 +10,10 @@ first cycle on, without streams and memories, so `cosim FILE` writes the one lin
 import os
 import sys
 
+sys.dont_write_bytecode = True
 sys.path.insert(0, os.path.dirname(os.path.dirname(os.path.abspath(__file__))))
 from runner.made import alike  # noqa: E402
+from vechaqir import script  # noqa: E402
 
 MOST = 16_777_216
 HEAD = "module t_X ( input clk , input rst , output done ) ;\n"
@@ -149,18 +151,23 @@ KINDS = {
 }
 
 
-def main(given):
-    if given == ["--list"]:
-        for kind, (_, answer) in KINDS.items():
-            print(f"{kind:9} {answer}")
-        return 0
-    if len(given) != 2 or given[0] not in KINDS:
-        print(__doc__.strip(), file=sys.stderr)
-        return 2
-    with open(given[1], "w", encoding="ascii", newline="\n") as file:
-        file.write(KINDS[given[0]][0]())
-    return 0
+def words():
+    asked = script.Words(__doc__)
+    asked.add_argument("kind", metavar="KIND", choices=KINDS, nargs="?", help="what the text has")
+    asked.add_argument("file", metavar="FILE", nargs="?", help="where it is written")
+    asked.add_argument("--list", action="store_true", help="prints the kinds, with the answer that each is to get")
+    return asked
+
+
+def main(asked):
+    if asked.list:
+        print("\n".join(f"{kind:9} {answer}" for kind, (_, answer) in KINDS.items()))
+        return
+    if not asked.file:
+        raise script.Usage("a kind and a file are needed")
+    with open(asked.file, "w", encoding="ascii", newline="\n") as file:
+        file.write(KINDS[asked.kind][0]())
 
 
 if __name__ == "__main__":
-    sys.exit(main(sys.argv[1:]))
+    script.run(words(), main)

@@ -41,7 +41,7 @@ class Trial:
         self.program = os.path.abspath(program)
         self.is_whole = is_whole
         self.passed, self.failed = 0, 0
-        self.group, self.group_passed = "", 0
+        self.group, self.notes = "", []
         # every line of standard error that the program wrote
         self.lines = set()
         self.folder = tempfile.TemporaryDirectory(prefix="tapa-tests-")
@@ -67,6 +67,7 @@ class Trial:
 
     def note(self, text):
         """Says what could not be tried here, so that nothing is skipped in silence."""
+        self.notes.append(text)
         print(f"NOTE {self.group}: {text}", file=sys.stderr, flush=True)
 
     def put(self, name, text):
@@ -96,6 +97,12 @@ class Trial:
         if before is None:
             self.keep(said)
         return said
+
+    def tool(self, name, *words, given=""):
+        """What a script of tools/ answers, which calls this program: its status, standard output and standard error."""
+        known = {**os.environ, "TAPA": self.program}
+        ran = subprocess.run([sys.executable, os.path.join("tools", name), *words], cwd=ROOT, input=given.encode(), env=known, capture_output=True, check=False)
+        return ran.returncode, ran.stdout.decode("utf-8", "replace"), ran.stderr.decode("utf-8", "replace")
 
     def keep(self, said):
         """Keeps the lines of standard error, each of which is to stand in docs/COMMAND.md."""

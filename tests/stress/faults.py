@@ -1,10 +1,10 @@
 #!/usr/bin/env python3
 """Lets the system fail under one line of each command of a built `tapa`, and looks whether each answer is one that docs/COMMAND.md and docs/PROMISES.md allow.
 
-    tests/stress/faults.py PROGRAM [--only W]      all of it, or the groups whose name has W
+    tests/stress/faults.py PROGRAM [--only W]
 
-`calls`: each call of the system that opens, reads, writes or asks for memory fails in turn (where `strace` is there). `allocations`: each allocation is refused in turn, alone and with all
-behind it (where `cc` is there). `files`: in place of each file a folder, a device, a ring of links, a socket, a pipe that closes early or comes byte by byte, a
+`calls`: each call of the system that opens, reads, writes or asks for memory fails in turn (where `strace` is there). `allocations`: each allocation of every command is refused in turn, alone, and
+one in five with all after it (where `cc` is there; runner/made/refusals.py has the lines; the gate tries a tenth). `files`: in place of each file a folder, a device, a ring of links, a socket, a pipe that closes early or comes byte by byte, a
 file that grows, shrinks or vanishes while it is read. `outputs`: what is closed, full, read-only, never read, cut after each byte. `limits`: memory, file size and
 open files, stepped. An answer is the usual one, or a documented one behind a front of the usual output. Each that is wrong is printed; the last line is
 `N passed, M failed`. runner/faults.py and runner/endings.py have what the gate tries of this.
@@ -20,10 +20,13 @@ import sys
 import threading
 import time
 
+sys.dont_write_bytecode = True
 sys.path.insert(0, os.path.dirname(os.path.dirname(os.path.abspath(__file__))))
 from runner.groups.faults import put_files, put_large  # noqa: E402
+from runner.made import refusals  # noqa: E402
 from runner.made.hostile import Judge  # noqa: E402
 from runner.trial import Said, Trial  # noqa: E402
+from vechaqir import script  # noqa: E402
 
 # One line of each command over the files of runner/faults.py, and large ones.
 LINES = [["run", "r.cpp", "T", "d.json", "--workers=2"], ["build", "r.cpp", "T"], ["build", "r.cpp", "T", "--device", "v.json"], ["plan", "r.cpp", "T", "v.json"], ["plan", "r.cpp", "T", "v.json", "--plan", "exact"],
@@ -36,27 +39,6 @@ LIMITS = (signal.SIGPIPE, signal.SIGXFSZ)
 FULL = ["error=ENOSPC", "error=EIO", "error=EPIPE", "error=EINTR", "error=EAGAIN", "error=EFBIG"]
 CALLS = [("openat", ["error=EACCES", "error=EMFILE", "error=ENOMEM", "error=ELOOP", "error=EINTR"], "5"), ("read", ["error=EIO", "error=EINTR", "error=EAGAIN", "error=ENOMEM", "error=EISDIR"], "5"),
          ("read", ["retval=0"], "13"), ("write", FULL, "6"), ("brk", ["retval=0"], "9"), ("mmap", ["error=ENOMEM"], "9"), ("mremap", ["error=ENOMEM"], "9"), ("close", ["error=EIO", "error=EINTR"], "0")]
-
-REFUSER = r"""
-#include <stdlib.h>
-#include <string.h>
-#include <fcntl.h>
-#include <unistd.h>
-#include <errno.h>
-extern void *__libc_malloc(size_t); extern void *__libc_calloc(size_t, size_t); extern void *__libc_realloc(void *, size_t); extern void *__libc_memalign(size_t, size_t);
-static long count, at = -1, behind;
-__attribute__((constructor)) static void begin(void) { char *a = getenv("REFUSE_AT"), *b = getenv("REFUSE_BEHIND"); count = 0; if (a) at = atol(a); behind = b != 0; }
-__attribute__((destructor)) static void end(void) { char *a = getenv("REFUSE_COUNT"), text[24]; int n = 24, f; long c = count; if (!a) return; do text[--n] = '0' + c % 10; while (c /= 10);
-  f = open(a, O_WRONLY | O_CREAT | O_TRUNC, 0600); if (f >= 0) { if (write(f, text + n, 24 - n)) {} close(f); } }
-static int refused(void) { long c = count++; if (at >= 0 && (c == at || (behind && c > at))) { errno = ENOMEM; return 1; } return 0; }
-void *malloc(size_t n) { return refused() ? 0 : __libc_malloc(n); }
-void *calloc(size_t n, size_t m) { return refused() ? 0 : __libc_calloc(n, m); }
-void *realloc(void *p, size_t n) { return refused() ? 0 : __libc_realloc(p, n); }
-void *memalign(size_t a, size_t n) { return refused() ? 0 : __libc_memalign(a, n); }
-void *aligned_alloc(size_t a, size_t n) { return memalign(a, n); }
-int posix_memalign(void **p, size_t a, size_t n) { void *q = memalign(a, n); if (!q) return ENOMEM; *p = q; return 0; }
-"""
-
 
 class Faults:
     """A trial with the usual answers of its lines."""
@@ -136,22 +118,8 @@ def try_calls(faults):
 
 
 def try_allocations(faults):
-    """Each allocation is refused in turn, alone and with all behind it."""
-    with open("refuser.c", "w", encoding="utf-8") as file:
-        file.write(REFUSER)
-    if not shutil.which("cc") or subprocess.run(["cc", "-O1", "-shared", "-fPIC", "-fno-builtin", "-o", "refuser.so", "refuser.c"], check=False).returncode:
-        faults.trial.note("cc is not there, so no allocation was refused")
-        return
-    library = os.path.abspath("refuser.so")
-    for words in LINES:
-        faults.call(words, environment={"LD_PRELOAD": library, "REFUSE_COUNT": "count"})
-        with open("count", encoding="utf-8") as file:
-            count = int(file.read())
-        print(f"{' '.join(words)}: {count} allocations", flush=True)
-        for at in range(0, count, 1 + count // 1500):
-            for behind in ({}, {"REFUSE_BEHIND": "1"}) if at % 5 == 0 else ({},):
-                said = faults.call(words, environment={"LD_PRELOAD": library, "REFUSE_AT": str(at), **behind})
-                faults.check(f"allocation {at} of {count} is refused{' with all behind it' if behind else ''}", said, words, "09")
+    """Each allocation is refused in turn, alone, and one in five with all after it."""
+    faults.counts.update(refusals.try_allocations(faults.trial, 1, lambda line: print(line, flush=True)))
 
 
 def fed(faults, words, name, pieces, pause=0.0):
@@ -357,16 +325,18 @@ def try_limits(faults):
 GROUPS = [("calls", try_calls), ("allocations", try_allocations), ("files", try_files), ("outputs", try_outputs), ("limits", try_limits)]
 
 
-def main(given):
-    only = given[2] if len(given) == 3 and given[1] == "--only" else ""
-    if len(given) != (3 if only else 1) or not os.access(given[0], os.X_OK):
-        print(__doc__.strip(), file=sys.stderr)
-        return 2
-    faults = Faults(given[0])
+def words():
+    asked = script.Words(__doc__).program()
+    asked.add_argument("--only", metavar="W", default="", help="the groups whose name has W, all if not given")
+    return asked
+
+
+def main(asked):
+    faults = Faults(asked.program)
     put_files(faults.trial)
     put_large(faults.trial)
     for name, group in GROUPS:
-        if only in name:
+        if asked.only in name:
             faults.trial.begin(name)
             begun = faults.trial.passed + faults.trial.failed
             group(faults)
@@ -378,4 +348,4 @@ def main(given):
 
 
 if __name__ == "__main__":
-    sys.exit(main(sys.argv[1:]))
+    script.run(words(), main)

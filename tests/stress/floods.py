@@ -1,7 +1,7 @@
 #!/usr/bin/env python3
 """Gives a built `tapa` random and changed inputs, and looks whether each answer is one that docs/COMMAND.md and docs/PROMISES.md allow.
 
-    tests/stress/floods.py PROGRAM [--seconds N] [--seed S]      60 seconds and seed 1, where nothing else is said
+    tests/stress/floods.py PROGRAM [--seconds N] [--seed S]
 
 The good files are the examples, their circuits, devices and dumps, random networks, and random sources with stream arrays. Sources, data, device files, Verilog texts, dumps and words are changed: bytes, tokens,
 sizes, nesting, numbers at bounds, and parts of two files in one. Each call has 10 seconds and 2 GB of memory, and its output goes to a file. An input is a command
@@ -19,12 +19,14 @@ import sys
 import tempfile
 import time
 
+sys.dont_write_bytecode = True
 sys.path.insert(0, os.path.dirname(os.path.dirname(os.path.abspath(__file__))))
-from runner.groups import arrays, changes  # noqa: E402
+from runner.groups import arrays, grammar as changes  # noqa: E402
 from runner.made import leaves, mutants  # noqa: E402
 from runner.made.programs import device, network  # noqa: E402
 from runner.made.hostile import Caller, Judge  # noqa: E402
 from runner.trial import ROOT, read  # noqa: E402
+from vechaqir import script  # noqa: E402
 
 SECONDS, MEMORY = 10, 2 << 30
 DEVICES = [device(2, 1, 9000, []), device(4, 2, 2000, []), '{"version": 2, "rows": 2, "cols": 2, "slots": [{"LUT": 900, "FF": 900}, {"LUT": 900, "FF": 900}, {"LUT": 900, "FF": 900}, {"LUT": 900, "FF": 900}], "levels_rows": [3], "levels_cols": [1], "forbidden": [[1, 1]]}']
@@ -284,30 +286,21 @@ def try_input(caller, judge, found, given):
         found.finding(given, wrong)
 
 
-def arguments(given):
-    """The program, the seconds and the seed of a line; none where it is no line of this script."""
-    options = {"--seconds": 60, "--seed": 1}
-    rest = list(given)
-    while len(rest) > 2 and rest[-2] in options and rest[-1].isdigit():
-        options[rest[-2]] = int(rest[-1])
-        rest = rest[:-2]
-    return (rest[0], *options.values()) if len(rest) == 1 and os.access(rest[0], os.X_OK) else None
+def words():
+    asked = script.Words(__doc__).program()
+    asked.add_argument("--seconds", metavar="N", type=script.number(1), default=60, help="how long, 60 seconds if not given")
+    asked.add_argument("--seed", metavar="S", type=script.number(), default=1, help="where the chance of the inputs begins, 1 if not given")
+    return asked
 
 
-def main(given):
-    read_words = arguments(given)
-    if not read_words:
-        print(__doc__.strip(), file=sys.stderr)
-        return 2
-    program, seconds, seed = read_words
-    program = os.path.abspath(program)
+def main(asked):
     found = Found(tempfile.mkdtemp(prefix="tapa-floods-"))
-    print(f"what is found is kept in {found.folder}; seed {seed}", flush=True)
+    print(f"what is found is kept in {found.folder}; seed {asked.seed}", flush=True)
     shared = "/dev/shm" if os.path.isdir("/dev/shm") else None
     with tempfile.TemporaryDirectory(prefix="tapa-floods-", dir=shared) as folder:
-        caller, judge = Caller(program, folder, SECONDS, MEMORY), Judge()
+        caller, judge = Caller(asked.program, folder, SECONDS, MEMORY), Judge()
         try:
-            flood, end = Flood(caller, seed), time.monotonic() + seconds
+            flood, end = Flood(caller, asked.seed), time.monotonic() + asked.seconds
             while time.monotonic() < end:
                 try_input(caller, judge, found, flood.next())
         finally:
@@ -317,4 +310,4 @@ def main(given):
 
 
 if __name__ == "__main__":
-    sys.exit(main(sys.argv[1:]))
+    script.run(words(), main)

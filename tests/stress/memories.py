@@ -4,7 +4,7 @@ streams cross borders.
 
     tests/stress/memories.py PROGRAM [--programs N]
 
-100 programs by default, of which those count that end. Prints what is otherwise, and how many circuits were tried. Needs `iverilog` and `vvp`.
+Prints what is otherwise, and how many circuits were tried. Needs `iverilog` and `vvp`.
 """
 import json
 import os
@@ -15,9 +15,7 @@ import tempfile
 sys.dont_write_bytecode = True
 sys.path.insert(0, os.path.dirname(os.path.dirname(os.path.abspath(__file__))))
 from runner.made import leaves  # noqa: E402
-from runner.trial import ROOT  # noqa: E402
-
-sys.path.insert(0, os.path.join(ROOT, "tools"))
+from vechaqir import script  # noqa: E402
 import check_memories  # noqa: E402
 
 
@@ -55,17 +53,17 @@ def try_programs(program, count):
     return tried, wrong
 
 
-def main(given):
-    count = 100
-    if len(given) == 3 and given[1] == "--programs" and given[2].isdigit():
-        count, given = int(given[2]), given[:1]
-    if len(given) != 1:
-        print(__doc__.strip(), file=sys.stderr)
-        return 2
-    tried, wrong = try_programs(os.path.abspath(given[0]), count)
+def words():
+    asked = script.Words(__doc__).program()
+    asked.add_argument("--programs", metavar="N", type=script.number(1), default=100, help="how many programs, 100 if not given, of which those count that end")
+    return asked
+
+
+def main(asked):
+    tried, wrong = try_programs(asked.program, asked.programs)
     print("\n".join([*wrong, f"{tried} circuits, {len(wrong)} runs otherwise"]))
     return 1 if wrong or not tried else 0
 
 
 if __name__ == "__main__":
-    sys.exit(main(sys.argv[1:]))
+    script.run(words(), main)

@@ -1,7 +1,7 @@
 #!/usr/bin/env python3
 """Runs networks by 1 to 64 workers again and again on a loaded machine: each has one answer, however its workers take turns, and none hangs.
 
-    tests/stress/threads.py PROGRAM [--runs N] [--seed S]     1,000 runs and seed 1, where nothing else is said
+    tests/stress/threads.py PROGRAM [--runs N] [--seed S]
 
 The networks are twenty: random ones of tests/runner/groups/workers.py that end in all ways, and some with much to do, of which one makes small batches and
 large ones by phases. Beside them two processes for each processor do nothing but use it, and four runs are made at once. Some of them have all of their
@@ -17,9 +17,11 @@ import tempfile
 import threading
 import time
 
+sys.dont_write_bytecode = True
 sys.path.insert(0, os.path.dirname(os.path.dirname(os.path.abspath(__file__))))
 from runner.groups.workers import Network  # noqa: E402
 from runner.made.programs import apart, by_phases, hub  # noqa: E402
+from vechaqir import script  # noqa: E402
 
 NETWORKS, SECONDS, AT_ONCE = 20, 60, 4
 
@@ -93,34 +95,26 @@ def load():
     return [subprocess.Popen([sys.executable, "-c", "while True: pass"]) for _ in range(2 * len(os.sched_getaffinity(0)))]
 
 
-def arguments(given):
-    """The program, the number of runs and the seed of a line; none where it is no line of this script."""
-    options = {"--runs": 1000, "--seed": 1}
-    rest = list(given)
-    while len(rest) > 2 and rest[-2] in options and rest[-1].isdigit():
-        options[rest[-2]] = int(rest[-1])
-        rest = rest[:-2]
-    return (rest[0], *options.values()) if len(rest) == 1 and os.access(rest[0], os.X_OK) else None
+def words():
+    asked = script.Words(__doc__).program()
+    asked.add_argument("--runs", metavar="N", type=script.number(1), default=1000, help="how many runs, 1,000 if not given")
+    asked.add_argument("--seed", metavar="S", type=script.number(), default=1, help="where their chance begins, 1 if not given")
+    return asked
 
 
-def main(given):
-    words = arguments(given)
-    if not words:
-        print(__doc__.strip(), file=sys.stderr)
-        return 2
-    program, count, seed = words
+def main(asked):
     with tempfile.TemporaryDirectory(prefix="tapa-threads-") as folder:
-        runs, busy = Runs(program, folder, seed), load()
+        runs, busy = Runs(asked.program, folder, asked.seed), load()
         try:
-            runs.run(count)
+            runs.run(asked.runs)
         finally:
             for one in busy:
                 one.kill()
                 one.wait()
     print("by status: " + ", ".join(f"{status}: {number}" for status, number in sorted(runs.statuses.items(), key=str)))
-    print(f"{count} runs, {len(runs.findings)} findings")
+    print(f"{asked.runs} runs, {len(runs.findings)} findings")
     return 1 if runs.findings else 0
 
 
 if __name__ == "__main__":
-    sys.exit(main(sys.argv[1:]))
+    script.run(words(), main)

@@ -8,22 +8,27 @@ Each takes some twelve seconds of a processor; the runner makes one of them.
 import os
 import sys
 
+sys.dont_write_bytecode = True
 sys.path.insert(0, os.path.dirname(os.path.dirname(os.path.abspath(__file__))))
 from runner.groups import benches, examples  # noqa: E402
 from runner.trial import Trial  # noqa: E402
+from vechaqir import script  # noqa: E402
 
 
-def main(words):
-    if not words or words[0].startswith("-"):
-        print(__doc__.strip(), file=sys.stderr)
-        return 2
-    trial = Trial(words[0])
+def words():
+    asked = script.Words(__doc__).program()
+    asked.add_argument("names", metavar="NAME", nargs="*", help="examples, all if none is given")
+    return asked
+
+
+def main(asked):
+    trial = Trial(asked.program)
     trial.begin("verilated")
     for at, name in enumerate(examples.names()):
-        if not words[1:] or name.rpartition("/")[2] in words[1:]:
+        if not asked.names or name.rpartition("/")[2] in asked.names:
             benches.try_verilator(trial, name.rpartition("/")[2], benches.WAYS[at % 4])
     return trial.end()
 
 
 if __name__ == "__main__":
-    sys.exit(main(sys.argv[1:]))
+    script.run(words(), main)

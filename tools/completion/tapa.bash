@@ -11,11 +11,13 @@ _tapa_files() {
 }
 
 _tapa() {
-  local word=${COMP_WORDS[COMP_CWORD]} before=${COMP_WORDS[COMP_CWORD - 1]} command=${COMP_WORDS[1]} options="" at=2
+  local word=${COMP_WORDS[COMP_CWORD]} before=${COMP_WORDS[COMP_CWORD - 1]} first=1 options=""
   local -a given=()
   COMPREPLY=()
-  if [ "$COMP_CWORD" -eq 1 ]; then
-    mapfile -t COMPREPLY < <(compgen -W "run build plan cosim vcd gen" -- "$word")
+  [ "${COMP_WORDS[1]}" = --explain ] && [ "$COMP_CWORD" -gt 1 ] && first=2
+  local command=${COMP_WORDS[first]} at=$((first + 1))
+  if [ "$COMP_CWORD" -eq "$first" ]; then
+    mapfile -t COMPREPLY < <(compgen -W "run build plan cosim vcd gen $([ "$first" -eq 1 ] && [[ $word == -* ]] && echo --explain)" -- "$word")
     return
   fi
   case $before in

@@ -1,4 +1,4 @@
-"""Designs of `tapa` in place of a host program: `Design(src, top)` is checked, run, built, simulated, planned, and called as a function (docs/PYTHON.md).
+"""Designs of `tapa` for scripts and tests: `Design(src, top)` is checked, run, built, simulated, planned, and called as a function (docs/PYTHON.md).
 
 The names are read from their modules when they are asked for, so that a script that needs one module does not read all of them.
 """
@@ -6,20 +6,20 @@ import importlib
 from typing import TYPE_CHECKING, Any
 
 if TYPE_CHECKING:
-    from .design import Circuit, Design
-    from .plan import Plan
-    from .program import NoProgram, Program, find
-    from .report import EOT, Eot, Token, Waiting
-    from .results import Failure, NotDone, Refused, Result, Stopped
+    from .host.design import Circuit, Design
+    from .host.plan import Plan
+    from .host.program import NoProgram, Program, find
+    from .host.report import EOT, Eot, Token, Waiting
+    from .host.results import Failure, NotDone, PastEnd, Refused, Result, Stopped
 
-__all__ = ["Circuit", "Design", "EOT", "Eot", "Failure", "NoProgram", "NotDone", "Plan", "Program", "Refused", "Result", "Stopped", "Token", "Waiting", "find"]
+__all__ = ["Circuit", "Design", "EOT", "Eot", "Failure", "NoProgram", "NotDone", "PastEnd", "Plan", "Program", "Refused", "Result", "Stopped", "Token", "Waiting", "find"]
 
 _HOMES = {
-    "design": ("Circuit", "Design"),
-    "plan": ("Plan",),
-    "program": ("NoProgram", "Program", "find"),
-    "report": ("EOT", "Eot", "Token", "Waiting"),
-    "results": ("Failure", "NotDone", "Refused", "Result", "Stopped"),
+    "host.design": ("Circuit", "Design"),
+    "host.plan": ("Plan",),
+    "host.program": ("NoProgram", "Program", "find"),
+    "host.report": ("EOT", "Eot", "Token", "Waiting"),
+    "host.results": ("Failure", "NotDone", "PastEnd", "Refused", "Result", "Stopped"),
 }
 
 

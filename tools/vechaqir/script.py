@@ -1,35 +1,90 @@
-"""What each script of tools/ does around its one function: `--help`, faults in one line, closed pipes, Ctrl-C, and the status."""
-import errno
-import io
-import os
+"""What each script does around its one function: its words, `--help`, faults in a line, closed pipes, Ctrl-C, and the status. Scripts alone import it, first of all."""
 import signal
-import subprocess
-import sys
-from typing import Callable, List, NoReturn, Optional, Sequence, TextIO, Union, cast
+
+# Until all is there Ctrl-C ends a script without a word; `run` says it by itself from then on.
+if signal.getsignal(signal.SIGINT) == signal.default_int_handler:
+    signal.signal(signal.SIGINT, signal.SIG_DFL)
+
+import argparse  # noqa: E402
+import errno  # noqa: E402
+import io  # noqa: E402
+import os  # noqa: E402
+import subprocess  # noqa: E402
+import sys  # noqa: E402
+from typing import Callable, List, NoReturn, Optional, Sequence, TextIO, Union, cast  # noqa: E402
+
+from .host.faults import Fault, Told  # noqa: E402
+
+ROOT = os.path.dirname(os.path.dirname(os.path.dirname(os.path.realpath(__file__))))
 
 
 class Usage(Exception):
-    """The words are no command of the script; with a sentence where one says more."""
+    """The words are no command of the script; the sentence says why."""
 
 
-class Fault(Exception):
-    """Something outside is not as it must be; the sentence says what."""
+def called() -> str:
+    """The script's name in its messages: its path in the repository."""
+    path = os.path.realpath(sys.argv[0])
+    return os.path.relpath(path, ROOT) if path.startswith(f"{ROOT}{os.sep}") else os.path.basename(path)
 
 
-class Told(ValueError):
-    """What the program told, in its own words; `words` are those of a command that is told the same, by which it can be explained."""
+def number(least: int = 0, most: int = 10**18) -> Callable[[str], int]:
+    """Reads a whole number within bounds."""
 
-    def __init__(self, text: str, words: Sequence[str]) -> None:
-        super().__init__(text)
-        self.words = list(words)
+    def read(word: str) -> int:
+        if not word.isdecimal() or len(word) > 20 or not least <= int(word) <= most:
+            raise argparse.ArgumentTypeError(f"{word} is no number from {least} to {most}")
+        return int(word)
+
+    return read
+
+
+def executable(path: str) -> str:
+    """The whole path of a program."""
+    if not os.path.isfile(path) or not os.access(path, os.X_OK):
+        raise argparse.ArgumentTypeError(f"{path} is no program")
+    return os.path.abspath(path)
+
+
+class Words(argparse.ArgumentParser):
+    """The words of a script, whose page `--help` prints with what each word is. Wrong ones raise Usage."""
+
+    def __init__(self, page: Optional[str]) -> None:
+        super().__init__(called(), argparse.SUPPRESS, (page or "").strip(), formatter_class=argparse.RawDescriptionHelpFormatter, allow_abbrev=False)
+
+    def error(self, message: str) -> NoReturn:
+        raise Usage(message)
+
+    def program(self) -> "Words":
+        """A built `tapa`."""
+        self.add_argument("program", metavar="PROGRAM", type=executable, help="the built `tapa`")
+        return self
+
+    def design(self, data: bool = False) -> "Words":
+        """A source and its top task, and maybe a data file."""
+        self.add_argument("source", metavar="SRC", help="the source")
+        self.add_argument("top", metavar="TOP", help="its top task")
+        if data:
+            self.add_argument("data", metavar="DATA", nargs="?", help="a data file (docs/DATA.md)")
+        return self
+
+    def device(self) -> "Words":
+        """For which device a circuit is built, and how it is planned."""
+        self.add_argument("--device", metavar="DEV", help="a device file: the circuit is built for it")
+        self.add_argument("--plan", metavar="MODE", help="how it is planned on the device, fit if not given")
+        return self
+
+    def cycles(self) -> "Words":
+        self.add_argument("--cycles", metavar="N", type=number(1), default=0, help="the most cycles that are simulated; as many as a run needs if not given")
+        return self
 
 
 def shown(messages: str, words: Sequence[str]) -> str:
     """Messages of the program; on a terminal each with its explanation, as `./tapa` shows it there."""
     if not messages or not sys.stderr.isatty():
         return messages
-    from . import explain
-    explainer = explain.Explainer(explain.Command(list(words)))
+    from .explain.explainer import Command, Explainer
+    explainer = Explainer(Command(list(words)))
     lines = [it for line in messages.splitlines() for it in (line, *explainer.safely(line))]
     return "".join(f"{it}\n" for it in lines + explainer.ended())
 
@@ -57,11 +112,6 @@ def leave(status: Union[int, str, None]) -> NoReturn:
     sys.exit(status)
 
 
-def helped(page: Optional[str]) -> int:
-    print((page or "").strip())
-    return 0
-
-
 class Closed(io.TextIOBase):
     """Standard output where it is closed: each write fails."""
 
@@ -85,28 +135,35 @@ def put_streams() -> None:
     sys.stderr = sys.stderr or open(2, "w", encoding="utf-8", closefd=False)
 
 
-def run(name: str, page: Optional[str], main: Callable[[List[str]], int]) -> NoReturn:
-    """Runs a script by its words: `--help` prints the page; status 0 is done, 1 a fault, which is told in one line, 2 words that are no command."""
-    put_streams()
-    given = sys.argv[1:]
-    if signal.getsignal(signal.SIGINT) == signal.SIG_DFL:
-        signal.signal(signal.SIGINT, signal.default_int_handler)
+def ended(words: Words, main: Callable[[argparse.Namespace], Optional[int]], given: Optional[List[str]]) -> Union[int, str, None]:
+    """The status of a script: its function's, 0 if that gives none, 1 for a fault and 2 for wrong words."""
     try:
-        status = helped(page) if given and given[0] in ("--help", "-h") else main(given)
+        return main(words.parse_args(given))
+    except SystemExit as end:
+        return end.code
     except Usage as why:
-        sys.stderr.write(f"{name}: {why}\n" if str(why) else "")
-        sys.stderr.write((page or "").strip() + "\n")
-        status = 2
+        sys.stderr.write(f"{words.prog}: {why} (--help says more)\n")
+        return 2
     except BrokenPipeError:
-        status = 1
+        return 1
     except KeyboardInterrupt:
         signal.signal(signal.SIGINT, signal.SIG_DFL)
         os.kill(os.getpid(), signal.SIGINT)
-        status = 1
+        return 1
     except Told as why:
-        sys.stderr.write(f"{name}: {shown(f'{why}{os.linesep}', why.words)}")
-        status = 1
-    except (Fault, LookupError, OSError, ValueError, TypeError, AttributeError, MemoryError, RecursionError, subprocess.SubprocessError) as why:
-        sys.stderr.write(f"{name}: {told(why)}\n")
-        status = 1
-    leave(status)
+        sys.stderr.write(shown(f"{why}{os.linesep}", why.words))
+        return why.status
+    except Fault as why:
+        sys.stderr.write("".join(f"{words.prog}: {line}\n" for line in why.lines))
+        return why.status
+    except (LookupError, OSError, ValueError, TypeError, AttributeError, MemoryError, RecursionError, subprocess.SubprocessError) as why:
+        sys.stderr.write(f"{words.prog}: {told(why)}\n")
+        return 1
+
+
+def run(words: Words, main: Callable[[argparse.Namespace], Optional[int]], given: Optional[List[str]] = None) -> NoReturn:
+    """Runs a script by its words and ends: `--help` prints the page, a fault is told in a line, and nothing ends in a traceback."""
+    put_streams()
+    if signal.getsignal(signal.SIGINT) == signal.SIG_DFL:
+        signal.signal(signal.SIGINT, signal.default_int_handler)
+    leave(ended(words, main, given))

@@ -4,9 +4,10 @@ import os
 import unittest
 
 from gallery import ROOT
-from vechaqir import EOT, Design, NoProgram, NotDone, Refused, Stopped, find, report
-from vechaqir.data import BadData, Data, parse, template, text_of
-from vechaqir.source import read
+from vechaqir import Design, EOT, Failure, NoProgram, NotDone, Refused, Stopped, find
+from vechaqir.host import report
+from vechaqir.host.data import BadData, Data, parse, template, text_of
+from vechaqir.language.source import read
 
 
 def example(name, top):
@@ -72,6 +73,47 @@ class Exceptions(unittest.TestCase):
             ADD.kernel([1.5], [2], [0], 1)
         with self.assertRaises(TypeError):
             ADD.kernel([1], [2], (0,), 1)
+
+    def test_texts_explain(self):
+        """The text of an exception has what is wrong, why, and what to write instead; data and devices are arguments of the call, and no files."""
+        lengths = {"a": [1], "b": [2], "c": [0]}
+        for call, wanted in (
+            (lambda: example("refused/wrong_kind", "Top").check(), ["C3 wrong kind", "   11 | ", "argument 1 of `Source` is `q`", "why: ", "instead: ", "docs/REFUSALS.md, C3"]),
+            (lambda: ADD.run({"n": 1}, {"a": [1], "b": [2], "d": [0]}), ["J2 memories.c", "`memories` has `d`, which `VecAdd` has not", 'instead: give `memories={"c": [0, 0, 0, 0], ..}`']),
+            (lambda: ADD.run({"n": 1}, {**lengths, "b": [2**32]}), ["J3 memories.b", "cell 0 of `memories.b` is 4294967296"]),
+            (lambda: ADD.plan({"rows": 1, "cols": 3, "slots": [{}] * 8}), ["K1 slots", "`slots` has 8 of the 3 slots"]),
+            (lambda: ADD.plan({"rows": 1, "cols": 1, "slots": [{"LUT": 1}]}), ["no room for", "instead: take `--plan exact`", "tools/place.py"]),
+            (lambda: example("too_shallow", "TooShallow").run(), ["Producer$0 waits in line 9 for room in `data`", "circle", "instead: "]),
+            (lambda: ADD.cosim({"n": 1}, lengths, cycles=3), ["not done after 3 cycles", "instead: give `cycles=30`"]),
+            (lambda: example("vector_add", "Nobody").run(), ["the source has no task `Nobody`: its tasks are", "give `VecAdd` as `TOP`"]),
+        ):
+            with self.assertRaises(Failure) as told:
+                call()
+            for part in wanted:
+                self.assertIn(part, str(told.exception))
+            self.assertNotIn("no explanation", str(told.exception))
+            self.assertEqual(type(told.exception).__module__, "vechaqir")
+            self.assertTrue(str(told.exception).startswith(told.exception.lines[0]))
+
+    def test_arguments_are_named(self):
+        lengths = {"a": [1], "b": [2], "c": [0]}
+        for call, error, wanted in (
+            (lambda: ADD.run({"n": 1.5}, lengths), TypeError, "scalars['n'] is 1.5"),
+            (lambda: ADD.run({"n": 1}, {**lengths, "b": [2, "x"]}), TypeError, "memories['b'][1] is 'x'"),
+            (lambda: ADD.run({"n": 1}, {**lengths, "b": 2}), TypeError, "memories['b'] is 2"),
+            (lambda: ADD.run([1]), TypeError, "scalars is of type list"),
+            (lambda: ADD.cosim({"n": 1}, lengths, ready={"c": [None]}), TypeError, "ready['c'][0] is None"),
+            (lambda: ADD.run({"n": 1}, lengths, workers=0), ValueError, "workers is 0, and has to be a whole number from 1 to 64"),
+            (lambda: ADD.run({"n": 1}, lengths, steps="9"), ValueError, "steps is '9'"),
+            (lambda: ADD.plan(DEVICE, "exct"), ValueError, "plan is 'exct', and has to be 'fit', 'exact' or 'split'"),
+            (lambda: ADD.plan(3), TypeError, "device is of type int"),
+            (lambda: ADD.plan({"rows": {1}}), TypeError, "device: "),
+            (lambda: ADD.kernel([1], [2], [0]), TypeError, "VecAdd takes 4 arguments (a, b, c, n), and gets 3"),
+            (lambda: ADD.kernel([1], ["y"], [0], 1), TypeError, "memories['b'][0] is 'y'"),
+        ):
+            with self.assertRaises(error) as told:
+                call()
+            self.assertIn(wanted, str(told.exception))
 
     def test_stopped_and_not_done(self):
         with self.assertRaises(Stopped) as told:

@@ -9,8 +9,7 @@ import sys
 ROOT = os.path.dirname(os.path.dirname(os.path.dirname(os.path.dirname(os.path.abspath(__file__)))))
 sys.path.insert(0, os.path.join(ROOT, "tools"))
 
-from vechaqir import device as devices  # noqa: E402
-from vechaqir import estimate as estimates  # noqa: E402
+from vechaqir.host import device as devices, estimate as estimates  # noqa: E402
 
 PARTS = ("u250", "u280")
 FULL, SPARSE, MANY = 80, 50, 30

@@ -8,7 +8,7 @@
                                                             place.py find within 1, 10, 60 and SECONDS seconds of one processor
     tests/measure/plans/run.py PROGRAM write FOLDER [NAME ..]   writes sources, data and device files
 
-NAME is the name of a design, all if none is given. The status is 1 where something is wrong.
+The status is 1 where something is wrong.
 """
 import json
 import os
@@ -21,9 +21,9 @@ import time
 sys.dont_write_bytecode = True
 from families import DESIGNS  # noqa: E402
 from chips import PARTS, ROOT, device_of  # noqa: E402
-from vechaqir import device as devices  # noqa: E402
-from vechaqir import estimate, place, place_groups, place_levels, place_exact, program, report  # noqa: E402
-from vechaqir import plan as plans  # noqa: E402
+from vechaqir import script  # noqa: E402
+from vechaqir.host import device as devices, estimate, plan as plans, program, report, slot_groups  # noqa: E402
+from vechaqir.place import exact, levels, placement  # noqa: E402
 
 # The most plans that exact looks at, and the orders of invokes that are tried.
 MOST, ORDERS = 4_194_304, (0, 1)
@@ -64,8 +64,8 @@ class Prepared:
         self.name, self.design = name, DESIGNS[name]()
         self.source = suite.put(f"{name.replace(' ', '_')}_{order}.cpp", self.design.source(order))
         self.found = estimate.estimate(suite.program, self.source, "Top")
-        self.links = place_groups.links(self.source, "Top", self.found.labels, self.found.widths)
-        self.groups = place_groups.groups(self.found.labels, self.links)
+        self.links = slot_groups.links(self.source, "Top", self.found.labels, self.found.widths)
+        self.groups = slot_groups.groups(self.found.labels, self.links)
 
     def device(self, part):
         return device_of(part, self.found, len(self.groups))
@@ -144,12 +144,12 @@ def check_random(suite, count):
 def searched(request, most):
     """What the attempts of place.py find within 1, 10, 60 and `most` seconds of one processor, with how many were over by then; the first counts in any
     time. And the board."""
-    graph, board = place.problem_of(request, False)
+    graph, board = placement.problem_of(request, False)
     limits = [limit for limit in SECONDS if limit < most] + [most]
     best, made, marks, begun = None, 0, {}, time.process_time()
     while limits:
-        layout = place_levels.attempt(graph, board, 1, made)
-        layout = layout if made else place_exact.search(graph, board, layout).found
+        layout = levels.attempt(graph, board, 1, made)
+        layout = layout if made else exact.search(graph, board, layout).found
         while made and limits and time.process_time() - begun > limits[0]:
             marks[limits.pop(0)] = best, made
         best = min((it for it in (best, layout) if it), key=lambda it: it.cost, default=None)
@@ -167,16 +167,16 @@ def row(suite, name, part, most):
     for mode in ("fit", "split", "exact"):
         for one in prepared:
             plan, took = suite.cost(one.source, device, mode)
-            cells.append(f"{mode} {plan.cost}, {place.registers(plan)}, {took:.2f} s" if plan else f"{mode} none")
-    requests = [place.read_request(suite.program, one.source, "Top", known) for one in prepared]
-    cells.append("one graph" if place.problem_of(requests[0], False) == place.problem_of(requests[1], False) else "two graphs")
+            cells.append(f"{mode} {plan.cost}, {placement.registers(plan)}, {took:.2f} s" if plan else f"{mode} none")
+    requests = [placement.read_request(suite.program, one.source, "Top", known) for one in prepared]
+    cells.append("one graph" if placement.problem_of(requests[0], False) == placement.problem_of(requests[1], False) else "two graphs")
     marks, board = searched(requests[0], most)
     cells += [f"{limit} s: {best.cost if best else 'none'} in {made}" for limit, (best, made) in marks.items()]
     best = marks[most][0]
     if best:
-        pinned = suite.put("pinned.json", known.text(place.pins_of(requests[0], [board.slots[slot] for slot in best.at])))
+        pinned = suite.put("pinned.json", known.text(placement.pins_of(requests[0], [board.slots[slot] for slot in best.at])))
         plan = suite.cost(prepared[0].source, pinned)[0]
-        cells.append(f"{plan.cost}, {place.registers(plan)} registers")
+        cells.append(f"{plan.cost}, {placement.registers(plan)} registers")
     return cells
 
 
@@ -195,28 +195,31 @@ def write(suite, names):
             suite.put(f"{front}_{part}.json", prepared.device(part).text())
 
 
-def main(given):
-    if len(given) < 2 or given[1] not in ("check", "random", "table", "write") or given[1] != "check" and len(given) < 3:
-        print(__doc__.strip(), file=sys.stderr)
-        return 2
-    names = given[2 if given[1] == "check" else 3:] or list(DESIGNS)
+def words():
+    asked = script.Words(__doc__).program()
+    asked.add_argument("what", metavar="WHAT", choices=("check", "random", "table", "write"), help="check, random, table or write")
+    asked.add_argument("words", metavar="COUNT|SECONDS|FOLDER|NAME", nargs="*", help="its words; NAME is the name of a design, all if none is given")
+    return asked
+
+
+def main(asked):
+    first, names = (None, asked.words) if asked.what == "check" else (asked.words[0] if asked.words else "", asked.words[1:])
     unknown = [name for name in names if name not in DESIGNS]
     if unknown:
-        print(f"tests/measure/plans/run.py: no design {unknown[0]}: {', '.join(DESIGNS)}", file=sys.stderr)
-        return 2
+        raise script.Usage(f"no design {unknown[0]}: {', '.join(DESIGNS)}")
+    if first == "" or asked.what in ("random", "table") and not first.isdecimal():
+        raise script.Usage(f"{asked.what} needs a {'folder' if asked.what == 'write' else 'number'}")
     with tempfile.TemporaryDirectory(prefix="tapa-plans-") as folder:
-        suite = Suite(given[0], given[2] if given[1] == "write" else folder)
-        if given[1] == "check":
-            check(suite, names)
-        elif given[1] == "random":
-            check_random(suite, int(given[2]))
-        elif given[1] == "table":
-            table(suite, int(given[2]), names)
+        suite = Suite(asked.program, first if asked.what == "write" else folder)
+        if asked.what == "random":
+            check_random(suite, int(first))
+        elif asked.what == "table":
+            table(suite, int(first), names or list(DESIGNS))
         else:
-            write(suite, names)
+            (check if asked.what == "check" else write)(suite, names or list(DESIGNS))
         print(f"{suite.faults} faults")
-        return 1 if suite.faults else 0
+    return 1 if suite.faults else 0
 
 
 if __name__ == "__main__":
-    sys.exit(main(sys.argv[1:]))
+    script.run(words(), main)

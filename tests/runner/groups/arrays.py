@@ -1,14 +1,9 @@
-"""Stream arrays and counted invokes: random sources beside the text that a second implementation writes out for them (tools/vechaqir/arrays.py). What is told
-of a source is what is told of that text."""
-import os
+"""Random sources with stream arrays and counted invokes, compared with their text by a second implementation (`tools/vechaqir/language/arrays.py`): what is told of a source is
+what is told of that text. A text of the most bytes, and of one more. `tests/stress/arrays.py PROGRAM` tries more sources."""
 import random
 import re
-import sys
 
-from runner.trial import ROOT
-
-sys.path.insert(0, os.path.join(ROOT, "tools"))
-from vechaqir import arrays as WRITTEN  # noqa: E402
+from vechaqir.language import arrays as WRITTEN, strict
 
 SOURCES = 200
 LEAVES = """void P(tapa::ostream<int>& q) { q << 1 << 2; }
@@ -136,7 +131,7 @@ def try_source(trial, name, source):
     said = said_of(trial, words, source)
     try:
         written, _ = WRITTEN.Writer(source).written()
-    except WRITTEN.NoLexemes:
+    except strict.NoLexemes:
         trial.check(name, said[0] == 1 and re.match(rb"tapa: r\.cpp:\d+:\d+: L\d ", said[2]), f"   {said}")
         return "lexemes"
     except WRITTEN.Refused as why:

@@ -1,4 +1,4 @@
-"""The registers of circuits for a device: on each stream of a text stand as many as `plan` prints of it, those of the borders and those of its balance."""
+"""The registers on each stream of a circuit for 300 random devices, with and without a balance, are those that `plan` prints."""
 import json
 import random
 import re

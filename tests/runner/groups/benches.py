@@ -1,4 +1,5 @@
-"""Testbenches (tools/testbench.py): each example's passes, with memories that answer in each way; of twenty wrong circuits each fails; and Verilator agrees."""
+"""Testbenches of `tools/testbench.py` in Icarus Verilog: each example passes, with memories that answer in each way, and twenty changed circuits fail; one in Verilator.
+`tests/stress/verilated.py PROGRAM` makes all of them by Verilator."""
 import os
 import random
 import re
@@ -89,7 +90,7 @@ def try_wrong(trial):
 
 def try_words(trial):
     """Wrong words, files and runs are told in a line."""
-    for words, status, part in ((["--help"], 0, "tools/testbench.py SRC TOP"), ([], 2, ""), (["x.cpp", "T", "--waits", "never"], 2, "none, late, random, data"),
+    for words, status, part in ((["--help"], 0, "tools/testbench.py SRC TOP"), ([], 2, ""), (["x.cpp", "T", "--waits", "never"], 2, "--waits: invalid choice"),
                                 (["none.cpp", "T"], 1, "none.cpp: No such file"), (["examples/vector_add.cpp", "VecAdd"], 1, "tapa: {}: J2 scalars.n"),
                                 (["examples/vector_add.cpp", "VecAdd", "examples/systolic.json"], 1, "tapa: examples/systolic.json: J2 scalars.n"),
                                 (["examples/too_shallow.cpp", "TooShallow", "--device", "examples/devices/two_slots.json"], 1, "the run stops"),

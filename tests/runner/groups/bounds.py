@@ -1,9 +1,8 @@
-"""Each limit at it and one past it, for every command that reads what it limits.
-
-`run` is tried on the tables of tests/cases/sources, tests/cases/data and in endings; here `build`, `plan` and `cosim` get the same sources and files."""
+"""Each limit at it and one past it, for every command that reads what it limits. `run` is tried on the tables of tests/cases/sources, tests/cases/data and in endings; here
+`build`, `plan` and `cosim` get the same sources and files."""
 import json
 
-from runner.groups.endings import COPY, DATA_LIMIT, DONE, PAIR, SOURCE_LIMIT, padded
+from runner.groups.endings import DATA_LIMIT, DONE, PAIR, SOURCE_LIMIT, padded
 from runner.groups.sources import parts, repeated, table
 
 DEVICE = '{"rows": 1, "cols": 1, "slots": [{"LUT": 4000000000, "FF": 4000000000, "BRAM": 4000000000, "DSP": 4000000000}]}'

@@ -1,4 +1,4 @@
-"""Circuits: each example is built, and what its text carries in a simulation is what the run shows, however long its memories keep it waiting."""
+"""Each example is built, and its text carries in a simulation what the run shows, with memories that are not always ready too."""
 import json
 import os
 import random
@@ -67,8 +67,8 @@ def try_circuit(trial, name):
 
 
 def try_legend(trial):
-    """Each net of a task's module, in the texts of the examples and of the features, is in the legend of docs/VERILOG.md, with as many numbers."""
-    legend = read("docs/VERILOG.md").partition("## A task's nets")[2].partition("\n## ")[0]
+    """Each net of a task's module, in the texts of the examples and of the features, is in the legend of docs/CIRCUIT.md, with as many numbers."""
+    legend = read("docs/CIRCUIT.md").partition("## A task's nets")[2].partition("\n## ")[0]
     known = {re.sub(r"_[A-Z]\b|_[A-Z](?=_)", "_#", name) for name in re.findall(r"`([a-z]+(?:_[A-Z])*)`", legend)}
     for source, top in [(f"examples/{it}.cpp", None) for it in ("vector_add", "stencil", "run_length")] + [("tests/cases/circuits/features.cpp", "Top"), ("tests/cases/circuits/states.cpp", "T")]:
         top = top or read(source).split("\n")[0].split()[4]

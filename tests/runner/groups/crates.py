@@ -1,9 +1,9 @@
-"""That documents and tests speak of what is there: crates, rooms, and the names of definitions and laws."""
+"""The list of crates, the rooms of docs/VERIFIED.md, names of definitions and laws, and links between pages."""
 import os
 import re
 
 from runner.trial import ROOT, read
-from runner.write import crates as listed
+from runner.write import chain, crates as listed, lists
 
 # Pages whose words between ` and ` are names of the code.
 OF_NAMES = ("docs/PROMISES.md", "docs/READING.md")
@@ -22,19 +22,23 @@ def texts_of_crates(crate=""):
 
 
 def try_lists(trial):
-    """docs/ARCHITECTURE.md has each crate with its own first sentence, and README.md a row for each room."""
-    trial.check_equal("docs/ARCHITECTURE.md has the list of tests/run.py write crates", listed.listed(read("docs/ARCHITECTURE.md")), listed.text())
+    """docs/ARCHITECTURE.md has each crate with its own first sentence, and docs/VERIFIED.md a row for each room; that its links lead somewhere is tried by the group `documents`."""
+    lists.check(trial, listed.LISTS, "crates")
     for room, crates in listed.rooms():
         for name in crates:
             trial.check(f"the crate {name} begins with a sentence that says what it is", listed.what_it_is(name).endswith("."))
     rooms = [room.split(":")[0] for room, _ in listed.rooms()]
-    table = read("README.md").partition("## What is proved, by room")[2].partition("\n\n**")[0]
+    table = read("docs/VERIFIED.md").partition("## What is proved, by room")[2].partition("\n## ")[0]
     rows = re.findall(r"^\| ([\w ]+) \| .* \|$", table, re.M)
-    trial.check_equal("README.md has a row for each room that has code, in the order of crates.txt", [row for row in rows if row != "room"], [room for room in rooms if not room.startswith("tests")])
-    sections = re.findall(r"^## (.*)$", read("docs/PROMISES.md"), re.M)
-    for row in re.findall(r"^\| (?!room)\w.* \| (.*) \|$", table, re.M):
-        named = re.findall(r'"([^"]+)"', row)
-        trial.check(f"README.md: the sections {named} are those of docs/PROMISES.md", named and set(named) <= set(sections))
+    trial.check_equal("docs/VERIFIED.md has a row for each room that has code, in the order of crates.txt", [row for row in rows if row != "room"], [room for room in rooms if not room.startswith("tests")])
+
+
+def try_chain(trial):
+    """The picture of the chain of theorems is drawn by its script, and each of its names is in its crate."""
+    trial.check_equal("docs/chain.svg is drawn by tests/run.py write chain", read(chain.PICTURE), "\n".join(chain.drawing()) + "\n")
+    for box in chain.BOXES.values():
+        crate = box.crate or chain.HOMES[box.name]
+        trial.check(f"docs/chain.svg: {box.name} is in {crate}", re.search(rf"\b(?:fn |pub |record ){box.name}\b", texts_of_crates(crate)))
 
 
 def try_names(trial):
@@ -52,7 +56,7 @@ def try_names(trial):
 def try_figures(trial):
     """docs/FIGURES.md is short, and its table of the gate has crates that there are."""
     page = read("docs/FIGURES.md")
-    trial.check("docs/FIGURES.md has at most 150 lines", page.count("\n") <= 150)
+    trial.check("docs/FIGURES.md has at most 160 lines", page.count("\n") <= 160)
     rows = re.findall(r"^\| (?:\w+ \| \d+ \| \d+ \| \d+ \|).*$", page.partition("## The gate")[2], re.M)
     named = {name for row in rows for name in re.findall(r"\b[a-z]\w+\b", row)}
     trial.check("docs/FIGURES.md has what the gate spends on crates", len(named) > 60)
@@ -60,16 +64,33 @@ def try_figures(trial):
 
 
 def try_homes(trial):
-    """Where docs/READING.md names a definition with its crate, the definition stands in that crate."""
+    """Where docs/READING.md names definitions with their crate, or with the file, they are there."""
     page = read("docs/READING.md")
-    named = re.findall(r"((?:`\w+`(?:, | and )?)+) \((\w+(?:, [a-z]\w*)*)(?:, specs/[\w.]+)?\)", page)
-    trial.check("docs/READING.md names definitions with their crates", len(named) >= 15, f"   {len(named)}")
-    crates_of = {name for _, crates in listed.rooms() for name in crates}
-    for names, homes in named:
-        homes = [home for home in homes.split(", ") if home in crates_of]
-        text = "\n".join(texts_of_crates(home) for home in homes)
+    crates = {name for _, listed_crates in listed.rooms() for name in listed_crates}
+    named = re.findall(r"((?:`\w+`(?:, | and )?)+) \((?:\[\w+, \w+\]\(\.\./([\w/.]+)\)|(\w+))\)", page)
+    trial.check("docs/READING.md names definitions with their crates", len(named) >= 25, f"   {len(named)}")
+    for names, path, crate in named:
+        text = read(path) if path else texts_of_crates(crate) if crate in crates else ""
         for name in re.findall(r"`(\w+)`", names):
-            trial.check(f"docs/READING.md: `{name}` is in {', '.join(homes)}", bool(homes) and re.search(rf"pub (?:record |data )?{name}\b", text))
+            trial.check(f"docs/READING.md: `{name}` is in {path or crate}", re.search(rf"pub (?:record |data )?{name}\b", text))
+
+
+def try_boxes(trial):
+    """Each section of docs/PROMISES.md that begins with a box names definitions that are in the files of the box."""
+    boxes = re.findall(r"^\| sentence \| .* \|\n\| clause \| .* \|\n\| record \| (.*) \|\n\| file \| (.*) \|$", read("docs/PROMISES.md"), re.M)
+    trial.check("docs/PROMISES.md has boxes", len(boxes) >= 12, f"   {len(boxes)}")
+    for records, files in boxes:
+        text = "\n".join(text_of(path) for path in re.findall(r"\(\.\./(.*?)\)", files))
+        for name in re.findall(r"`(\w+)`", records):
+            trial.check(f"docs/PROMISES.md: `{name}` is in {files}", re.search(rf"\bpub (?:record |data )?{name}\b", text))
+
+
+def text_of(path):
+    """The text of a file, or of all definitions in a folder."""
+    if path.endswith(".antt"):
+        return read(path)
+    names = [os.path.join(folder, name) for folder, _, names in os.walk(os.path.join(ROOT, path)) for name in names if name.endswith(".antt")]
+    return "\n".join(read(os.path.relpath(name, ROOT)) for name in sorted(names))
 
 
 def try_clauses(trial):
@@ -91,8 +112,10 @@ def try_links(trial):
 
 def try_all(trial):
     try_lists(trial)
+    try_chain(trial)
     try_names(trial)
     try_figures(trial)
     try_homes(trial)
     try_clauses(trial)
+    try_boxes(trial)
     try_links(trial)

@@ -5,14 +5,14 @@ import shlex
 import subprocess
 import sys
 
-from runner.groups import inputs
+from runner import prose
+from runner.groups import data as inputs
 from runner.groups.sources import context
 from runner.trial import ROOT, Said, read
+from vechaqir.explain import pages
 
-sys.path.insert(0, os.path.join(ROOT, "tools"))
-from vechaqir import pages  # noqa: E402
-
-PAGES = ["README.md", "CONTRIBUTING.md", *sorted(f"docs/{name}" for name in os.listdir(os.path.join(ROOT, "docs")) if name.endswith(".md"))]
+# A file that a page has its reader save, and the block that it is.
+SAVED = re.compile(r"[Ss]ave (?:this|it)\s+as\s+`([\w./]+)`[^\n]*:\n\n```\w*\n(.*?)^```$", re.M | re.S)
 
 
 def sections(page):
@@ -103,6 +103,44 @@ def try_texts(trial):
     trial.check("each rule on Verilog texts has one that is refused", shown == {f"V{number}" for number in range(1, 7)}, f"   {shown}")
 
 
+# The programs around the data and device files of docs/REFUSALS.md.
+OF_DATA = """void F(tapa::mmap<int> a, int n) { }
+void T(tapa::mmap<int> a, int n) { tapa::task().invoke(F, a, n); }
+"""
+OF_DEVICE = """void A(tapa::istream<int>& r, tapa::ostream<int>& q) { q << 1; r.read(); } void B(tapa::istream<int>& q, tapa::ostream<int>& r) { r << q.read(); } void S(int n) { }
+void T() { tapa::stream<int> q, r; tapa::task().invoke(A, r, q).invoke(B, q, r).invoke(S, 1); }
+"""
+
+
+def shown_files():
+    """The data files, device files and dumps of docs/REFUSALS.md: the sort of each, what it is refused with or `instead`, and its text."""
+    return re.findall(r"^```(?:json)?\n// (data|device|dump): (.*)\n([^`]*)^```$", read("docs/REFUSALS.md"), re.M)
+
+
+def command_of(trial, sort, what, text):
+    """The words of a command that reads a file of docs/REFUSALS.md, and the file's name in messages."""
+    if sort == "dump":
+        trial.put("x.vcd", text)
+        return ["vcd", "x.vcd", what[3:] if what.startswith("X2 ") else "done"], "x.vcd"
+    trial.put("x.cpp", OF_DATA if sort == "data" else OF_DEVICE)
+    trial.put("x.json", text)
+    return ["run" if sort == "data" else "plan", "x.cpp", "T", "x.json"], "x.json"
+
+
+def try_files(trial):
+    """The data files, device files and dumps of docs/REFUSALS.md: `// data: J2 KEY`, `// dump: X1 at LINE:COL`, or `// device: instead`."""
+    shown = set()
+    for sort, what, text in shown_files():
+        words, name = command_of(trial, sort, what, text)
+        said = trial.run(words)
+        code, _, place = what.partition(" at ")
+        wanted = "" if what == "instead" else f"tapa: {name}:{place}: X1 no dump\n" if place else f"tapa: {name}: {what}\n"
+        trial.check(f"{what}: {text}", said.err.decode() == wanted, f"   {said}")
+        shown.add(code.split(" ")[0])
+    rules = {"J1", "J2", "J3", "K1", "K2", "K3", "K4", "X1", "X2", "instead"}
+    trial.check("each rule on files has one that is refused", shown == rules, f"   {sorted(rules ^ shown)}")
+
+
 RIGHT = {"scalars": '"scalars":{"n":3}', "memories": '"memories":{"a":[1],"b":[1],"c":[1]}'}
 VECTORS = """void F(tapa::mmap<const int> a, tapa::mmap<const int> b, tapa::mmap<int> c, uint64_t n) { }
 void T(tapa::mmap<const int> a, tapa::mmap<const int> b, tapa::mmap<int> c, uint64_t n) { tapa::task().invoke(F, a, b, c, n); }
@@ -126,8 +164,20 @@ def try_data(trial):
 
 
 def sessions(page):
-    """The commands that a page shows, each with the lines below it; a block is indented by four blanks or fenced."""
-    text = re.sub(r"^```\w*$", "", read(page), flags=re.M)
+    """The steps of a page's sessions in order: each file that the reader saves, with its text, and each command, with the lines below it; a block is indented by four
+    blanks or fenced."""
+    text = SAVED.sub(lambda it: f"\0{it[1]}\0{it[2]}\0", read(page))
+    for at, piece in enumerate(text.split("\0")):
+        if at % 3 == 1:
+            name = piece
+        elif at % 3 == 2:
+            yield name, piece
+        else:
+            yield from commands(re.sub(r"^```\w*$", "", piece, flags=re.M))
+
+
+def commands(text):
+    """The commands of a text, each with the lines below it."""
     command = None
     for line in [*text.split("\n"), ""]:
         line = line[4:] if line.startswith("    ") else line
@@ -135,7 +185,7 @@ def sessions(page):
             yield command
             command = None
         if line.startswith(("$ ./tapa ", "$ tools/")):
-            command = (line[2:], [])
+            command = (line, [])
         elif command:
             command[1].append(line)
 
@@ -153,6 +203,8 @@ def shown_by(trial, command, made):
     words, _, behind = words.partition(" | ")
     words, _, target = words.partition(" > ")
     words = [made.get(word, word) for word in shlex.split(words)]
+    if words[:2] == ["./tapa", "--explain"]:
+        words = ["tools/explain.py", "--run", trial.program, *words[2:]]
     said = trial.run(words[1:], ROOT) if words[0] == "./tapa" else by_tool(trial, words)
     out = said.out
     if target:
@@ -167,15 +219,21 @@ def is_shown(command, lines, out):
     """Whether a page shows what a command answers. Of a tool it may show less: `..` stands for any lines, and a blank line of the answer ends what is shown."""
     if not command.startswith("tools/"):
         return out == "".join(line + "\n" for line in lines)
+    if not lines:
+        return not out
     shown = "".join(r"(?:.*\n)*" if line == ".." else re.escape(line) + r"\n" for line in lines)
-    return bool(lines) and re.fullmatch(shown + r"(?:\n(?:.*\n)*)?", out) is not None
+    return re.fullmatch(shown + r"(?:\n(?:.*\n)*)?", out) is not None
 
 
 def try_sessions(trial):
     count = 0
-    for page in PAGES:
+    for page in prose.pages():
         made = {}
-        for command, lines in sessions(page):
+        for step, lines in sessions(page):
+            if not step.startswith("$ "):
+                made[step] = trial.put(os.path.basename(step), lines)
+                continue
+            command = step[2:]
             out = shown_by(trial, command, made)
             trial.check(f"{page}: {command}", is_shown(command, lines, out), f"   {lines}   {out}")
             count += 1
@@ -187,8 +245,10 @@ def try_all(trial):
     try_refusals(trial)
     try_from_tapa(trial)
     try_texts(trial)
+    try_files(trial)
     try_data(trial)
     try_sessions(trial)
+    prose.try_all(trial)
 
 
 # What stands for a word of the case's own in a message of docs/COMMAND.md.

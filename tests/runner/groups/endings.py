@@ -1,4 +1,5 @@
-"""What the system's side does: files at their limits, devices that are full, pipes that are closed, too little memory, strange words."""
+"""What the system does to a run: files at their limits and one byte more, long data, full devices, closed pipes, folders and pipes as files, words that are no UTF-8, too little
+memory."""
 import os
 import resource
 import subprocess

@@ -1,4 +1,4 @@
-"""The examples: the command in each one's first line, what it writes, and that C++ compilers accept them."""
+"""The command in each example's first line, its standard output and error; `g++` and `clang++` with `tools/include/tapa.h`."""
 import os
 import shlex
 import shutil

@@ -1,18 +1,17 @@
-"""What `tools/explain.py` says of refused sources, data, words and runs: the rows of docs/FROM_TAPA.md by their constructs, and the tables of tests/cases/explanations."""
+"""`tools/explain.py` in its words: each row of docs/FROM_TAPA.md is found by its construct, no construct in a source that is accepted; the tables of `cases/explanations/`; every
+place of two sources."""
 import glob
 import os
 import re
 import shlex
-import sys
 
 from runner.groups import documents
 from runner.groups.sources import context, table
 from runner.trial import ROOT, CASES, read
-
-sys.path.insert(0, os.path.join(ROOT, "tools"))
-from vechaqir import explain, explain_source, messages, pages, patterns, source, usage  # noqa: E402
-from vechaqir.patterns_match import View  # noqa: E402
-from vechaqir.program import Program  # noqa: E402
+from vechaqir.explain import explainer as explaining, messages, pages, refusals, usage
+from vechaqir.host.program import Program
+from vechaqir.language import patterns, source
+from vechaqir.language.matching import View
 
 # What no explanation says where it knows the cause, and what none says at all.
 GENERAL, NEVER = "no source of the language goes on with", "no explanation: "
@@ -33,7 +32,7 @@ def quoted(row):
 def explained(trial, words):
     """The status of a command, and its messages with all that is explained, as one text."""
     said = trial.run(words)
-    explainer = explain.Explainer(explain.Command(words), Program(trial.program, False))
+    explainer = explaining.Explainer(explaining.Command(words), Program(trial.program, False))
     lines = []
     for line in said.err.decode().splitlines():
         lines += [line, *explainer.safely(line)]
@@ -52,7 +51,7 @@ def try_construct(trial, row):
 
 def is_of_row(row, first, told):
     named = first.startswith(f"      = {row.construct}: ")
-    return (named or f'docs/FROM_TAPA.md, "{row.section}"' in told) and f"      = instead: {row.instead}" in told
+    return (named or f'docs/FROM_TAPA.md, "{row.section}"' in told) and f"      = instead: write {row.first}" in told
 
 
 def try_constructs(trial):
@@ -151,7 +150,7 @@ def try_dumps(trial):
     trial.put("e.v", trial.run(["build", "e.cpp", "T"]).out)
     dump = trial.put("e.vcd", trial.run(["cosim", "e.v", "--vcd"]).out)
     _, told = explained(trial, ["vcd", dump, "s_q_rd"])
-    trial.check("a net that is not there", "the dump has no net `s_q_rd`; `s_q_rdy` is meant, perhaps" in told, f"   {told}")
+    trial.check("a net that is not there", "the dump has no net `s_q_rd`: it has 13 nets, `rst`, `done`" in told, f"   {told}")
 
 
 def try_ends(trial):
@@ -170,16 +169,16 @@ def try_other_sorts(trial):
     text = trial.put("e.v", trial.run(["build", path, "T"]).out)
     dump = trial.put("e.vcd", trial.run(["cosim", text, "--vcd"]).out)
     for words, wanted in (
-        (["cosim", path], "this looks like a TAPA source\n      = instead: a Verilog text: `tapa build"),
+        (["cosim", path], "this looks like a TAPA source, and a Verilog text is needed here\n      = why: `cosim` simulates a Verilog text\n      = instead: write one by `tapa build"),
         (["cosim", data], "this looks like a data file"),
         (["cosim", dump], "this looks like a value change dump"),
-        (["run", text, "T"], "this looks like a Verilog text\n      = instead: a TAPA source"),
+        (["run", text, "T"], "this looks like a Verilog text, and a TAPA source is needed here"),
         (["run", data, "T"], "this looks like a data file"),
-        (["vcd", text, "q"], "this looks like a Verilog text\n      = instead: a value change dump: `tapa cosim"),
-        (["run", path, "T", path], f"instead: a data file: `tools/template.py {path} T > F.json`"),
-        (["cosim", text, "--vcd", f"{path}.vcd"], f"`--vcd` has no value: the dump goes to standard output, `> {path}.vcd`"),
-        (["run", trial.put("t.cpp", "void F(int n) { }\n"), "T"], "an upper-level task `T`, which invokes these"),
-        (["run", trial.put("u.cpp", ""), "T"], "a task's name as `TOP`"),
+        (["vcd", text, "q"], "this looks like a Verilog text, and a value change dump is needed here\n      = why: `vcd` reads a dump\n      = instead: write one by `tapa cosim"),
+        (["run", path, "T", path], f"instead: call `tools/template.py {path} T > F.json`"),
+        (["cosim", text, "--vcd", f"{path}.vcd"], f"send the dump from standard output to the file: `--vcd > {path}.vcd`"),
+        (["run", trial.put("t.cpp", "void F(int n) { }\n"), "T"], "write an upper-level task `T`, which invokes these"),
+        (["run", trial.put("u.cpp", ""), "T"], "the source has no task, so it has no top task"),
     ):
         _, told = explained(trial, words)
         trial.check(f"the explanation of `tapa {' '.join(words)}`", wanted in told and NEVER not in told, f"   {told}")
@@ -191,8 +190,8 @@ def try_files(trial):
     trial.put("k.h", "const int LANES = 4;\n")
     path = trial.put("e.cpp", '#include "k.h"\nvoid F(int n) { n = LANES; }\nvoid Top(int n) { tapa::task().invoke(F, n); }\n')
     for words, wanted in (
-        (["run", path, "Top"], "`LANES` stands in `k.h`, and `#include` lines are skipped"),
-        (["run", trial.put("t.cpp", "void F(int n) { }\nvoid Top(int n) { tapa::task().invoke(F, n); }\n"), "top"], "the source has no task `top`; its tasks are `F` and `Top`"),
+        (["run", path, "Top"], "`LANES` is declared in `k.h`, and `#include` lines are skipped"),
+        (["run", trial.put("t.cpp", "void F(int n) { }\nvoid Top(int n) { tapa::task().invoke(F, n); }\n"), "top"], "the source has no task `top`: its tasks are `F` and `Top`"),
         (["run", f"{folder}/none.cpp", "T"], f"there is no file `{folder}/none.cpp`"),
         (["run", folder, "T"], "is a folder"),
     ):
@@ -211,16 +210,16 @@ def try_fronts(trial):
     told = source.parse(text)
     for code in ("L1", "L3", "A1", "A2", "A3", "P1", "P2", *(f"C{number}" for number in range(1, 13))):
         for offset in range(0, len(text), 5):
-            why, lines = explain_source.explained(told, told.place(offset), code, "over the limit of 4096", "Squares", "in_0")
+            why, lines = refusals.explained(told, told.place(offset), code, "over the limit of 4096", "Squares", "in_0")
             failed += [(code, offset)] * (not lines)
     for end in range(0, len(text), 23):
-        explainer = explain.Explainer(explain.Command(["run", trial.put("e.cpp", text[:end]), "Squares"]))
+        explainer = explaining.Explainer(explaining.Command(["run", trial.put("e.cpp", text[:end]), "Squares"]))
         place = source.parse(text[:end]).place(end)
         lines = explainer.safely(f"tapa: {trial.folder.name}/e.cpp:{place.line}:{place.column}: P1 unexpected token")
         failed += [("P1", end)] * (not lines or NEVER in lines[0])
     trial.check("each place can be explained", not failed, f"   {failed[:10]}")
     for line in ("tapa: ", "tapa: x", "tapa: a:1:2: Z9 x", "tapa: a:99999999999999999999:2: C1 x", "", "\udcff", "tapa: A$0 waits to read ", "tapa: usage: x"):
-        lines = explain.Explainer(explain.Command(None)).safely(line)
+        lines = explaining.Explainer(explaining.Command(None)).safely(line)
         trial.check(f"a line like {line!r} is passed", not any(NEVER in it for it in lines) and (messages.parse(line) is not None or not lines))
 
 

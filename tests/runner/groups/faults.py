@@ -1,8 +1,10 @@
-"""What the system's side does under `build`, `plan` and `cosim`, as runner/endings.py has it for `run`: full devices, closed pipes, files cut short, pipes and folders as
-files, reads that fail, files that are not there, too little memory."""
+"""What the system does to `build`, `plan` and `cosim`: full and cut outputs, closed pipes, pipes, folders and missing files as files, reads that fail, too little memory.
+`tests/stress/faults.py PROGRAM` tries more."""
 import os
 import resource
 import subprocess
+
+from runner.made import refusals
 
 SOURCE = """void P(tapa::mmap<const int> a, tapa::ostream<int>& q) { for (int i = 0; i < 3; ++i) q << a[i]; }
 void C(tapa::istream<int>& q) { q.read(); q.read(); q.read(); }
@@ -139,6 +141,7 @@ def try_all(trial):
         try_full(trial, words, said.out)
         try_pipes(trial, words, said.out)
         try_unread(trial, words)
+    refusals.try_allocations(trial, 10)
     put_large(trial)
     for words in (["cosim", "l.v", "l.json"], ["build", "l.cpp", "T"], ["build", "l.cpp", "T", "--device", "l_device.json"], ["plan", "l.cpp", "T", "l_device.json"]):
         try_little_memory(trial, words, trial.run(words).out)

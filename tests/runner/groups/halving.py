@@ -1,5 +1,4 @@
-"""Plans by halving of small graphs, worked out apart from the product: regions are rectangles of slots, and what a level gives the groups is a
-list of bits."""
+"""`plan --plan split` on random devices of both versions with pins and forbidden slots, each compared with the plan that lists of bits and rectangles of slots give in Python."""
 import itertools
 import random
 

@@ -1,6 +1,6 @@
-"""How the crates are built: no crate without code but for laws and lines, small crates, functions and files, few arguments, no body twice, no definition that nothing names, no comment that leans on another.
-
-What does not hold yet stands in exceptions.txt, one line each; `tests/run.py house` prints what is found. A new exception is refused, and so is a line that holds no more."""
+"""Crates, functions, files, arguments, copies, comments and definitions that nothing names: what of the crates is not as CONTRIBUTING.md wants it is in `runner/exceptions.txt`,
+which may only get shorter (`tests/run.py house --shrink`). No crate without code but for laws and lines, small crates, functions and files, few arguments, no body twice, no
+definition that nothing names, no comment that leans on another. `tests/run.py house` prints what is found."""
 import os
 import re
 

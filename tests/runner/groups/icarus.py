@@ -1,16 +1,9 @@
-"""Circuits in Icarus Verilog, where it is installed: beside `cosim`, with waveforms, and with memories that answer late."""
-import os
+"""Circuits in Icarus Verilog, where it is installed: the report of `cosim`, and the block RAM of docs/CIRCUIT.md and random memories, reset in the middle of runs, where what is
+asked of a memory stays until it is ready (`tools/check_memories.py`). `tests/stress/memories.py PROGRAM` tries more random programs."""
 import re
 import shutil
-import subprocess
-import sys
 
 from runner.trial import ROOT
-
-
-def run_tool(*words):
-    ran = subprocess.run([sys.executable, *words], cwd=ROOT, stdin=subprocess.DEVNULL, capture_output=True, text=True, check=False)
-    return ran.returncode, ran.stdout, ran.stderr
 
 
 def try_report(trial):
@@ -18,28 +11,28 @@ def try_report(trial):
     folder = trial.folder.name
     text = trial.put("i.v", trial.run(["build", "examples/vector_add.cpp", "VecAdd"], ROOT).out)
     said = trial.run(["cosim", text, "examples/vector_add.json"], ROOT).out.decode()
-    words = ["tools/icarus.py", text, "examples/vector_add.json", "--dump", f"{folder}/i.vcd", "--bench", f"{folder}/bench.v"]
-    trial.check_equal("icarus.py prints what cosim prints", run_tool(*words)[1], said)
+    words = ["icarus.py", text, "examples/vector_add.json", "--dump", f"{folder}/i.vcd", "--bench", f"{folder}/bench.v"]
+    trial.check_equal("icarus.py prints what cosim prints", trial.tool(*words)[1], said)
     for name, word in (("i.vcd", " at_3 "), ("bench.v", "$dumpvars")):
         with open(f"{folder}/{name}", encoding="utf-8") as file:
             trial.check(f"icarus.py writes {name}", word in file.read())
     bad = trial.put("bad.json", '{"scalars": {"n": 1}, "memories": {"a": 3}}')
     for given, wanted in (([text], "{}: scalars has no n, a number, which the circuit takes"), ([text, bad], f"{bad}: memories has no a, a list of numbers, which the circuit takes"),
                           ([text, text], f"{text}:1:1: no JSON: Expecting value"), ([bad], "this is no circuit that `tapa build` wrote: it has no module")):
-        trial.check_equal(f"what icarus.py {' '.join(given)} says", run_tool("tools/icarus.py", *given), (1, "", f"tools/icarus.py: {wanted}\n"))
+        trial.check_equal(f"what icarus.py {' '.join(given)} says", trial.tool("icarus.py", *given), (1, "", f"tools/icarus.py: {wanted}\n"))
 
 
 def try_memories(trial):
-    """The lines of docs/VERILOG.md for a block RAM, and memories with random bits where they are not ready, with resets in the middle of runs."""
+    """The lines of docs/CIRCUIT.md for a block RAM, and memories with random bits where they are not ready, with resets in the middle of runs."""
     for words in ([], ["tests/cases/circuits/features.cpp", "Top", "tests/cases/circuits/features.json"]):
-        status, out, err = run_tool("tools/check_memories.py", trial.program, *words)
+        status, out, err = trial.tool("check_memories.py", trial.program, *words)
         trial.check(f"circuits with other memories {' '.join(words)}", (status, out.endswith(", 0 runs otherwise\n")) == (0, True), out + err)
-    status, out, err = run_tool("tests/stress/memories.py", trial.program, "--programs", "4")
+    status, out, err = trial.tool("../tests/stress/memories.py", trial.program, "--programs", "4")
     trial.check("random programs with other memories", (status, out) == (0, "8 circuits, 0 runs otherwise\n"), out + err)
     words = ["examples/vector_add.cpp", "VecAdd", "examples/vector_add.json"]
     text = trial.run(["build", *words[:2]], ROOT).out.decode()
     gated = re.sub(r"assign addr_0 = (.*?) ;", r"assign addr_0 = ack_0 ? \1 : 64'd0 ;", text)
-    status, out, err = run_tool("tools/check_memories.py", trial.program, *words, "--text", trial.put("gated.v", gated.encode()), "--memories", "random")
+    status, out, err = trial.tool("check_memories.py", trial.program, *words, "--text", trial.put("gated.v", gated.encode()), "--memories", "random")
     trial.check("an address that comes only with ack is seen", (status, "bad a is asked for something else while it waits" in out) == (1, True), out + err)
 
 

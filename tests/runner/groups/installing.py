@@ -1,4 +1,4 @@
-"""What a tool on the PATH has: `tools/install` in an empty folder, the page of `man`, completion for bash and zsh, and an archive of a release."""
+"""`tools/install` in an empty folder, the page of `man`, both completions, pages as HTML, and an archive of a release, made twice and unpacked."""
 import os
 import re
 import shutil
@@ -6,6 +6,7 @@ import subprocess
 import sys
 import tarfile
 
+from runner import prose
 from runner.trial import ROOT, read
 
 # Words before the cursor, the last of which is completed, and what completes it.
@@ -13,6 +14,9 @@ COMPLETED = (
     (["vtapa", ""], "run build plan cosim vcd gen"),
     (["vtapa", "co"], "cosim"),
     (["vtapa", "run", "examples/vector_a"], "examples/vector_add.cpp"),
+    (["vtapa", "--e"], "--explain"),
+    (["vtapa", "--explain", "co"], "cosim"),
+    (["vtapa", "--explain", "plan", "examples/vector_add.cpp", "VecAdd", "examples/vec"], "examples/vector_add.json"),
     (["vtapa", "run", "examples/vector_add.cpp", ""], "Add Mmap2Stream Stream2Mmap VecAdd"),
     (["vtapa", "run", "--workers", "3", "examples/vector_add.cpp", "V"], "VecAdd"),
     (["vtapa", "plan", "examples/vector_add.cpp", "VecAdd", "examples/vec"], "examples/vector_add.json"),
@@ -37,6 +41,8 @@ def try_install(trial):
     told = "tapa: UNPROVED: no prover has accepted the sources of this program\n"
     wanted = "" if os.path.exists(f"{prefix}/lib/vtapa/program/PROVED") else told
     trial.check_equal("the installed command runs", (status, out, err), (0, read("examples/vector_add.out"), wanted))
+    status, out, err = run(trial, [f"{prefix}/bin/vtapa", "--explain", "run", "x.cpp", "T", "--stps"], f"{prefix}/lib/vtapa")
+    trial.check("the installed command says its own name", status == 2 and "      = vtapa run SRC TOP" in err and "`run` has no option `--stps`" in err and " tapa run" not in err, err)
     code = "from vechaqir import find; print(find().path)"
     found = subprocess.run([sys.executable, "-B", "-c", code], cwd=f"{prefix}/lib/vtapa/tools", capture_output=True, text=True, check=False, env={key: it for key, it in os.environ.items() if key != "TAPA"})
     trial.check_equal("its module finds its program", found.stdout.strip(), f"{prefix}/lib/vtapa/program/tapa")
@@ -96,16 +102,31 @@ def try_release(trial):
     trial.check_equal("the sums of a release", run(trial, ["sha256sum", "-c", "--quiet", "SUMS"], home)[:2], (0, ""))
     status, out, _ = run(trial, ["./tapa", "run", "examples/vector_add.cpp", "VecAdd", "examples/vector_add.json"], home)
     trial.check_equal("a release runs", (status, out), (0, read("examples/vector_add.out")))
-    for path in ("RELEASE.md", "docs/README.html", "docs/COMMAND.html", "docs/PYTHON.md", "share/man/man1/tapa.1", "tools/completion/_tapa", "tools/vechaqir/py.typed"):
+    for path in ("RELEASE.md", "VERSION", "docs/EXAMPLES.html", "docs/TOOLS.html", "docs/README.html", "docs/COMMAND.html", "docs/PYTHON.md", "share/man/man1/tapa.1", "tools/completion/_tapa", "tools/vechaqir/py.typed"):
         trial.check(f"a release has {path}", os.path.exists(f"{home}/{path}"))
+    trial.check_equal("links of the pages of a release that lead nowhere", list(dead_links(f"{home}/docs")), [])
     with open(f"{clone}/README.md", "a", encoding="utf-8") as file:
         file.write("x")
     trial.check("what is changed is not released", "git status" in run(trial, [f"{clone}/tools/release.sh", made, "--unproved"])[2])
 
 
+def dead_links(folder):
+    """The links of HTML pages that lead to no file, or to no heading of one."""
+    texts = {}
+    for name in sorted(os.listdir(folder)):
+        if name.endswith(".html"):
+            with open(os.path.join(folder, name), encoding="utf-8") as file:
+                texts[name] = file.read()
+    for name, text in texts.items():
+        for target in re.findall(r'(?:href|src)="([^"]*)"', text):
+            path, _, part = target.partition("#")
+            if not re.match(r"[a-z]+:", target) and (not os.path.exists(os.path.join(folder, path or name)) or part and f'id="{part}"' not in texts.get(path or name, "")):
+                yield f"{name}: {target}"
+
+
 def try_html(trial):
     """Each page as HTML: its headings, tables and code stand in it."""
-    for name in ["README.md", *sorted(f"docs/{it}" for it in os.listdir(os.path.join(ROOT, "docs")) if it.endswith(".md"))]:
+    for name in prose.pages():
         status, out, err = run(trial, [sys.executable, "tools/manual.py", "html", name])
         text = re.sub(r"^```.*?^```", "", read(name), flags=re.M | re.S)
         headings = len(re.findall(r"^#+ ", text, re.M))

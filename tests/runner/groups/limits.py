@@ -1,6 +1,5 @@
-"""Features that no example has, and sizes that are no limit: a program that gave them up as want of memory would be told here.
-
-What the contracts leave free is want of memory alone, so a body that answers it for long names or large memories is no wrong one to a prover."""
+"""Features that no example has (`cases/circuits/features.cpp`), by run, circuit, and a circuit for a far device; and sizes that are no limit: many tokens, long names, a large
+memory inside, many memories. What the contracts leave free is want of memory alone, so a body that answers it for long names or large memories is no wrong one to a prover."""
 import json
 import os
 

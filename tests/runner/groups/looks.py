@@ -1,4 +1,5 @@
-"""The page of a design: it is made of each example and of a network of 512 tasks, loads in a browser without an error, and shows what its data say."""
+"""The page of `tools/look.py` of each example and of a network of 512 tasks: in Chromium by `chromedriver`, where they are installed, it loads without an error and within two
+seconds of a processor, draws what its data say, and follows clicks and keys."""
 import json
 import os
 import re

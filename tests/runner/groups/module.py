@@ -1,4 +1,5 @@
-"""The module `vechaqir`: its tests and the gallery (tests/cases/python), the host program and the property test of examples/python, and mypy."""
+"""The module `vechaqir`: `tests/cases/python/` by pytest, or by unittest where that is missing, with the gallery compared with plain Python and numpy, by `run` and by circuits;
+the script, the sessions and the property test of docs/PYTHON.md; `mypy --strict`."""
 import os
 import re
 import shutil
@@ -35,11 +36,11 @@ def try_tests(trial):
 
 
 def try_examples(trial):
-    """The host program of docs/PYTHON.md, and the property test where hypothesis is there."""
-    status, said = run_python(trial, [sys.executable, "examples/python/host.py"])
-    trial.check("examples/python/host.py", status == 0 and re.fullmatch(r"PASS, \d+ ticks, by the (un)?proved program\n", said), said)
+    """The script of docs/PYTHON.md, and the property test where hypothesis is there."""
+    status, said = run_python(trial, [sys.executable, "examples/python/compare.py"])
+    trial.check("examples/python/compare.py", status == 0 and re.fullmatch(r"PASS, \d+ ticks, by the (un)?proved program\n", said), said)
     page = read("docs/PYTHON.md")
-    for name in ("host.py", "test_vector_add.py"):
+    for name in ("compare.py", "test_vector_add.py"):
         body = read(f"examples/python/{name}").partition('"""\n')[2].partition('"""\n')[2] or read(f"examples/python/{name}").split('"""\n', 1)[1]
         trial.check(f"docs/PYTHON.md shows examples/python/{name}", body.strip() in page)
     hypothesis = interpreter_with("hypothesis, pytest")

@@ -1,5 +1,5 @@
-"""The way back from a circuit to its source: what tools/names.py says of registers, states and lines, beside the text that `build` writes, a dump of `cosim`, and one of
-Icarus Verilog that has the registers themselves."""
+"""What `tools/names.py` says of registers, states and lines, of the examples, of `cases/circuits/` and of random tasks: compared with the text that `build` writes, with a dump
+of `cosim` in each cycle, and with the registers themselves where Icarus Verilog is installed."""
 import json
 import os
 import re
@@ -9,12 +9,11 @@ import subprocess
 import sys
 
 from runner.groups import networks
-
 from runner.made import leaves
 from runner.trial import ROOT, read
-
-sys.path.insert(0, os.path.join(ROOT, "tools"))
-from vechaqir import dump, machine_run, names, source  # noqa: E402
+from vechaqir.host import dump
+from vechaqir.language import source
+from vechaqir.machine import run as machine_run
 
 # Random leaf tasks, those of them that Icarus Verilog runs too, and the most cycles of each.
 COUNT, IN_ICARUS, CYCLES = 60, 12, "400"
@@ -130,35 +129,30 @@ def compared_with_icarus(trial, name, has, network, circuit, data):
     trial.check(f"registers of {name} in Icarus Verilog", compared > 0 and not told, "\n".join(told[:5]))
 
 
-def run_tool(*words):
-    ran = subprocess.run([sys.executable, "tools/names.py", *words], cwd=ROOT, stdin=subprocess.DEVNULL, capture_output=True, text=True, check=False)
-    return ran.returncode, ran.stdout, ran.stderr
-
-
 def try_tool(trial):
     """The table, the save file for GTKWave with its translate files, and the waveform by the source's names."""
     words = ("examples/vector_add.cpp", "VecAdd")
-    shown = run_tool(*words)[1]
+    shown = trial.tool("names.py", *words)[1]
     trial.check("the table has registers, states and channels", all(line in shown for line in (
         "x_1                  i                uint64_t  variable   8:17", "state 2  8:44  read a: a.read()", "c_a_q  s_a_q_*  int, depth 2  Mmap2Stream$0 -> Add$2")), shown)
-    made = json.loads(run_tool(*words, "--json")[1])
+    made = json.loads(trial.tool("names.py", *words, "--json")[1])
     trial.check_equal("the table as JSON", (made["module"], [it["module"] for it in made["modules"]]), ("t_VecAdd", ["t_Mmap2Stream", "t_Add", "t_Stream2Mmap"]))
     circuit = trial.put("v.v", trial.run(["build", *words], ROOT).out)
     path = trial.put("v.vcd", trial.run(["cosim", circuit, "examples/vector_add.json", "--vcd"], ROOT).out)
     save = os.path.join(trial.folder.name, "v.gtkw")
-    status, _, err = run_tool(*words, "--gtkw", save, "--dump", path)
+    status, _, err = trial.tool("names.py", *words, "--gtkw", save, "--dump", path)
     with open(save, encoding="utf-8") as file:
         lines = file.read().splitlines()
     trial.check("a save file for GTKWave", status == 0 and "-stream a_q: Mmap2Stream$0 to Add$2" in lines and "+{s_a_q_din} t_VecAdd.s_a_q_din[32:0]" in lines, f"   {lines[:6]} {err}")
     with open(os.path.join(trial.folder.name, "v.t_Add.states"), encoding="utf-8") as file:
         trial.check_equal("a translate file", file.read().splitlines()[2], "2 8: read a")
-    made = trial.put("w.vcd", run_tool(*words, "--waves", path)[1])
+    made = trial.put("w.vcd", trial.tool("names.py", *words, "--waves", path)[1])
     shown = dump.read(made)
     values = [values["VecAdd.Add$2.i"] for _, values in shown.cycles(["VecAdd.Add$2.i"])]
     trial.check_equal("the waveform of a variable", [it for k, it in enumerate(values[2:]) if k == 0 or it != values[2:][k - 1]], [0, 1, 2, 3, 4, 5])
     other = trial.put("o.cpp", read("examples/vector_add.cpp").replace("a.read() + b.read()", "a.read() - b.read()"))
-    trial.check_equal("a dump of another source", run_tool(other, "VecAdd", "--waves", path)[::2], (1, f"tools/names.py: in cycle 7 {path} shows of Add$2 otherwise than the source what it writes to c_q\n"))
-    trial.check_equal("a dump that is none", run_tool(*words, "--waves", other)[0], 1)
+    trial.check_equal("a dump of another source", trial.tool("names.py", other, "VecAdd", "--waves", path)[::2], (1, f"tools/names.py: in cycle 7 {path} shows of Add$2 otherwise than the source what it writes to c_q\n"))
+    trial.check_equal("a dump that is none", trial.tool("names.py", *words, "--waves", other)[0], 1)
 
 
 def try_all(trial):

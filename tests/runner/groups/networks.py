@@ -1,4 +1,4 @@
-"""The generated networks of `gen`: their numbers, worked out here, and beside them what `run`, `build` and `cosim` tell of the same program."""
+"""`gen`: the numbers of generated networks, worked out in Python, and what `run`, `build` and `cosim` tell of the same programs; words that are none."""
 import os
 import resource
 

@@ -1,5 +1,5 @@
-"""Designs as TAPA users write them (tests/cases/newcomer): what each refusal on the way is explained as, and that `tools/prepare.py --write` and at most three edits by hand bring
-each to acceptance, where it gives what plain Python computes."""
+"""Eight designs as TAPA users write them (`cases/newcomer/`): what each refusal on the way is explained as (`NAME.told`), and that `tools/prepare.py --write` and at most three
+edits by hand (`NAME.edits`) bring each to acceptance, where it gives what plain Python computes."""
 import json
 import os
 import re
@@ -9,10 +9,10 @@ import sys
 from runner.groups.explanations import GENERAL, NEVER, explained
 from runner.groups.sources import context
 from runner.trial import ROOT, CASES, read
-
-sys.path.insert(0, os.path.join(ROOT, "tools"))
-from vechaqir import pages, prepare_body, prepare_edits, prepare_file, prepare_upper, prepare_write, source  # noqa: E402
-from vechaqir.patterns_match import View  # noqa: E402
+from vechaqir.explain import pages
+from vechaqir.language import source
+from vechaqir.language.matching import View
+from vechaqir.prepare import body, edits, top_level, upper, writing
 
 MOST_EDITS = 3
 
@@ -102,9 +102,9 @@ def prepared(trial, name):
     first = subprocess.run([*script, path, "--write", out], capture_output=True, text=True, check=False)
     with open(out, encoding="utf-8") as file:
         text = file.read()
-    marks = text.count(prepare_write.MARK)
+    marks = text.count(writing.MARK)
     trial.check(f"{name}: prepare.py marks what is left", first.returncode == (1 if marks else 0) and f"; {marks} left" in first.stderr, f"   {first.stderr}")
-    text = re.sub(rf"^[ \t]*{re.escape(prepare_write.MARK)}[^\n]*\n", "", text, flags=re.M)
+    text = re.sub(rf"^[ \t]*{re.escape(writing.MARK)}[^\n]*\n", "", text, flags=re.M)
     trial.put(f"{name}.cpp", edited(trial, name, text))
     second = subprocess.run([*script, out, "--write"], capture_output=True, text=True, check=False)
     trial.check(f"{name}: nothing is left behind the edits by hand", second.returncode == 0, f"   {second.stderr}")
@@ -133,9 +133,9 @@ def way(name, path):
         if hand:
             text = text.replace(hand[0].encode(), hand[1].encode())
             yield text
-        for step in [*prepare_file.STEPS, *prepare_upper.STEPS, *prepare_body.STEPS] * 2:
+        for step in [*top_level.STEPS, *upper.STEPS, *body.STEPS] * 2:
             while True:
-                after = prepare_edits.applied(text, step(View(source.parse(text, path))))
+                after = edits.applied(text, step(View(source.parse(text, path))))
                 if after == text:
                     break
                 text = after
@@ -167,14 +167,14 @@ def try_mended(trial):
     for row in pages.rows().values():
         before, after = context(row.context)
         text = (before + row.refused + after).encode()
-        found = prepare_write.mended(text)
+        found = writing.mended(text)
         mended += found != text and trial.told(found) == "accepted"
-        trial.check(f"prepare.py changes nothing twice in {row.refused}", prepare_write.mended(found) == found, f"   {found.decode()}")
+        trial.check(f"prepare.py changes nothing twice in {row.refused}", writing.mended(found) == found, f"   {found.decode()}")
     trial.check("45 constructs are mended", mended >= 45, f"   {mended}")
     for folder in ("examples", "tests/cases/circuits"):
         for name in sorted(it for it in os.listdir(os.path.join(ROOT, folder)) if it.endswith(".cpp")):
             text = read(f"{folder}/{name}").encode()
-            trial.check(f"prepare.py leaves {name} as it is", prepare_write.mended(text, f"{folder}/{name}") == text)
+            trial.check(f"prepare.py leaves {name} as it is", writing.mended(text, f"{folder}/{name}") == text)
 
 
 LISTED = """using namespace tapa;
@@ -204,7 +204,7 @@ def try_listed(trial):
     trial.check_equal("what is listed", {(int(line), construct) for line, construct in re.findall(r"^.*?:(\d+):\d+: (.*?): ", out, re.M)}, CONSTRUCTS)
     before, after = context("tasks")
     text = (before + KEPT + after).encode()
-    found = prepare_write.mended(text).decode()
+    found = writing.mended(text).decode()
     trial.check("an array with too few elements stays", "invoke<tapa::join, 1>(P, q).invoke(P, q).invoke(P, q)" in found, f"   {found}")
 
 

@@ -1,4 +1,5 @@
-"""How standard output is written: in pieces of whole lines, or line by line on a terminal, and always before the messages; and what is told where a write fails early or late."""
+"""How standard output is written: in pieces of whole lines, but line by line on a terminal, and before the messages; by how many calls; what is told where it has room for so
+many bytes, where its reader goes away early or late, or where both outputs are full."""
 import os
 import pty
 import resource

@@ -1,14 +1,11 @@
-"""How tools/in_parts.py cuts a module: each function that is needed stands in one part, or is a copy in each part that calls it."""
+"""How `tools/in_parts.py` cuts a module for the unproved build, each function that is needed in one part or copied into each part that calls it, and that the kit joins the
+parts."""
 import os
 import re
 import shutil
 import subprocess
-import sys
 
-from runner.trial import ROOT
-
-sys.path.insert(0, os.path.join(ROOT, "tools"))
-import in_parts  # noqa: E402
+import in_parts
 
 LONG = "".join(f"  %r{at} = add i64 %a0, {at}\n" for at in range(1, 100))
 MODULE = f"""source_filename = "trial"

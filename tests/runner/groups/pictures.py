@@ -1,13 +1,9 @@
-"""Pictures that stand in a report: no label of a picture lies over another, outside of the picture, or over the border of a box."""
+"""No label of the pictures in docs/ and of those that the tools draw of the examples lies over another, out of the picture or over the border of a box; and the pictures are what the tools draw."""
 import os
 import re
-import subprocess
-import sys
 
 from runner.trial import ROOT, read
-
-sys.path.insert(0, os.path.join(ROOT, "tools"))
-from vechaqir import svg  # noqa: E402
+from vechaqir.show import svg
 
 TEXT = re.compile(r"<text ([^>]*)>([^<]*)</text>")
 RECT = re.compile(r"<rect ([^>]*)/>")
@@ -62,11 +58,6 @@ def faults(drawn):
                 yield f"{shown!r} lies over the border of a box"
 
 
-def run_tool(name, *words):
-    ran = subprocess.run([sys.executable, f"tools/{name}", *words], cwd=ROOT, stdin=subprocess.DEVNULL, capture_output=True, text=True, check=False)
-    return ran.returncode, ran.stdout, ran.stderr
-
-
 def try_labels(trial, name, drawn):
     told = list(faults(drawn))
     trial.check(f"labels of {name}", bool(drawn) and not told, "".join(f"   {line}\n" for line in told[:5]))
@@ -93,21 +84,89 @@ def circuits(trial):
     yield "two_ways.cpp on two dies", trial.run(["build", "examples/two_ways.cpp", "TwoWays", "--device", "examples/devices/two_dies.json"], ROOT).out
 
 
-def try_waves(trial):
+def try_labels_of_waves(trial):
     """Nets by their paths, unknown values, and the width of a page."""
     text = trial.put("w.v", trial.run(["build", "examples/vector_add.cpp", "VecAdd"], ROOT).out)
     dump = trial.put("w.vcd", trial.run(["cosim", text, "examples/vector_add.json", "--vcd"], ROOT).out)
     for words in ([], ["--fill"], ["--from", "5", "--to", "9"], ["--nets", "s_a_q_din,t_VecAdd.done"]):
-        _, drawn, err = run_tool("waves.py", dump, *words)
+        _, drawn, err = trial.tool("waves.py", dump, *words)
         trial.check(f"the width of waves {words}", 'width="960"' in drawn, err)
         try_labels(trial, f"waves {words}", drawn)
     known = trial.put("x.vcd", "$scope module T $end\n$var wire 1 ! a $end\n$scope module t_A $end\n$var wire 4 \" s $end\n$upscope $end\n$scope module t_B $end\n$var wire 4 # s $end\n$upscope $end\n$upscope $end\n$enddefinitions $end\n#0\nx!\nbx01x \"\nb11 #\n#1\n1!\n#2\nb101 \"\n#3\n0!\n")
-    _, drawn, err = run_tool("waves.py", known)
+    _, drawn, err = trial.tool("waves.py", known)
     trial.check("unknown values are marked, and nets of one name told apart", drawn.count('fill-opacity="0.18"') == 2 and all(f">{name}<" in drawn for name in ("a", "t_A.s", "t_B.s", "3", "5")), drawn + err)
-    trial.check("a name that two nets have", "2 nets are named s: T.t_A.s, T.t_B.s" in run_tool("waves.py", known, "--nets", "s")[2])
+    trial.check("a name that two nets have", "2 nets are named s: T.t_A.s, T.t_B.s" in trial.tool("waves.py", known, "--nets", "s")[2])
     for words, status in ((["--help"], 0), ([], 2), ([known, "--from", "x"], 2), (["none.vcd"], 1), (["README.md"], 1), ([known, "--from", "9"], 1)):
-        ran = run_tool("draw/waves.py", *words)
+        ran = trial.tool("waves.py", *words)
         trial.check(f"waves.py {' '.join(words)}", ran[0] == status and "Traceback" not in ran[2], f"   {ran}")
+
+
+def try_floorplan(trial):
+    """The pictures in docs are what the tool draws of the plans that README.md and docs/FLOORPLAN.md show."""
+    for picture, source, top, device in (("plan", "vector_add", "VecAdd", "two_slots"), ("two_dies", "two_ways", "TwoWays", "two_dies")):
+        device = f"examples/devices/{device}.json"
+        said = trial.run(["plan", f"examples/{source}.cpp", top, device], ROOT)
+        _, drawn, err = trial.tool("floorplan.py", trial.put("p.plan", said.out), device, f"examples/{source}.cpp", top)
+        trial.check(f"docs/{picture}.svg is drawn by floorplan.py", drawn == read(f"docs/{picture}.svg") and drawn.count("<rect") >= 6, f"   {err}")
+
+
+def try_graph(trial):
+    """The picture of README.md is what graph.py draws, and each example's circuit has a box for each task and an arrow for each stream."""
+    for name in sorted(os.listdir(os.path.join(ROOT, "examples"))):
+        if name.endswith(".cpp"):
+            source = f"examples/{name}"
+            top = read(source).split("\n")[0].split()[4]
+            text = trial.run(["build", source, top], ROOT).out.decode()
+            _, drawn, err = trial.tool("graph.py", trial.put("g.v", text))
+            joined = [len(re.findall(rf"^  {module}[\w$]+ {front}_[\w$]+ \(", text, re.M)) for module, front in (("t_", "t"), ("channel_", "c"))]
+            boxes = [len(re.findall(r'<rect [^>]*rx="4"', drawn)), drawn.count("marker-end=")]
+            trial.check(f"graph.py draws {name}", boxes == joined and joined[0] > 0, f"   {boxes} for {joined} {err}")
+            if name == "vector_add.cpp":
+                trial.check("docs/vector_add.svg is drawn by graph.py", drawn == read("docs/vector_add.svg"))
+            if name == "too_shallow.cpp":
+                told = trial.put("g.told", trial.run(["run", source, top], ROOT).err)
+                drawn = trial.tool("graph.py", trial.put("g.v", text), told)[1]
+                trial.check("docs/deadlock.svg is drawn by graph.py", drawn == read("docs/deadlock.svg") and "Producer$0 waits to write it" in drawn)
+
+
+# A stream that takes two tokens in the cycles 1 and 2, and gives one in cycle 3.
+DUMP = """$timescale 1 ns $end
+$scope module T $end
+$var wire 33 ! s_q_din $end
+$var wire 1 " s_q_wr $end
+$var wire 1 # s_q_rdy $end
+$var reg 1 $ s_q_has $end
+$var wire 1 % s_q_take $end
+$upscope $end
+$enddefinitions $end
+#0
+b0 !
+0"
+1#
+0$
+0%
+#1
+b111 !
+1"
+#2
+1$
+#3
+0"
+1%
+"""
+
+
+def try_waves(trial):
+    """Bits are lines, words are lozenges with their numbers, and a stream is as full as the dump says."""
+    dump = trial.put("d.vcd", DUMP)
+    _, drawn, err = trial.tool("waves.py", dump)
+    trial.check_equal("waves.py draws a line a bit and a lozenge a value", (drawn.count("<polyline"), drawn.count("<polygon"), ">7<" in drawn), (4, 2, True))
+    _, drawn, err = trial.tool("waves.py", dump, "--fill")
+    trial.check("waves.py shows how full a stream is", "most 2" in drawn and drawn.count("<polygon") == 1, f"   {err}")
+    _, drawn, err = trial.tool("waves.py", dump, "--nets", "s_q_wr", "--from", "1", "--to", "2")
+    trial.check("waves.py draws the nets that are asked for", drawn.count("<polyline") == 1 and "s_q_din" not in drawn, f"   {err}")
+    status, _, err = trial.tool("waves.py", dump, "--nets", "s_r_wr")
+    trial.check("waves.py says that there is no such net", (status, "no net s_r_wr" in err) == (1, True), f"   {err}")
 
 
 def try_all(trial):
@@ -116,5 +175,8 @@ def try_all(trial):
         if name.endswith(".svg"):
             try_labels(trial, f"docs/{name}", read(f"docs/{name}"))
     for name, text in circuits(trial):
-        try_labels(trial, f"the network of {name}", run_tool("graph.py", trial.put("g.v", text))[1])
+        try_labels(trial, f"the network of {name}", trial.tool("graph.py", trial.put("g.v", text))[1])
+    try_labels_of_waves(trial)
+    try_floorplan(trial)
+    try_graph(trial)
     try_waves(trial)

@@ -1,5 +1,5 @@
-"""Circuits for a device: each example is built for two devices with small slots, with a balance and without. What its text carries in a simulation is
-what the run shows, `done` comes by the bound, and the certificate of each plan holds by a page of arithmetic on what is printed."""
+"""Circuits of each example for two devices with small slots, with a balance and without, carry what the run shows; `done` comes by its bound, and the certificate of each plan
+holds."""
 import json
 import os
 import re

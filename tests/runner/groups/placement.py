@@ -1,4 +1,6 @@
-"""Placements by tools/place.py: beside `--plan exact` where that one can plan, through `plan`, `build` and `cosim`, and what is told where none fits."""
+"""`tools/place.py` on three examples, on random programs and devices compared with `--plan exact`, and on a square of tasks in two orders of invokes on a full device: its pins
+by `plan`, `build` and `cosim`. Hostile device files, one with a bit changed, and devices that are full, too small or too small for the groups. The search alone on twenty small
+programs."""
 import html
 import itertools
 import json
@@ -6,11 +8,12 @@ import os
 import random
 import re
 
-from runner.groups.placing import MULTIPLIES, check_hostile, grid_of, run_tool
+from runner.groups.placing import MULTIPLIES, check_hostile, grid_of
 from runner.groups.plans import Case, source_of
 from runner.trial import ROOT
-from vechaqir import device as devices
-from vechaqir import place, place_exact, place_graph, place_levels, program, svg
+from vechaqir.host import device as devices, program
+from vechaqir.place import exact as place_exact, graph as place_graph, levels, placement
+from vechaqir.show import svg
 
 # Random devices of small programs that the gate tries; tests/measure/plans/run.py tries more.
 DEVICES = 12
@@ -83,7 +86,7 @@ class Small:
 
 def placed(trial, source, top, device, *words):
     """What place.py answers, and the path of a file with its output."""
-    answered = run_tool("place.py", source, top, device, *words, program=trial.program)
+    answered = trial.tool("place.py", source, top, device, *words)
     return answered, trial.put("pinned.json", answered[1])
 
 
@@ -136,11 +139,11 @@ def check_search(trial, seed):
     small = Small(seed)
     source, path = trial.put("p.cpp", small.source), trial.put("d.json", small.device)
     exact = trial.run(["plan", source, "T", path, "--plan", "exact"])
-    request = place.read_request(program.Program(trial.program, False), source, "T", devices.parse(small.device))
-    graph, board = place.problem_of(request, False)
-    found = [it for it in (place_levels.attempt(graph, board, seed, number) for number in range(ATTEMPTS)) if it]
+    request = placement.read_request(program.Program(trial.program, False), source, "T", devices.parse(small.device))
+    graph, board = placement.problem_of(request, False)
+    found = [it for it in (levels.attempt(graph, board, seed, number) for number in range(ATTEMPTS)) if it]
     for it in found:
-        pins = place.pins_of(request, [board.slots[slot] for slot in it.at])
+        pins = placement.pins_of(request, [board.slots[slot] for slot in it.at])
         own = request.device.pins.items() <= pins.items() and all(slot in (None, at) for slot, at in zip(graph.fixed, it.at))
         said = trial.run(["plan", source, "T", trial.put("pinned.json", request.device.text(pins))])
         trial.check(f"small program {seed}: the program takes what the search found", own and cost_of(said) == it.cost == graph.cost(it.at, board), f"   {it} {said}")
@@ -152,14 +155,14 @@ def check_nested(trial):
     """The order of invokes does not change what is searched, of a square of tasks and of lanes that are tasks of tasks."""
     called, device = program.Program(trial.program, False), devices.parse(grid_of({"slots": [[300, 900]] * 4}, rows=2))
     for name, written in (("a square", lambda order: grid_source(3, order)), ("lanes", lanes_source)):
-        problems = [place.problem_of(place.read_request(called, trial.put("mixed.cpp", written(order)), "T", device), False) for order in range(5)]
+        problems = [placement.problem_of(placement.read_request(called, trial.put("mixed.cpp", written(order)), "T", device), False) for order in range(5)]
         trial.check(f"{name}: one graph in five orders of invokes", all(problem == problems[0] for problem in problems), f"   {problems}")
 
 
 def check_orders(trial):
     """A square of 36 tasks and 24 ends on four slots that are nearly full: the order of invokes, the workers and a second call change nothing, and a device without room
     is told as such."""
-    uses = json.loads(run_tool("estimate.py", trial.put("grid.cpp", grid_source(6, 1)), "T", "--json", program=trial.program)[1])["all"]["LUT"]
+    uses = json.loads(trial.tool("estimate.py", trial.put("grid.cpp", grid_source(6, 1)), "T", "--json")[1])["all"]["LUT"]
     slot = uses * 100 // 95 // 4 + 1
     device = trial.put("four.json", grid_of({"slots": [[slot, 90000]] * 4}, rows=2))
     costs = []
@@ -247,17 +250,16 @@ def check_drawings(trial):
     source, device = trial.put("grid.cpp", grid_source(9, 1)), trial.put("nine.json", grid_of({"slots": [[2400, 90000]] * 9}, rows=3))
     said = trial.run(["plan", source, "T", device])
     path = trial.put("p.plan", said.out)
-    _, drawn, err = run_tool("draw/floorplan.py", path, device, source, "T")
+    _, drawn, err = trial.tool("floorplan.py", path, device, source, "T")
     check_picture(trial, "a plan of 117 tasks", drawn)
     bits = sum(int(it) for it in re.findall(r">(\d+) bits<", drawn))
     trial.check("the bundles have the bits of the cost", bits == cost_of(said) and drawn.count("<title>") == 117, f"   {bits} {said.out[-60:]} {err}")
-    trial.check("floorplan.py is draw/floorplan.py", run_tool("floorplan.py", path, device, source, "T")[1] == drawn)
     few = trial.run(["plan", "examples/systolic.cpp", "Product", "examples/devices/u250.json", "--plan", "fit"], ROOT)
-    _, drawn, _ = run_tool("draw/floorplan.py", trial.put("few.plan", few.out), "examples/devices/u250.json")
+    _, drawn, _ = trial.tool("floorplan.py", trial.put("few.plan", few.out), "examples/devices/u250.json")
     check_picture(trial, "a plan on eight slots", drawn)
     for words in ([source, device], [path, source], [path, "examples/devices/u250.json"], ["missing.plan", device], [path, device, source, "U"]):
-        status, out, err = run_tool("draw/floorplan.py", *words)
-        trial.check(f"draw/floorplan.py {' '.join(map(os.path.basename, words))}", (status, out, err.count("\n")) == (1, "", 1), f"   {status} {err}")
+        status, out, err = trial.tool("floorplan.py", *words)
+        trial.check(f"floorplan.py {' '.join(map(os.path.basename, words))}", (status, out, err.count("\n")) == (1, "", 1), f"   {status} {err}")
 
 
 def try_all(trial):

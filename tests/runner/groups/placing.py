@@ -1,14 +1,9 @@
-"""Devices, plans, estimates and pins beside the program: tools/vechaqir/device.py, plan.py and the scripts that stand on them."""
+"""The readers of device files and of plans in `tools/vechaqir/host/`, compared with the program; `tools/estimate.py`, and what it says is short where the program has no room."""
 import json
 import os
-import subprocess
-import sys
 
 from runner.trial import ROOT, read
-
-sys.path.insert(0, os.path.join(ROOT, "tools"))
-
-from vechaqir import device, estimate, plan, program
+from vechaqir.host import device, estimate, plan, program
 
 EXAMPLES = [
     ("vector_add", "VecAdd", "two_slots"),
@@ -123,13 +118,6 @@ SHORT = [
 ]
 
 
-def run_tool(name, *words, program=None):
-    """What a script of tools/ answers: its status, standard output and standard error. It calls `program`."""
-    known = dict(os.environ, TAPA=program) if program else None
-    ran = subprocess.run([sys.executable, f"tools/{name}", *words], cwd=ROOT, env=known, stdin=subprocess.DEVNULL, capture_output=True, check=False)
-    return ran.returncode, ran.stdout.decode(), ran.stderr.decode()
-
-
 def grid_of(given, rows=1):
     """A device file's text: slots as lists of LUT, FF, BRAM, DSP, filled to 100 percent where nothing else is given."""
     slots = [dict(zip(device.RESOURCES, amounts)) for amounts in given["slots"]]
@@ -140,9 +128,9 @@ def check_estimates(trial):
     """Uses by task and instance, and what a device lacks."""
     source = trial.put("multiplies.cpp", MULTIPLIES)
     small = trial.put("small.json", json.dumps({"rows": 1, "cols": 1, "slots": [{"LUT": 100, "FF": 1000}]}))
-    status, out, err = run_tool("estimate.py", source, "T", small, program=trial.program)
+    status, out, err = trial.tool("estimate.py", source, "T", small)
     trial.check_equal("estimate.py on a small device", (status, out, err), (0, MULTIPLIES_TOLD, ""))
-    status, out, _ = run_tool("estimate.py", source, "T", "--json", program=trial.program)
+    status, out, _ = trial.tool("estimate.py", source, "T", "--json")
     told = json.loads(out)
     trial.check_equal("estimate.py --json", (told["all"]["DSP"], told["tasks"]["P"]["DSP"], told["groups"]), (6, 6, [["P$0"], ["C$1"], ["A$2", "B$3"]]))
     called = program.Program(trial.program, False)
@@ -169,12 +157,12 @@ def check_hostile(trial, tool):
     for text in HOSTILE:
         path = trial.put("hostile.json", text)
         said = trial.run(["plan", source, "T", path])
-        told = run_tool(tool, source, "T", path, program=trial.program)
+        told = trial.tool(tool, source, "T", path)
         trial.check_equal(f"{tool} on the device {text[:30]}", told, (said.status, "", said.err.decode()))
     for words, status in ((["missing.cpp", "T", "missing.json"], 5), ([source, "T", "missing.json"], 5), ([source, "U", path], 1), ([source], 2), ([source, "T", path, "--wrong"], 2)):
-        told = run_tool(tool, *words, program=trial.program)
+        told = trial.tool(tool, *words)
         trial.check(f"{tool} {' '.join(words[1:])}", told[0] == status and told[1] == "" and "Traceback" not in told[2] and told[2] != "", f"   {told}")
-    trial.check(f"{tool} --help", run_tool(tool, "--help")[::2] == (0, ""))
+    trial.check(f"{tool} --help", trial.tool(tool, "--help")[::2] == (0, ""))
 
 
 def try_all(trial):

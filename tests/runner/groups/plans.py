@@ -1,4 +1,5 @@
-"""Plans of small graphs, each beside all plans there are (counted out here, apart from the product), and the certificate of each balance."""
+"""`plan` on random graphs of up to five tasks, each compared with all plans there are and with first fit, worked out in Python, and on graphs of sixteen tasks in 16 shapes
+(`runner/made/shapes.py`), with the certificate of each balance."""
 import itertools
 import json
 import random

@@ -1,11 +1,9 @@
-"""Where cycles go: what tools/profile.py says of the examples adds up to the cycles of the run, and of three designs whose bottleneck is known by hand it names that, and a
-change that makes the circuit as fast as it says."""
+"""What `tools/profile.py` says of the examples adds up to their cycles; of three designs with a shallow stream, a slow task and a late memory it names that, and a change that
+makes the circuit as fast as it says."""
 import json
 import os
 import re
 import shlex
-import subprocess
-import sys
 
 from runner.groups import networks
 from runner.groups.names import LAYERS
@@ -54,23 +52,17 @@ void T(tapa::mmap<const int> a, tapa::mmap<int> s) { tapa::stream<int> q; tapa::
 LATE_DATA = {"memories": {"a": list(range(20)), "s": [0]}, "waits": {"a": [0, 0, 0, 0, 0, 1] * 40}}
 
 
-def run_tool(trial, *words):
-    environment = {**os.environ, "TAPA": trial.program}
-    ran = subprocess.run([sys.executable, "tools/profile.py", *words], cwd=ROOT, stdin=subprocess.DEVNULL, capture_output=True, text=True, check=False, env=environment)
-    return ran.returncode, ran.stdout, ran.stderr
-
-
 def profiled(trial, *words):
-    status, out, err = run_tool(trial, *words, "--json")
+    status, out, err = trial.tool("profile.py", *words, "--json")
     trial.check(f"profile.py of {words[0]}", status == 0, f"   {err}")
     return json.loads(out) if status == 0 else {"cycles": 0, "done": False, "tasks": {}, "streams": {}, "bound": {}, "changes": [], "circle": []}
 
 
-def cycles_of(trial, text, data="{}"):
+def cycles_of(trial, text, data="{}", top="T"):
     """The cycle in which a source's circuit has done."""
     trial.put("c.cpp", text)
     trial.put("c.json", data)
-    trial.put("c.v", trial.run(["build", "c.cpp", "T"]).out)
+    trial.put("c.v", trial.run(["build", "c.cpp", top]).out)
     return int(trial.run(["cosim", "c.v", "c.json"]).out.split()[-1])
 
 
@@ -123,7 +115,7 @@ def try_slow(trial):
     bound = found["bound"]["tasks"]
     trial.check("the slow task bounds it", list(bound)[0] == "Slow$1" and bound["Slow$1"] > 0.9 * found["cycles"], f"   {bound}")
     trial.check_equal("no depth makes it faster", found["changes"], [])
-    out = run_tool(trial, path, "T")[1]
+    out = trial.tool("profile.py", path, "T")[1]
     shorter = cycles_of(trial, SLOW.replace("y += 3; r << y;", "r << y + 3;"))
     trial.check("a tick less a turn", f"a tick less in each of the 30 turns at line 4 gives {shorter} cycles" in out, f"   {shorter}: {out}")
 
@@ -152,8 +144,8 @@ def try_page(trial):
     for block in re.findall(r"(?:^    .*\n|^\n(?=    ))+", page, re.M):
         lines = [line[4:] for line in block.splitlines() if line.strip()]
         if lines[0].startswith("$ tools/profile.py "):
-            shown = run_tool(trial, *lines.pop(0).split()[2:])[1]
-        if not lines[0].startswith("tools/"):
+            shown = trial.tool("profile.py", *lines.pop(0).split()[2:])[1]
+        if not lines[0].startswith(("tools/", "$ ")):
             missing = [line for line in lines if line != ".." and line not in shown.splitlines()]
             trial.check(f"the page's lines {lines[0]}", not missing, f"   {missing}")
     text = read("examples/cycles/shared.cpp")
@@ -163,6 +155,19 @@ def try_page(trial):
     trial.check_equal("the depths that the page tells", cycles_of(trial, text.replace("Sums(", "T("), read("examples/cycles/shared.json")), int(told[2]))
 
 
+def try_expected(trial):
+    """The table of docs/CYCLES.md of examples with many elements: the cycles of each, and how many that is for each element."""
+    rows = re.findall(r"^\| `(\w+)` \| ([\d,]+) \| 1 \| (\d+) \| ([\d,]+) \|$", read("docs/CYCLES.md"), re.M)
+    trial.check("docs/CYCLES.md has the cycles of five examples", len(rows) == 5, f"   {rows}")
+    for name, *numbers in rows:
+        count, each, cycles = (int(number.replace(",", "")) for number in numbers)
+        data = json.loads(read(f"examples/{name}.json"))
+        data["scalars"] = {key: 3 if key == "mode" else count for key in data["scalars"]}
+        data["memories"] = {key: [place % 97 for place in range(count + key.startswith("to_"))] for key in data["memories"]}
+        found = cycles_of(trial, read(f"examples/{name}.cpp"), json.dumps(data), read(f"examples/{name}.cpp").split("\n")[0].split()[4])
+        trial.check_equal(f"the cycles of {name} with {count} elements", (found, found // count), (cycles, each))
+
+
 def try_words(trial):
     """A dump in place of a simulation, a dump of another circuit, words that are no command, and files that are missing."""
     trial.put("p.cpp", SLOW)
@@ -170,13 +175,13 @@ def try_words(trial):
     path = trial.put("p.vcd", trial.run(["cosim", circuit, "--vcd"]).out)
     source = os.path.join(trial.folder.name, "p.cpp")
     trial.check_equal("a profile of a dump", profiled(trial, source, "T", "--dump", path)["cycles"], cycles_of(trial, SLOW))
-    status, _, err = run_tool(trial, "examples/vector_add.cpp", "VecAdd", "--dump", path)
+    status, _, err = trial.tool("profile.py", "examples/vector_add.cpp", "VecAdd", "--dump", path)
     trial.check("a dump of another circuit", status == 1 and "is no dump of this source's circuit" in err and err.count("\n") == 1, f"   {err}")
     for words, wanted in (([source, "U"], f"{source}:1:1: C1 unknown name"), (["examples/vector_add.cpp", "VecAdd"], "{}: J2 scalars.n"),
                           (["examples/vector_add.cpp", "VecAdd", "examples/systolic.json"], "examples/systolic.json: J2 scalars.n")):
-        trial.check_equal(f"what profile.py {' '.join(words)} is told", run_tool(trial, *words)[1:], ("", f"tools/profile.py: tapa: {wanted}\n"))
+        trial.check_equal(f"what profile.py {' '.join(words)} is told", trial.tool("profile.py", *words)[1:], ("", f"tapa: {wanted}\n"))
     for words, wanted in ((["--help"], 0), ([], 2), (["a.cpp", "T", "--depth"], 2), (["none.cpp", "T"], 1), ([source, "U"], 1)):
-        status, _, err = run_tool(trial, *words)
+        status, _, err = trial.tool("profile.py", *words)
         trial.check(f"profile.py {' '.join(words)}", status == wanted and "Traceback" not in err, f"   {status} {err}")
 
 
@@ -190,4 +195,5 @@ def try_all(trial):
     try_slow(trial)
     try_late(trial)
     try_page(trial)
+    try_expected(trial)
     try_words(trial)

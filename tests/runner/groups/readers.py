@@ -1,14 +1,12 @@
-"""The readers that the tools share (tools/vechaqir): a source's network beside the circuit that the program builds of it, constants, lexemes, and that any bytes can be read."""
+"""The shared readers of `tools/vechaqir/`: the network that is read of a source, compared with the instances, ends of streams and widths in the circuit that is built of it;
+constants; and that any bytes can be read."""
 import os
 import random
 import re
-import sys
 
 from runner.groups import arrays
 from runner.trial import ROOT, read
-
-sys.path.insert(0, os.path.join(ROOT, "tools"))
-from vechaqir import kinds, lexemes, source  # noqa: E402
+from vechaqir.language import kinds, lexemes, source
 
 # Constants of a source, and their numbers.
 CONSTANTS = """const int A = 3 + 4 * 2; constexpr uint8_t B = 256 + 5; const int8_t C = 200; const bool D = 7; const unsigned long E = 1ul << 63;

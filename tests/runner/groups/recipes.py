@@ -1,4 +1,4 @@
-"""The recipes of CONTRIBUTING.md: each file and folder that one names is there."""
+"""The recipes of docs/RECIPES.md: each file and folder that one names is there."""
 import os
 import re
 
@@ -11,9 +11,7 @@ def named(text):
 
 
 def try_all(trial):
-    text = read("CONTRIBUTING.md")
-    recipes = text[text.index("## Recipes"):text.index("## Never")]
-    paths = named(recipes)
+    paths = named(read("docs/RECIPES.md"))
     trial.check("the recipes name files", len(paths) > 40)
     for path in sorted(set(paths)):
         trial.check(f"recipe: {path}", any(os.path.exists(os.path.join(ROOT, folder, path)) for folder in ("crates", "")))

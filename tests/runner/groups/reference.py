@@ -1,7 +1,9 @@
-"""The slow reference of a cycle beside the simulator: what crates/vlog_tests runs by the one is simulated by `cosim`, and what `build` made of it runs by `run`.
+"""The texts of `crates/vlog_tests/stdin`, which the slow reference of a cycle runs: `cosim` carries what is in `stdout` there, and of those by hand a second evaluator
+(`runner/second/cycles.py`), written from docs/SUBSET.md alone, shows every line of it; and the sources of `cases/circuits/`, whose text by `build` is in that `stdin`, with what
+`run` shows of them in that `stdout`.
 
-The crate's `stdin` has texts and what stands around them, its `stdout` what the reference is to show; the gate compares that with what it shows. Behind MARK stand
-the circuits of tests/cases/circuits: what they are to show is what `run` shows of their sources, and the cycle in which `cosim` has done them."""
+The gate compares the crate's `stdout` with what the reference shows. Behind MARK stand the circuits of tests/cases/circuits: what they are to show is what `run` shows of their
+sources, and the cycle in which `cosim` has done them. `tests/run.py write reference PROGRAM` writes both anew."""
 import json
 import os
 import re

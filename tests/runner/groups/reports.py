@@ -1,8 +1,5 @@
-"""Reports for people: what tools/report.py makes of a run."""
+"""What `tools/report.py` makes of runs: signs, shortened streams, ticks, accesses past a memory's end, JSON, and comparisons."""
 import json
-import os
-import subprocess
-import sys
 
 from runner.trial import ROOT
 
@@ -11,43 +8,50 @@ DETACHED = """void Ask(tapa::ostream<int>& q, tapa::istream<int>& r) { for (int 
 void Pass(tapa::istream<int>& a, tapa::ostream<int>& b) { for (;;) b << a.read(); }
 void T() { tapa::stream<int> q, between, r; tapa::task().invoke(Ask, q, r).invoke<tapa::detach>(Pass, q, between).invoke<tapa::detach>(Pass, between, r); }
 """
+# The last line reads past the end in the arm that is not chosen, which does not matter.
+ARRAY = """void F(tapa::mmap<int> m) {
+  int a[4];
+  for (int i = 0; i < 6; ++i) { a[i] = i; }
+  for (int i = 0; i < 6; ++i) { m[i] = a[i]; }
+  for (int i = 0; i < 6; ++i) { int x = i < 4 ? a[i] : 0; }
+}
+void T(tapa::mmap<int> m) { tapa::task().invoke(F, m); }
+"""
 VECTORS = ("examples/vector_add.cpp", "VecAdd", "examples/vector_add.json")
-
-
-def run_tool(trial, *words, given=""):
-    environment = {**os.environ, "TAPA": trial.program}
-    ran = subprocess.run([sys.executable, "tools/report.py", *words], cwd=ROOT, input=given, capture_output=True, text=True, check=False, env=environment)
-    return ran.returncode, ran.stdout, ran.stderr
 
 
 def try_lines(trial):
     """Signs, notes, long streams, ticks by task, and a report that is read."""
-    status, out, err = run_tool(trial, *VECTORS)
+    status, out, err = trial.tool("report.py", *VECTORS)
     trial.check("signed numbers and ticks by task", status == 0 and "stream b_q: 10 20 30 40 -50\n" in out and out.endswith("Add$2 28, Stream2Mmap$3 23; the circuit takes 33 cycles\n"), out + err)
     source = trial.put("d.cpp", DETACHED)
-    shown = dict(line.split(":", 1) for line in run_tool(trial, source, "T")[1].splitlines() if ":" in line)
+    shown = dict(line.split(":", 1) for line in trial.tool("report.py", source, "T")[1].splitlines() if ":" in line)
     trial.check_equal("a long stream", shown["stream q [100]"], " 0 -1 -2 -3 -4 -5 -6 -7 -8 -9 -10 -11 .. 76 more .. -88 -89 -90 -91 -92 -93 -94 -95 -96 -97 -98 -99")
     trial.check_equal("a stream between detached tasks", shown["stream between"], " (not shown: its reader is detached)")
-    whole = run_tool(trial, source, "T", "--long", "--no-circuit")[1].splitlines()
+    whole = trial.tool("report.py", source, "T", "--long", "--no-circuit")[1].splitlines()
     trial.check_equal("a long stream, whole", len(whole[0].split()), 102)
     ran = trial.run(["run", *VECTORS], ROOT).out.decode()
-    trial.check_equal("a report that is read", run_tool(trial, *VECTORS[:2], "--from", "-", given=ran), (0, ran.replace("4294967246", "-50").replace("4294967251", "-45"), ""))
-    stopped = run_tool(trial, "examples/too_shallow.cpp", "TooShallow")
+    trial.check_equal("a report that is read", trial.tool("report.py", *VECTORS[:2], "--from", "-", given=ran), (0, ran.replace("4294967246", "-50").replace("4294967251", "-45"), ""))
+    stopped = trial.tool("report.py", "examples/too_shallow.cpp", "TooShallow")
     trial.check("a run that stops", stopped[0] == 8 and stopped[2] == "tapa: Producer$0 waits to write data\ntapa: Consumer$1 waits to read ready\n" and "stopped 1" in stopped[1], f"   {stopped}")
     trial.check("a circuit that stands still", "Consumer$1 0; the circuit is not done after " in stopped[1] and stopped[1].endswith(" cycles; its last tick was made in cycle 1\n"), f"   {stopped}")
 
 
 def try_past_end(trial):
-    """Each load and store past a memory's end that a circuit's dump shows, with its line."""
+    """Each access past the end of a memory or an array, with its line."""
     words = ("tests/cases/circuits/features.cpp", "Top", "tests/cases/circuits/features.json")
-    told = [line for line in run_tool(trial, *words)[1].splitlines() if line.startswith("past the end: ")]
-    wanted = ["past the end: Keep$1 loads 0 from table[7] and 5 more, line 29", "past the end: Keep$1 stores nothing to half[6] and 2 more, line 28", "past the end: Keep$1 loads 0 from half[6] and 2 more, line 29"]
+    told = [line for line in trial.tool("report.py", *words)[1].splitlines() if line.startswith("past the end: ")]
+    wanted = ["past the end: Keep$1 stores nothing to half[6] and 2 more, line 28", "past the end: Keep$1 loads 0 from half[6] and 2 more, line 29", "past the end: Keep$1 loads 0 from table[7] and 5 more, line 29"]
     trial.check_equal("accesses past a memory's end", told, wanted)
+    words = (trial.put("a.cpp", ARRAY), "T", trial.put("a.json", '{"memories": {"m": [0, 0]}}'))
+    told = [line for line in trial.tool("report.py", *words)[1].splitlines() if line.startswith("past the end: ")]
+    wanted = ["past the end: F$0 writes nothing to a[4] and 1 more, line 3", "past the end: F$0 reads 0 from a[4] and 1 more, line 4", "past the end: F$0 stores nothing to m[2] and 3 more, line 4"]
+    trial.check_equal("accesses past an array's end, but not those that a condition leaves out", told, wanted)
 
 
 def try_json(trial):
     """The report as JSON, and what is expected beside it."""
-    found = json.loads(run_tool(trial, *VECTORS, "--json")[1])
+    found = json.loads(trial.tool("report.py", *VECTORS, "--json")[1])
     trial.check_equal("a report as JSON", (found["streams"]["b_q"], found["memories"]["c"], found["end"], found["ticks"]["Add$2"]), ([10, 20, 30, 40, -50], [11, 22, 33, 44, -45], "done", 28))
     cases = [
         ({"memories": {"c": [11, 22, 33, 44, -45]}, "end": "done"}, 0, ""),
@@ -57,10 +61,10 @@ def try_json(trial):
         ({"end": "stopped"}, 1, "the end is done, and stopped is expected"),
     ]
     for wanted, status, told in cases:
-        ran = run_tool(trial, *VECTORS, "--no-circuit", "--expect", trial.put("e.json", json.dumps(wanted)))
+        ran = trial.tool("report.py", *VECTORS, "--no-circuit", "--expect", trial.put("e.json", json.dumps(wanted)))
         trial.check_equal(f"what is expected: {wanted}", (ran[0], ran[2]), (status, f"tools/report.py: {told}\n" if told else ""))
     for words, status in ((["--help"], 0), ([], 2), (["a.cpp", "T", "--shrt"], 2), (["none.cpp", "T"], 1), ([*VECTORS, "--expect", trial.put("e.json", "[]")], 1)):
-        ran = run_tool(trial, *words)
+        ran = trial.tool("report.py", *words)
         trial.check(f"report.py {' '.join(words)}", ran[0] == status and "Traceback" not in ran[2], f"   {ran}")
 
 

@@ -1,4 +1,4 @@
-"""Every script of tools/: it is executable, answers `--help`, and ends in no traceback whatever its words, files and streams are."""
+"""Every script of tools/ is executable, answers `--help`, and ends in no traceback whatever its words, files and streams are."""
 import glob
 import os
 import random
@@ -32,6 +32,7 @@ def try_help(trial, path):
     trial.check(f"{name} is executable", os.access(path, os.X_OK))
     if path.endswith(".py"):
         trial.check(f"{name} begins with python3", read(name).startswith("#!/usr/bin/env python3\n"))
+    trial.check(f"tools/README.md has a row of {name}", f"`{os.path.basename(path)}`" in read("tools/README.md"))
     status, err, out = run(trial, path, ["--help"], ROOT)
     trial.check(f"{name} answers --help", status == 0 and len(out) > 60 and not err, f"   {status} {err}")
     closed = subprocess.run(["sh", "-c", f"exec {path} --help | true"], cwd=ROOT, stdin=subprocess.DEVNULL, capture_output=True, check=False)

@@ -1,4 +1,4 @@
-"""Sources that are refused, each beside the nearest one that is accepted: the tables in tests/cases/sources."""
+"""Sources that are refused, each next to the nearest one that is accepted: the tables `cases/sources/*.rows`."""
 import os
 import re
 

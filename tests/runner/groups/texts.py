@@ -1,4 +1,4 @@
-"""Verilog texts as they are read: whether each is of the subset, and else the rule that it breaks, with the place or the name: tests/cases/texts."""
+"""Verilog texts: whether each is of the subset, and else the rule that it breaks, with the place or the name: the tables `cases/texts/*.rows`."""
 import os
 import re
 import resource

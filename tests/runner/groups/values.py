@@ -1,5 +1,5 @@
-"""Values: the tables in tests/cases/values, each by a program that writes the results to a stream."""
-from runner.groups.inputs import run_on
+"""Operators at the bounds of each kind, conversions, the kind in which operands meet: the tables `cases/values/*.rows`."""
+from runner.groups.data import run_on
 from runner.groups.sources import table
 
 PROGRAM = """const {left} A = ({left}) {a}; const {right} B = ({right}) {b};

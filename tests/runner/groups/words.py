@@ -1,4 +1,4 @@
-"""The words of a command: the tables in tests/cases/words."""
+"""The words of a command: what they say, and words that are none, in the tables `cases/words/*.rows`."""
 import os
 import random
 

@@ -1,15 +1,10 @@
 """Where the grammar of docs/LANGUAGE.md refuses a source: a recogniser by Earley's method, which knows the page's productions and limits and nothing else.
 
 It goes from lexeme to lexeme with every reading of the text so far. A lexeme that no reading takes is P1; one that is taken and opens a level or is an operator too many is P2."""
-import os
-import sys
 from typing import Dict, FrozenSet, List, NamedTuple, Optional, Set, Tuple
 
 from runner.second import grammar
-from runner.trial import ROOT
-
-sys.path.insert(0, os.path.join(ROOT, "tools"))
-from vechaqir import lexemes  # noqa: E402
+from vechaqir.language import lexemes
 
 
 class Around(NamedTuple):

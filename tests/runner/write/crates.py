@@ -1,14 +1,13 @@
-"""The list of crates by room, as docs/ARCHITECTURE.md has it: rooms of crates.txt, and of each crate the first sentence of its `//!` lines.
+"""The list of crates by room, as docs/ARCHITECTURE.md and crates/README.md have it: rooms of crates.txt, and of each crate the first sentence of its `//!` lines; crates/README.md has its
+size besides.
 
-The runner checks that the list there is this one.
+The runner checks that the lists there are these.
 """
 import os
 import re
 
 from runner.trial import ROOT
-
-PAGE = os.path.join(ROOT, "docs", "ARCHITECTURE.md")
-BEGIN, END = "<!-- crates: written by tests/run.py write crates -->\n", "<!-- end of the list -->\n"
+from runner.write import lists
 
 
 def rooms():
@@ -35,7 +34,7 @@ def what_it_is(crate):
                 if not line.startswith("//"):
                     break
                 comment.append(line.lstrip("/!").strip())
-            return re.split(r"(?<=\.)\s", " ".join(comment))[0]
+            return lists.sentence(" ".join(comment))
     return ""
 
 
@@ -48,18 +47,40 @@ def text():
     return "".join(parts)
 
 
-def listed(page):
-    """The list that a page has."""
-    return page.partition(BEGIN)[2].partition(END)[0]
+def lines_in(crate, folder, is_code=False):
+    """How many lines the files of a folder of a crate have; of code those that are not empty and not a comment."""
+    count = 0
+    for at, _, names in os.walk(os.path.join(ROOT, "crates", crate, folder)):
+        for name in names:
+            if name.endswith((".rt", ".antt")):
+                with open(os.path.join(at, name), encoding="utf-8") as file:
+                    count += sum(1 for line in file if not is_code or line.strip() and not line.lstrip().startswith("//"))
+    return count
 
 
-def main(words):
-    """Puts the list into docs/ARCHITECTURE.md."""
-    if words:
-        return 2
-    with open(PAGE, encoding="utf-8") as file:
-        page = file.read()
-    before, after = page.partition(BEGIN)[0], page.partition(END)[2]
-    with open(PAGE, "w", encoding="utf-8") as file:
-        file.write(before + BEGIN + text() + END + after)
-    return 0
+def theorems(crate):
+    """How many laws a crate has."""
+    count = 0
+    for at, _, names in os.walk(os.path.join(ROOT, "crates", crate, "src")):
+        for name in names:
+            with open(os.path.join(at, name), encoding="utf-8") as file:
+                count += len(re.findall(r"^pub fn law_\w+\(", file.read(), re.M))
+    return count
+
+
+def sized(crate):
+    """A crate's row of crates/README.md."""
+    numbers = [lines_in(crate, "src", is_code=True), lines_in(crate, "specs"), lines_in(crate, "proofs"), theorems(crate)]
+    return f"| [{crate}]({crate}) | {what_it_is(crate)} | {' | '.join(f'{number:,}' if number else '' for number in numbers)} |\n"
+
+
+def sizes():
+    """The crates of each room with their sizes, as crates/README.md has them."""
+    parts = []
+    for heading, crates in rooms():
+        parts.append(f"\n## {heading[0].upper()}{heading[1:]}\n\n| crate | what it is | code | definitions | proofs | theorems |\n|---|---|---|---|---|---|\n")
+        parts += [sized(crate) for crate in crates]
+    return "".join(parts)
+
+
+LISTS = {"docs/ARCHITECTURE.md": text, "crates/README.md": sizes}

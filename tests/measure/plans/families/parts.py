@@ -1,6 +1,6 @@
 """A design in parts: its tasks, its streams and its invokes, whose order may be changed without changing what is computed."""
 import random
-from dataclasses import dataclass, field
+from dataclasses import dataclass
 
 
 @dataclass

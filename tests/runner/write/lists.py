@@ -1,0 +1,36 @@
+"""Lists that pages have of what is in the repository, each between two comments: `tests/run.py write NAME` writes them, and the runner checks that they are so."""
+import os
+import re
+
+from runner.trial import ROOT, read
+
+END = "<!-- end of the list -->\n"
+
+
+def begin(name):
+    return f"<!-- {name}: written by tests/run.py write {name} -->\n"
+
+
+def on_page(page, name):
+    """The list of this name on a page."""
+    return read(page).partition(begin(name))[2].partition(END)[0]
+
+
+def put(page, name, text):
+    """Puts a list in place of the one on a page."""
+    before, _, after = read(page).partition(begin(name))
+    if not after:
+        raise ValueError(f"{page} has no place for the list {name}")
+    with open(os.path.join(ROOT, page), "w", encoding="utf-8") as file:
+        file.write(before + begin(name) + text + END + after.partition(END)[2])
+
+
+def sentence(text):
+    """The first sentence of a text, in one line."""
+    return re.split(r"(?<=\.)\s", " ".join((text or "").split()))[0]
+
+
+def check(trial, pages, name):
+    """Each of these pages has its list; `pages` are what is listed on each."""
+    for page, text in pages.items():
+        trial.check_equal(f"{page} has the list of tests/run.py write {name}", on_page(page, name), text())

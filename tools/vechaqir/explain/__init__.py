@@ -1,0 +1,1 @@
+"""What is said below each message of the program: why, and what to write instead."""

@@ -1,0 +1,148 @@
+"""Value change dumps (IEEE 1364-2005, clause 18), read as a stream, so that a dump of 100 MB needs no more memory than its nets.
+
+Both kinds of dump are read: that of `tapa cosim --vcd`, where a unit of time is a cycle, and that of `tools/icarus.py --dump`, where a cycle is ten units and holds the nets
+inside of tasks and FIFOs too.
+"""
+from __future__ import annotations
+
+from typing import Dict, IO, Iterable, Iterator, List, NamedTuple, Optional, Tuple
+
+# A value of a net: a number, or None where a bit of it is unknown (`x`) or undriven (`z`).
+Value = Optional[int]
+
+
+class NotADump(ValueError):
+    """A text that is no value change dump. Its words say what is wrong, and in which line."""
+
+
+class Net(NamedTuple):
+    """A net of a dump. Its name is hierarchical, with a dot between a scope and what is in it: `t_VecAdd.s_a_q_wr`."""
+
+    name: str
+    width: int
+    is_register: bool
+    key: str
+
+
+class Dump:
+    """The nets of a dump by hierarchical name, and their values over time. The file is read anew for each call of `changes` and `cycles`."""
+
+    def __init__(self, path: str) -> None:
+        """Reads the head of a file alone. Raises OSError where it cannot be read, and NotADump where it is no dump."""
+        self.path = path
+        self.nets: Dict[str, Net] = {}
+        self.top = ""
+        with open(path, encoding="latin-1") as file:
+            self._read_head(file)
+        is_bench = any(name.startswith("bench.top.") for name in self.nets)
+        # in a dump of tools/icarus.py the nets of a cycle have settled at its third unit, and registers take over at its fourth
+        self.period, self.sample = (10, 3) if is_bench else (1, 0)
+        if is_bench:
+            self.top = "bench.top"
+
+    def _read_head(self, file: IO[str]) -> None:
+        scopes: List[str] = []
+        for number, words in enumerate(_commands(file), 1):
+            if words[0] == "$scope" and len(words) > 2:
+                scopes.append(words[2].lstrip("\\"))
+                self.top = self.top or scopes[0]
+            elif words[0] == "$upscope" and scopes:
+                scopes.pop()
+            elif words[0] == "$var" and len(words) > 4 and words[2].isdecimal():
+                name = ".".join([*scopes, words[4].lstrip("\\")])
+                self.nets[name] = Net(name, int(words[2]), words[1] == "reg", words[3])
+            elif words[0] == "$enddefinitions":
+                return
+            elif words[0] not in ("$timescale", "$date", "$version", "$comment"):
+                raise NotADump(f"command {number}: `{' '.join(words)[:40]}` has no place in the head of a dump")
+        raise NotADump("the head of the dump does not end: there is no $enddefinitions")
+
+    def name(self, inside: str) -> str:
+        """The hierarchical name of a net of the circuit's top module, given its name there: `s_a_q_wr`, or `t_A$0.state` for one further inside."""
+        return f"{self.top}.{inside}"
+
+    def has(self, inside: str) -> bool:
+        """Whether the circuit's top module has this net."""
+        return self.name(inside) in self.nets
+
+    def changes(self, names: Optional[Iterable[str]] = None) -> Iterator[Tuple[int, str, Value]]:
+        """Each change as time, hierarchical name and value, in the order of the file, of all nets or of those that are named. Raises KeyError for an unknown name."""
+        wanted: Dict[str, List[str]] = {}
+        for name in self.nets if names is None else names:
+            wanted.setdefault(self.nets[name].key, []).append(name)
+        for time, key, digits in self._raw_changes():
+            if key in wanted:
+                value = _number(digits)
+                for name in wanted[key]:
+                    yield time, name, value
+
+    def cycles(self, names: Optional[Iterable[str]] = None) -> Iterator[Tuple[int, Dict[str, Value]]]:
+        """Each cycle of the dump with the values that its nets have once they have settled. The dictionary is the same object in each step: copy what is to be kept.
+        A net without a value so far is None. Raises KeyError for an unknown name."""
+        chosen = list(self.nets if names is None else names)
+        wanted: Dict[str, List[str]] = {}
+        for name in chosen:
+            wanted.setdefault(self.nets[name].key, []).append(name)
+        values: Dict[str, Value] = {name: None for name in chosen}
+        cycle, time = 0, 0
+        for time, key, digits in self._raw_changes():
+            while time > cycle * self.period + self.sample:
+                yield cycle, values
+                cycle += 1
+            if key in wanted:
+                value = _number(digits)
+                for name in wanted[key]:
+                    values[name] = value
+        if time >= cycle * self.period:
+            yield cycle, values
+
+    def _raw_changes(self) -> Iterator[Tuple[int, str, str]]:
+        """Time, key and digits of each change; for a time without changes the key is empty."""
+        time, is_head = 0, True
+        with open(self.path, encoding="latin-1") as file:
+            for line in file:
+                if is_head:
+                    is_head = "$enddefinitions" not in line
+                    continue
+                first = line[0]
+                if first in "01xzXZ":
+                    yield time, line[1:].strip(), first
+                elif first in "bB":
+                    digits, _, key = line[1:].partition(" ")
+                    yield time, key.strip(), digits
+                elif first == "#":
+                    time = _time(line)
+                    yield time, "", "0"
+
+
+def _time(line: str) -> int:
+    number = line[1:].strip()
+    if not number.isdecimal():
+        raise NotADump(f"`{line.strip()[:40]}` is no time")
+    return int(number)
+
+
+def _number(digits: str) -> Value:
+    try:
+        return int(digits, 2)
+    except ValueError:
+        return None
+
+
+def _commands(file: IO[str]) -> Iterator[List[str]]:
+    """The words of each command of a dump's head, without its `$end`; a command may take several lines."""
+    words: List[str] = []
+    for line in file:
+        for word in line.split():
+            if word == "$end":
+                yield words
+                words = []
+            else:
+                words.append(word)
+        if words and not words[0].startswith("$"):
+            raise NotADump(f"`{' '.join(words)[:40]}` is no command of a dump")
+
+
+def read(path: str) -> Dump:
+    """The dump of a file. Raises OSError and NotADump."""
+    return Dump(path)

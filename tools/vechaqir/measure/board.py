@@ -1,0 +1,156 @@
+"""A circuit on a board with open tools: a wrapper that folds the ports of its top module to three pins, and what Yosys and nextpnr make of the two.
+
+The wrapper shifts one input pin through a register for every input bit, and folds every output bit into one output pin by xors with a register after each,
+so every path of the whole starts and ends at a register and the clock that nextpnr reports is that of the circuit itself.
+"""
+import json
+import os
+import re
+import shutil
+import statistics
+import subprocess
+from typing import Dict, List, Sequence, Tuple
+
+from ..host.faults import Fault
+
+PORT = re.compile(r"(input|output)\s+(?:\[\s*(\d+)\s*:\s*0\s*\]\s*)?(\w+)")
+TOOLS = {"yosys": "yosys", "nextpnr-ice40": "nextpnr-ice40"}
+SECONDS = 1_800
+XILINX = "synth_xilinx -family xc7 -flatten -noiopad -noclkbuf"
+# How many LUTs a cell of distributed RAM stands for.
+LUT_RAM = {"RAM32M": 4, "RAM64M": 4, "RAM32X1D": 2, "RAM64X1D": 2, "RAM128X1D": 4}
+
+
+Port = Tuple[str, int, str]
+
+
+def missing() -> List[str]:
+    """The Debian packages of the tools that are not installed."""
+    return [package for command, package in TOOLS.items() if not shutil.which(command)]
+
+
+def top_of(text: str) -> str:
+    """The top module of a circuit: the last one of its text, as `build` prints them."""
+    names: List[str] = re.findall(r"^module (\w+)", text, re.M)
+    if not names:
+        raise Fault("the text has no module")
+    return names[-1]
+
+
+def ports_of(text: str, top: str) -> List[Port]:
+    """The ports of a module: which way, how many bits, and the name."""
+    found = re.search(rf"^module {re.escape(top)} \((.*?)\) ;", text, re.M | re.S)
+    if not found:
+        raise Fault(f"the text has no module {top}")
+    return [(way, int(most or 0) + 1, name) for way, most, name in PORT.findall(found.group(1))]
+
+
+def folds(bits: int) -> Tuple[List[str], int]:
+    """The lines that fold so many bits, in `all_0`, into one, four at a time with a register after each; and the number of the last level."""
+    lines: List[str] = []
+    level = 0
+    while bits > 1:
+        fewer = (bits + 3) // 4
+        lines.append(f"  reg [{fewer - 1}:0] all_{level + 1};")
+        sums = [f"    all_{level + 1}[{at}] <= ^all_{level}[{min(4 * at + 3, bits - 1)}:{4 * at}];" for at in range(fewer)]
+        lines += ["  always @(posedge clk) begin", *sums, "  end"]
+        bits, level = fewer, level + 1
+    return lines, level
+
+
+def linked(ports: Sequence[Tuple[int, str]], net: str) -> Tuple[List[str], int]:
+    """The connections of ports to the bits of a net, one after another, and how many bits they have."""
+    links, at = [], 0
+    for bits, port in ports:
+        links.append(f".{port}({net}[{at + bits - 1}:{at}])")
+        at += bits
+    return links, at
+
+
+def wrapper(text: str, top: str, name: str = "board") -> str:
+    """The wrapper of a circuit's top module, as Verilog."""
+    ports = ports_of(text, top)
+    links, wide = linked([(bits, port) for way, bits, port in ports if way == "input" and port != "clk"], "given")
+    shown, many = linked([(bits, port) for way, bits, port in ports if way == "output"], "shown")
+    links += shown + ([".clk(clk)"] if ("input", 1, "clk") in ports else [])
+    lines, last = folds(many)
+    return "\n".join([
+        f"module {name} (input clk, input serial, output folded);",
+        f"  reg [{max(wide, 1) - 1}:0] given;",
+        f"  wire [{max(many, 1) - 1}:0] shown;",
+        f"  reg [{max(many, 1) - 1}:0] all_0;",
+        "  always @(posedge clk) begin",
+        "    given <= {given, serial};",
+        "    all_0 <= shown;",
+        "  end",
+        f"  {top} circuit ({', '.join(links)});",
+        *lines,
+        f"  assign folded = all_{last}[0];",
+        "endmodule",
+        "",
+    ])
+
+
+def call(words: Sequence[str], folder: str) -> str:
+    """Runs a tool in a folder; what it printed."""
+    try:
+        ran = subprocess.run(words, cwd=folder, capture_output=True, text=True, errors="replace", timeout=SECONDS, check=False)
+    except subprocess.TimeoutExpired as late:
+        raise Fault(f"{words[0]} had not ended after {SECONDS} seconds") from late
+    if ran.returncode:
+        told = (ran.stderr + ran.stdout).strip().splitlines()
+        raise Fault(f"{words[0]}: {told[-1] if told else f'status {ran.returncode}'}")
+    return ran.stdout + ran.stderr
+
+
+def cells_of(folder: str, text: str, top: str, synthesis: str) -> Dict[str, int]:
+    """How many cells of each type Yosys makes of a module by a synthesis command."""
+    with open(os.path.join(folder, "design.v"), "w", encoding="utf-8") as file:
+        file.write(text)
+    call(["yosys", "-q", "-p", f"read_verilog design.v; {synthesis} -top {top}; tee -q -o stat.json stat -json"], folder)
+    with open(os.path.join(folder, "stat.json"), encoding="utf-8") as file:
+        told = json.load(file)
+    modules = told["modules"]
+    found: Dict[str, int] = modules.get(f"\\{top}", next(iter(modules.values())))["num_cells_by_type"]
+    return found
+
+
+def xilinx(folder: str, text: str, top: str) -> Dict[str, int]:
+    """What a module takes of a Xilinx 7 series device by Yosys: LUTs, LUTs of distributed RAM, flip-flops, shift registers, DSPs and block RAMs."""
+    cells = cells_of(folder, text, top, XILINX)
+
+    def some(pattern: str) -> int:
+        return sum(number for name, number in cells.items() if re.fullmatch(pattern, name))
+    return {
+        "lut": some(r"LUT[1-6]|INV"), "lutram": sum(number * LUT_RAM.get(name, 0) for name, number in cells.items()), "ff": some(r"FD[RSCP]E.*"),
+        "srl": some(r"SRL.*"), "dsp": some(r"DSP48E1"), "ram": some(r"RAMB.*"),
+    }
+
+
+def ice40(folder: str, text: str, top: str) -> Dict[str, int]:
+    """What a module takes of an iCE40 device by Yosys: LUTs, flip-flops and block RAMs."""
+    cells = cells_of(folder, text, top, "synth_ice40")
+    return {"lut": cells.get("SB_LUT4", 0), "ff": sum(number for name, number in cells.items() if name.startswith("SB_DFF")), "ram": cells.get("SB_RAM40_4K", 0)}
+
+
+def netlist(folder: str, text: str, top: str) -> None:
+    """Makes the netlist of a circuit in its wrapper, `board.json`."""
+    with open(os.path.join(folder, "board.v"), "w", encoding="utf-8") as file:
+        file.write(text + wrapper(text, top))
+    call(["yosys", "-q", "-p", "read_verilog board.v; synth_ice40 -top board -json board.json"], folder)
+
+
+def placed(folder: str, seed: int) -> Tuple[float, int]:
+    """Places and routes `board.json`: the clock in MHz, and the logic cells of the whole."""
+    told = call(["nextpnr-ice40", "--hx8k", "--package", "ct256", "--json", "board.json", "--asc", f"board_{seed}.asc", "--seed", str(seed), "--freq", "50", "--timing-allow-fail"], folder)
+    clocks = re.findall(r"Max frequency for clock\s+'[^']*': ([\d.]+) MHz", told)
+    cells = re.findall(r"ICESTORM_LC:\s+(\d+)/", told)
+    if not clocks or not cells:
+        raise Fault("nextpnr-ice40 reports no clock")
+    return float(clocks[-1]), int(cells[-1])
+
+
+def clock(folder: str, text: str, top: str, seeds: int) -> float:
+    """The median of the clocks, in MHz, that nextpnr reports for a circuit by so many seeds."""
+    netlist(folder, text, top)
+    return float(statistics.median(placed(folder, seed)[0] for seed in range(1, seeds + 1)))

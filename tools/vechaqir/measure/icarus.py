@@ -1,0 +1,110 @@
+"""Circuits in Icarus Verilog: a testbench of one, the report of what it shows, and where its dump differs from that of `tapa cosim --vcd`."""
+from __future__ import annotations
+
+import re
+from typing import Any, Dict, Iterator, List, Mapping, Optional, Tuple
+
+from ..host.dump import Dump
+from ..host.faults import Fault
+
+# A port: its direction, bits and name; and the groups of a data file by name.
+Port = Tuple[str, int, str]
+Groups = Mapping[str, Mapping[str, Any]]
+
+PORT = re.compile(r"(input|output)\s*(?:\[\s*(\d+)\s*:\s*0\s*\])?\s*([\w$]+)")
+WIRE = re.compile(r"^\s*wire\s*(?:\[\s*(\d+)\s*:\s*0\s*\])?\s*([\w$]+)\s*;", re.M)
+
+
+def top_of(text: str) -> Tuple[str, List[Port], Dict[str, int]]:
+    """The last module: its name, its ports as (direction, bits, name), and the bits of its wires by name."""
+    modules = re.findall(r"\bmodule\s+([\w$]+)\s*\((.*?)\)\s*;(.*?)\bendmodule\b", text, re.S)
+    if not modules:
+        raise Fault("this is no circuit that `tapa build` wrote: it has no module")
+    name, ports, body = modules[-1]
+    return name, [(way, int(high or 0) + 1, port) for way, high, port in PORT.findall(ports)], {wire: int(high or 0) + 1 for high, wire in WIRE.findall(body)}
+
+
+def missing(ports: List[Port], data: Groups, name: str) -> None:
+    """Fault where a scalar or a memory of the circuit is not in the data, or has another shape there."""
+    for _, _, port in ports:
+        group, label, shape = ("scalars", port[2:], int) if port.startswith("v_") else ("memories", port[2:-4], list) if port.endswith("_ack") else ("", "", object)
+        if group and not isinstance(data[group].get(label), shape):
+            raise Fault(f"{name}: {group} has no {label}, {'a number' if shape is int else 'a list of numbers'}, which the circuit takes")
+
+
+def memory_lines(name: str, bits: int, cells: List[int], ready: List[int]) -> Iterator[str]:
+    """What stands around the top for a memory: its cells, what it answers, and the store of a cycle."""
+    size = max(1, len(cells))
+    yield f"reg m_{name}_ack; wire [63:0] m_{name}_addr; wire [{bits - 1}:0] m_{name}_wdata; wire m_{name}_we;"
+    yield f"reg [{bits - 1}:0] cells_{name} [0:{size - 1}]; reg [{bits - 1}:0] data_{name}; reg [63:0] place_{name}; reg stores_{name};"
+    yield f"wire [{bits - 1}:0] m_{name}_rdata = m_{name}_addr < 64'd{len(cells)} ? cells_{name}[m_{name}_addr] : {bits}'d0;"
+    yield f"reg ready_{name} [0:{max(1, len(ready))}];"
+    yield "initial begin"
+    yield from (f"  cells_{name}[{at}] = {bits}'d{cell % 2**bits};" for at, cell in enumerate(cells))
+    yield from (f"  ready_{name}[{at}] = 1'd{bit};" for at, bit in enumerate(ready))
+    yield "end"
+
+
+def bench(text: str, data: Groups, cycles: int, dump: Optional[str] = None) -> Iterator[str]:
+    name, ports, wires = top_of(text)
+    scalars = [(bits, port[2:]) for way, bits, port in ports if port.startswith("v_")]
+    memories = [(dict((port, bits) for _, bits, port in ports)[f"m_{port[2:-4]}_rdata"], port[2:-4]) for _, _, port in ports if port.endswith("_ack")]
+    streams = [wire[2:-4] for wire in wires if wire.startswith("s_") and wire.endswith("_din") and wires.get(wire[:-3] + "wr") == wires.get(wire[:-3] + "rdy") == 1]
+    values, cells, waits = (data.get(group, {}) for group in ("scalars", "memories", "waits"))
+    yield "module bench;"
+    yield "reg clk; reg rst; wire done; integer cycle; integer at;"
+    yield from (f"wire [{bits - 1}:0] v_{label} = {bits}'d{int(values[label]) % 2**bits};" for bits, label in scalars)
+    for bits, label in memories:
+        yield from memory_lines(label, bits, cells[label], waits.get(label, []))
+    yield f"{name} top (" + ", ".join(f".{port}({port})" for _, _, port in ports) + ");"
+    if dump:
+        yield f'initial begin $dumpfile("{dump}"); $dumpvars(0, bench); end'
+    yield "initial begin clk = 0; cycle = 0; while (1) begin"
+    yield "  rst = cycle == 0;"
+    for _, label in memories:
+        long = len(waits.get(label, []))
+        yield f"  m_{label}_ack = cycle == 0 ? 1'd0 : cycle <= {long} ? ready_{label}[cycle - 1] : 1'd1;"
+    yield "  #4;"
+    for label in streams:
+        bits = wires[f"s_{label}_din"]
+        yield f'  if (cycle > 0 && top.s_{label}_wr === 1 && top.s_{label}_rdy === 1) $display("stream {label} %0d {bits}", top.s_{label}_din);'
+    yield f"  if (cycle > 0 && (done === 1 || cycle == {cycles})) begin"
+    for _, label in memories:
+        yield f'    for (at = 0; at < {len(cells[label])}; at = at + 1) $display("memory {label} %0d", cells_{label}[at]);'
+    yield '    if (done === 1) $display("done %0d", cycle); else $display("running %0d", cycle);'
+    yield "    $finish; end"
+    for _, label in memories:
+        yield f"  stores_{label} = m_{label}_ack && m_{label}_we === 1 && m_{label}_addr < 64'd{len(cells[label])}; place_{label} = m_{label}_addr; data_{label} = m_{label}_wdata;"
+    yield "  clk = 1; #1;"
+    yield from (f"  if (stores_{label}) cells_{label}[place_{label}] = data_{label};" for _, label in memories)
+    yield "  #4; clk = 0; #1; cycle = cycle + 1; end end"
+    yield "endmodule"
+
+
+def token(number: int, bits: int) -> str:
+    return "eot" if number >> (bits - 1) else str(number)
+
+
+def report(text: str, lines: List[str]) -> List[str]:
+    """The lines of a report from what the testbench showed."""
+    _, ports, wires = top_of(text)
+    names = [f"stream {wire[2:-4]}" for wire in wires if wire.startswith("s_") and wire.endswith("_din") and wire[:-3] + "wr" in wires and wire[:-3] + "rdy" in wires]
+    names += [f"memory {port[2:-4]}" for _, _, port in ports if port.endswith("_ack")]
+    shown: Dict[str, List[str]] = {name: [] for name in names}
+    for line in lines[:-1]:
+        kind, label, *rest = line.split()
+        shown[f"{kind} {label}"].append(token(int(rest[0]), int(rest[1])) if kind == "stream" else rest[0])
+    return [" ".join([f"{name}:", *shown[name]]) for name in names] + lines[-1:]
+
+
+def differences(told: str, shown: str) -> Iterator[str]:
+    """Where a dump of `tapa cosim --vcd` and one of the testbench differ: of each net of the top module the first cycle."""
+    ours, theirs = Dump(told), Dump(shown)
+    names = [name[len(ours.top) + 1:] for name in ours.nets if name.startswith(f"{ours.top}.") and "." not in name[len(ours.top) + 1:]]
+    found: Dict[str, str] = {}
+    for (cycle, values), (_, others) in zip(ours.cycles(map(ours.name, names)), theirs.cycles(map(theirs.name, names))):
+        for name in names:
+            value, other = values[ours.name(name)], others[theirs.name(name)]
+            if other is not None and value != other:
+                found.setdefault(name, f"{name} in cycle {cycle}: {value}, and {other} in Icarus Verilog")
+    yield from found.values()

@@ -1,0 +1,1 @@
+"""From Clang's cursors to the tree."""

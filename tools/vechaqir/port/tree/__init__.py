@@ -1,0 +1,1 @@
+"""A source as a tree of its own: kinds of values, expressions, statements, tasks, and what walks over them."""
