@@ -14,7 +14,7 @@ use Rattle.run_data.specs.Seen.{first}
 use Rattle.net_core.specs.Bounded.{Values}
 use Rattle.command_source.specs.Inputs.{GivesValues, HasDataFault}
 use Rattle.tapa_syntax.specs.Shapes.{port_of, IsShapeOf}
-use Rattle.command_source.specs.Refusal.{DataFault, NotJson, Faulty}
+use Rattle.command_answers.specs.Refusal.{DataFault, NotJson, Faulty}
 
 -- a vector with another list of as many elements
 abbrev with_ports : (v : Vec Port Global) (l : List Port) → length l ≡ length v.items → Vec Port Global

@@ -20,7 +20,7 @@ use Rattle.check_scope.specs.declared.fault.CheckFault.{CheckFault}
 use Rattle.check_scope.specs.declared.fault.CheckFault.TheVariants as check_fault
 use Rattle.stream_check.specs.Programs.{program_faults, program_of}
 use Rattle.command_source.specs.Source.{HasSourceTree, HasNoTree, IsProgramOfText, IsRefusedWrittenOut}
-use Rattle.command_source.specs.declared.source.SourceCode.TheVariants.{Rule}
+use Rattle.command_answers.specs.declared.source.SourceCode.TheVariants.{Rule}
 
 pub has_tree : (text : List ℕ) (lexemes seen : List Lexeme) (file : File) → HasLexemes text lexemes → seen ≡ lexemes → IsTreeOf (symbols_of text seen) (file_of file) × IsWithinLimits (file_of file) → HasSourceTree text file
 has_tree text lexemes seen file are same found =

@@ -1,11 +1,9 @@
 -- The shape of a program, and the inputs that fit it.
-use Rattle.std.proofs.Common.{◌≡◌, ◌≤◌, ℕ, zero, suc, List, [], ◌∷◌, length, map, Some, sym, ap, subst, ◌∙◌, arith}
-use Rattle.std.specs.Prelude.{All, slice_get, option_map, Vec}
+use Rattle.std.proofs.Common.{◌≡◌, ℕ, List, length, map, Some, refl, ap, ◌∙◌}
+use Rattle.std.specs.Prelude.{slice_get, option_map, Vec}
 use Rattle.std.specs.declared.alloc.Global.{Global}
 use Rattle.std.proofs.lemmas.Option.{slice_get-map}
 use Rattle.std.proofs.lemmas.List.{length-map}
-use Rattle.tapa_base.specs.declared.kind.Kind.{Kind}
-use Rattle.tapa_base.specs.declared.kind.Kind.TheVariants as kind
 use Rattle.tapa_base.specs.Kinds.{bits_of}
 use Rattle.tapa_base.specs.declared.shape.Port.{Port}
 use Rattle.tapa_base.specs.declared.shape.Shape.{Shape}
@@ -18,7 +16,12 @@ use Rattle.run_data.specs.Answer.{bits_of_ports, IsDataOf, IsDataCause}
 use Rattle.run_data.specs.declared.data.Data.{Data}
 use Rattle.run_data.specs.declared.data.DataFault.{DataFault}
 use Rattle.run_data.specs.declared.data.DataFault.TheVariants.{J1, J2, J3, J4, OutOfMemory}
+use Rattle.run_data.specs.Data.{Misshapen, Misfit, Oversized}
+use Rattle.command_answers.specs.Meaning.{data_end}
+use Rattle.command_answers.specs.Refusal.{NotJson, Faulty}
+use Rattle.command_answers.specs.Steps.{Fails}
 use Rattle.command_source.specs.Inputs.{GivesValues, IsUnfitBy}
+use Rattle.command_source.specs.Means.{IsDataFault}
 use Rattle.tapa_syntax.specs.Shapes.{port_of, IsShapeOf}
 
 get_map : {A B : Type 0} (f : A → B) (xs : List A) (i : ℕ) (x : A) → slice_get xs i ≡ Some x → slice_get (map f xs) i ≡ Some (f x)
@@ -65,3 +68,11 @@ unfit program shape is text (J2 key) h = (shape, is, h)
 unfit program shape is text (J3 key) h = (shape, is, h)
 unfit program shape is text (J4 key) h = (shape, is, h)
 unfit program shape is text OutOfMemory h = tt
+
+-- and so of its text, as data are refused for it
+pub unfit_data : (shape : Shape) (text : List ℕ) (fault : DataFault) → IsDataCause text shape fault → Fails (IsDataFault (λ (s : Shape). s ≡ shape) text) (data_end fault)
+unfit_data shape text J1 h = (NotJson, h, refl)
+unfit_data shape text (J2 key) h = (Faulty (Misshapen key.items), (shape, refl, h), refl)
+unfit_data shape text (J3 key) h = (Faulty (Misfit key.items), (shape, refl, h), refl)
+unfit_data shape text (J4 key) h = (Faulty (Oversized key.items), (shape, refl, h), refl)
+unfit_data shape text OutOfMemory h = tt

@@ -4,12 +4,12 @@ use Rattle.serde_json.specs.Data.{Data as Json}
 use Rattle.tapa_base.specs.declared.shape.Shape.{Shape}
 use Rattle.tapa_syntax.specs.declared.program.Program.{Program}
 use Rattle.tapa_syntax.specs.Shapes.{IsShapeOf}
-use Rattle.run_data.specs.Answer.{IsFirstFault}
 use Rattle.run_data.specs.Data.{IsJson, Misshapen, Misfit, Oversized, faults, scalars_of, memories_of}
 use Rattle.run_data.specs.declared.data.DataFault.{DataFault as FaultOfData}
 use Rattle.run_data.specs.declared.data.DataFault.TheVariants.{J1, J2, J3, J4, OutOfMemory}
 use Rattle.net_core.specs.Bounded.{Values}
-use Rattle.command_source.specs.Refusal.{DataFault, NotJson, Faulty}
+use Rattle.command_answers.specs.Refusal.{DataFault, NotJson, Faulty}
+use Rattle.command_source.specs.Means.{HasFault}
 
 -- the text is JSON without a fault for the program, and gives these values
 pub record GivesValues (program : Program) (text : List ℕ) (values : Values) : Type 0 where
@@ -23,8 +23,7 @@ pub record GivesValues (program : Program) (text : List ℕ) (values : Values) :
 
 -- the text has this fault for the program, and no fault before it
 abbrev pub HasDataFault : Program → List ℕ → DataFault → Type 0
-HasDataFault program text NotJson = (file : Json) → IsJson text file → ⊥
-HasDataFault program text (Faulty fault) = (shape : Shape) × IsShapeOf program shape × IsFirstFault text shape fault
+HasDataFault program text fault = HasFault (IsShapeOf program) text fault
 
 -- why a text gives a program no values; want of memory says nothing of it
 abbrev pub IsUnfitBy : Program → List ℕ → FaultOfData → Type 0

@@ -3,7 +3,7 @@ use Rattle.std.specs.Prelude.{ℕ, List}
 use Rattle.tapa_base.specs.declared.text.Place.{Place}
 use Rattle.command_source.specs.declared.program.SourceFault.{SourceFault}
 use Rattle.command_source.specs.declared.program.SourceFault.TheVariants.{At, OutOfMemory}
-use Rattle.command_source.specs.declared.source.SourceCode.{SourceCode}
+use Rattle.command_answers.specs.declared.source.SourceCode.{SourceCode}
 use Rattle.command_source.specs.Source.{IsUnlexed, IsUnwritten, IsRefusedWrittenOut, IsRefusedSource}
 
 -- the rule that is reported is broken where it is reported, unless memory ran out

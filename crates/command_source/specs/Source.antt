@@ -22,8 +22,8 @@ use Rattle.stream_arrays.specs.Written.{written_out}
 use Rattle.check_scope.specs.Answers.{IsFirstBroken}
 use Rattle.check_scope.specs.declared.fault.Broken.{Broken}
 use Rattle.stream_check.specs.Programs.{program_faults, program_of}
-use Rattle.command_source.specs.declared.source.SourceCode.{SourceCode}
-use Rattle.command_source.specs.declared.source.SourceCode.TheVariants.{L1, L2, L3, L4, A1, A2, A3, A4, P1, P2, Rule}
+use Rattle.command_answers.specs.declared.source.SourceCode.{SourceCode}
+use Rattle.command_answers.specs.declared.source.SourceCode.TheVariants.{L1, L2, L3, L4, A1, A2, A3, A4, P1, P2, Rule}
 
 -- the lexer refuses the text at this place, by this rule
 abbrev pub IsUnlexed : List ℕ → Place → SourceCode → Type 0

@@ -1,112 +1,79 @@
-// The files that a command names.
-ghost use Rattle.std.specs.Prelude.{◌≤◌, IfOk, IfErr, length, option_map};
-ghost use Rattle.tapa_files.specs.Outside.{AsksFor};
-ghost use Rattle.tapa_files.specs.Take.{IsFileOf};
+// The files that several commands read: a source, and data.
+ghost use Rattle.std.specs.Prelude.{◌≡◌, ◌≤◌, All, IfOk, IfErr, length, map, option_map};
+ghost use Rattle.tapa_base.specs.Fits.{Fits};
 ghost use Rattle.tapa_syntax.specs.WellFormed.{IsWellFormed};
-ghost use Rattle.kahn_model.specs.Fits.{FitsInput};
-ghost use Rattle.net_core.specs.Bounded.{scalars_of, memories_of, values_of};
 ghost use Rattle.tapa_syntax.specs.OwnNames.{HasOwnNames};
-ghost use Rattle.command_source.specs.Files.{OfSource, OfData, IsUntaken, AsksForData};
-ghost use Rattle.command_source.specs.Found.{IsNotFound, IsNotGiven};
-ghost use Rattle.command_source.specs.Inputs.{GivesValues};
-ghost use Rattle.command_source.specs.Meaning.{refusal_of};
+ghost use Rattle.run_data.specs.Answer.{IsDataOf, bits_of_ports};
+ghost use Rattle.command_answers.specs.Files.{Named, Asks, data_held};
+ghost use Rattle.command_answers.specs.Meaning.{end_at};
+ghost use Rattle.command_answers.specs.Outside.{store};
+ghost use Rattle.command_answers.specs.Steps.{Fails, Took};
+ghost use Rattle.command_source.specs.Means.{IsSourceFault, IsDataFault};
 ghost use Rattle.command_source.specs.Source.{IsProgramOf};
 
-use crate::inputs::read_input;
-use crate::program::{SourceFault, read_program};
-use crate::refusal::Refusal;
-use net_core::Input;
+use crate::program::read_program;
+use command_answers::{File, Refusal, read_file};
+use run_data::{Data, read_data};
 use std::alloc::Global;
-use tapa_files::{Shelf, TakeFault, take_file};
+use tapa_base::Shape;
+use tapa_files::Shelf;
 use tapa_syntax::Program;
 
-const SOURCE_LIMIT: u64 = 262_144;
-
-/// The most bytes that a file of data or of a device may have.
-pub const DATA_LIMIT: u64 = 33_554_432;
-
-/// The data where no file is named.
-pub const NO_DATA: &str = "{}";
-
-/// Reads a whole file of at most `limit` bytes.
-pub fn read_file<'a, S: Shelf>(
-    alloc: Global,
-    file: &'a str,
-    limit: u64,
-    shelf: &mut S,
-) -> Result<Vec<u8>, Refusal<'a>>
-    requires { limit ≤ 33554432 }
-    ensures whole { IfOk result (λ text. IsFileOf (S.files shelf.old) file.now text.items) }
-    ensures within { IfOk result (λ text. length text.items ≤ limit) }
-    ensures asks { AsksFor S.files S.faults file.now shelf.old shelf.new }
-    ensures refused { IfErr result (λ refusal. IsUntaken (S.files shelf.old) (S.faults shelf.old) (S.faults shelf.new) file.now limit (refusal_of refusal)) }
-{
-    match take_file(alloc, shelf, file, limit) {
-        Ok(text) => Ok(text),
-        Err(TakeFault::ReadFault) => Err(Refusal::Read { file }),
-        Err(TakeFault::TooLong { limit }) => Err(Refusal::TooLong { file, limit }),
-        Err(TakeFault::OutOfMemory) => Err(Refusal::Memory),
-    }
-}
+// The data where no file is named.
+const NO_DATA: &str = "{}";
 
 /// The program of a source on a shelf.
-pub fn read_source<'a, S: Shelf>(
+pub fn read_source<S: Shelf>(
     alloc: Global,
-    source: &'a str,
+    source: &str,
     top: &str,
     shelf: &mut S,
-) -> Result<Program, Refusal<'a>>
-    ensures found { IfOk result (λ program. OfSource (S.files shelf.old) source.now (λ text. IsProgramOf text top.now program)) }
+) -> Result<Program, Refusal>
+    ensures took { Took (store S.Shelf shelf.old) (store S.Shelf shelf.new) File.Source (Named source.now) (IsSourceFault top.now) (λ text program. IsProgramOf text top.now program) result }
     ensures well_formed { IfOk result (λ program. IsWellFormed program) }
     ensures names { IfOk result (λ program. HasOwnNames program) }
-    ensures asks { AsksFor S.files S.faults source.now shelf.old shelf.new }
-    ensures refused { IfErr result (λ refusal. IsNotFound (S.files shelf.old) (S.faults shelf.old) (S.faults shelf.new) source.now top.now (refusal_of refusal)) }
+    ensures asks { Asks (store S.Shelf shelf.old) (store S.Shelf shelf.new) (Named source.now) }
 {
-    let text = match read_file(alloc, source, SOURCE_LIMIT, shelf) {
-        Ok(text) => text,
-        Err(refusal) => return Err(refusal),
-    };
-    match read_program(alloc, &text, top) {
-        Ok(program) => Ok(program),
-        Err(SourceFault::At { code, place }) => Err(Refusal::Source {
-            file: source,
-            place,
-            code,
-        }),
-        Err(SourceFault::OutOfMemory) => Err(Refusal::Memory),
-    }
+    let text = read_file(alloc, File::Source, source, shelf)?;
+    let program = read_program(alloc, &text, top)?;
+    Ok(program)
 }
 
-/// The input that a file of data on a shelf gives a program, and an empty object where no file is named.
-pub fn read_values<'a, S: Shelf>(
+// The data that a text gives for a shape.
+fn given_by(alloc: Global, text: &[u8], shape: &Shape) -> Result<Data, Refusal>
+    requires scalars { All (λ port. port.bits ≤ 64) shape.now.scalars.items }
+    requires memories { All (λ port. port.bits ≤ 64) shape.now.memories.items }
+    ensures gives { IfOk result (λ given. IsDataOf text.now shape.now given) }
+    ensures fits { IfOk result (λ given. Fits (bits_of_ports shape.now.scalars.items) (bits_of_ports shape.now.memories.items) given.scalars.items
+        (map (λ cells. cells.items) given.memories.items)) }
+    ensures waits { IfOk result (λ given. length given.waits.items ≡ length shape.now.memories.items) }
+    ensures refused { IfErr result (λ refusal. Fails (IsDataFault (λ s. s ≡ shape.now) text.now) (end_at refusal)) }
+{
+    let given = read_data(alloc, text, shape)?;
+    Ok(given)
+}
+
+/// The data that a file on a shelf gives for a shape, and an empty object where no file is named.
+pub fn read_given<S: Shelf>(
     alloc: Global,
-    program: &Program,
-    named: Option<&'a str>,
+    named: Option<&str>,
+    shape: &Shape,
     shelf: &mut S,
-) -> Result<Input, Refusal<'a>>
-    ensures gives { IfOk result (λ input. OfData (S.files shelf.old) (option_map (λ file. file.now) named.entry) (λ bytes. GivesValues program.now bytes (values_of input))) }
-    ensures fits { IfOk result (λ input. FitsInput program.now (scalars_of input) (memories_of input)) }
-    ensures asks { AsksForData S.files S.faults (option_map (λ file. file.now) named.entry) shelf.old shelf.new }
-    ensures refused { IfErr result (λ refusal. IsNotGiven (S.files shelf.old) (S.faults shelf.old) (S.faults shelf.new) program.now
-        (option_map (λ file. file.now) named.entry) (refusal_of refusal)) }
+) -> Result<Data, Refusal>
+    requires scalars { All (λ port. port.bits ≤ 64) shape.now.scalars.items }
+    requires memories { All (λ port. port.bits ≤ 64) shape.now.memories.items }
+    ensures took { Took (store S.Shelf shelf.old) (store S.Shelf shelf.new) File.Data (data_held (option_map (λ file. file.now) named.entry)) (IsDataFault (λ s. s ≡ shape.now))
+        (λ bytes given. IsDataOf bytes shape.now given) result }
+    ensures fits { IfOk result (λ given. Fits (bits_of_ports shape.now.scalars.items) (bits_of_ports shape.now.memories.items) given.scalars.items
+        (map (λ cells. cells.items) given.memories.items)) }
+    ensures waits { IfOk result (λ given. length given.waits.items ≡ length shape.now.memories.items) }
+    ensures asks { Asks (store S.Shelf shelf.old) (store S.Shelf shelf.new) (data_held (option_map (λ file. file.now) named.entry)) }
 {
     match named {
-        None => match read_input(alloc, program, NO_DATA.as_bytes()) {
-            Ok(input) => Ok(input),
-            Err(fault) => Err(Refusal::Data {
-                file: NO_DATA,
-                fault,
-            }),
-        },
+        None => given_by(alloc, NO_DATA.as_bytes(), shape),
         Some(file) => {
-            let text = match read_file(alloc, file, DATA_LIMIT, shelf) {
-                Ok(text) => text,
-                Err(refusal) => return Err(refusal),
-            };
-            match read_input(alloc, program, &text) {
-                Ok(input) => Ok(input),
-                Err(fault) => Err(Refusal::Data { file, fault }),
-            }
+            let text = read_file(alloc, File::Data, file, shelf)?;
+            given_by(alloc, &text, shape)
         }
     }
 }

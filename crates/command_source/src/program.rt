@@ -3,11 +3,11 @@ ghost use Rattle.std.specs.Prelude.{◌≡◌, ◌<◌, ◌-◌, ◌^◌, ℕ, L
 ghost use Rattle.tapa_syntax.specs.Lexemes.{HasLexemes};
 ghost use Rattle.tapa_syntax.specs.WellFormed.{IsWellFormed};
 ghost use Rattle.command_source.specs.Refused.{IsLexicalCause, IsUnwrittenCause, IsTextCause, IsSourceCause};
-ghost use Rattle.command_source.specs.Codes.{lex_code, array_code, parse_code};
+ghost use Rattle.command_source.specs.Codes.{lex_code, array_code, parse_code, source_refusal};
 ghost use Rattle.command_source.specs.Source.{HasSourceTree, IsWrittenOut, IsProgramOfText, IsProgramOf};
 
-use crate::source::SourceCode;
 use check_scope::CheckFault;
+use command_answers::{Refusal, SourceCode};
 use std::alloc::Global;
 use stream_arrays::{ArrayCode, ArrayRefusal, write_out};
 use stream_check::check;
@@ -21,6 +21,17 @@ use tapa_syntax::{File, Lexeme, Program};
 pub enum SourceFault {
     At { code: SourceCode, place: Place },
     OutOfMemory,
+}
+
+impl From<SourceFault> for Refusal {
+    ghost from_gives = { λ fault refusal. refusal ≡ source_refusal fault };
+
+    fn from(fault: SourceFault) -> Self {
+        match fault {
+            SourceFault::At { code, place } => Refusal::Source { place, code },
+            SourceFault::OutOfMemory => Refusal::Memory,
+        }
+    }
 }
 
 fn of_lexer(code: LexCode) -> SourceCode
@@ -120,10 +131,7 @@ fn read_text(
     ensures well_formed { IfOk result (λ program. IsWellFormed program) }
     ensures refused { IfErr result (IsTextCause text.now top.now) }
 {
-    let file = match read_tree(alloc, lexemes, text) {
-        Ok(file) => file,
-        Err(fault) => return Err(fault),
-    };
+    let file = read_tree(alloc, lexemes, text)?;
     match check(alloc, &file, top) {
         Ok(program) => Ok(program),
         Err(CheckFault::At(broken)) => {
@@ -147,10 +155,7 @@ fn read_written(alloc: Global, text: &[u8], top: &str) -> Result<Program, Source
     ensures well_formed { IfOk result (λ program. IsWellFormed program) }
     ensures refused { IfErr result (IsTextCause text.now top.now) }
 {
-    let lexemes = match lexemes_of(alloc, text) {
-        Ok(lexemes) => lexemes,
-        Err(fault) => return Err(fault),
-    };
+    let lexemes = lexemes_of(alloc, text)?;
     read_text(alloc, &lexemes, text, top)
 }
 
@@ -163,14 +168,8 @@ pub fn read_program(alloc: Global, text: &[u8], top: &str) -> Result<Program, So
     ensures well_formed { IfOk result (λ program. IsWellFormed program) }
     ensures refused { IfErr result (IsSourceCause text.now top.now) }
 {
-    let lexemes = match lexemes_of(alloc, text) {
-        Ok(lexemes) => lexemes,
-        Err(fault) => return Err(fault),
-    };
-    let written = match written_text(alloc, &lexemes, text) {
-        Ok(written) => written,
-        Err(fault) => return Err(fault),
-    };
+    let lexemes = lexemes_of(alloc, text)?;
+    let written = written_text(alloc, &lexemes, text)?;
     if written.as_slice() == text {
         return read_text(alloc, &lexemes, text, top);
     }

@@ -179,7 +179,7 @@ module _ (B : RattleType) (g : Ghosts B.Denot) (s : IsSend B) where
   seat_fields_send = search (slot_send, table_seat.the_send, sendable) depth 30
 
   pub worker_send : IsSend (Worker.the_row B g)
-  worker_send = recorded_send (Worker.the_field B g).row _ _ (Worker.the_type B g).to_one (struct_send (shape (Worker.the_type B g)) (seat_fields_send, (search sendable, tt)))
+  worker_send = recorded_send (Worker.the_field B g).row _ _ (Worker.the_type B g).to_one (struct_send (shape (Worker.the_type B g)) (seat_fields_send, (search sendable, (search sendable, tt))))
 
   pub board_sync : IsSync (Board.the_row B g)
-  board_sync = recorded_sync (Board.the_field B g).row _ _ (Board.the_type B g).to_one (struct_sync (shape (Board.the_type B g)) (search (whole.the_field_sync, slot_send, sendable, crosses) depth 30, (search (sendable, crosses) depth 30, tt)))
+  board_sync = recorded_sync (Board.the_field B g).row _ _ (Board.the_type B g).to_one (struct_sync (shape (Board.the_type B g)) (search (whole.the_field_sync, slot_send, sendable, crosses) depth 30, (search (sendable, crosses) depth 30, (search sendable, tt))))

@@ -97,7 +97,7 @@ module _ (c1 : CaseState) (valid : IsValidCase c1) (b : Lot) (c2 : CaseState) (h
 -- ---- what the turn leaves
 
 module _ (o : CaseState) (v : View) (c : CaseState) (of : v.origin ≡ Some o) (none : v.batch ≡ None) (finds : Finds v c) where
-  turned_gives : (c' : CaseState) → HasTurned c c' → MayGive (taken v c) c'
+  pub turned_gives : (c' : CaseState) → HasTurned c c' → MayGive (taken v c) c'
   turned_gives c' t = record {
     of_board = λ a e. same_run_trans a c c' (finds.of_board a e).same t.run;
     ahead = t.ahead;
@@ -105,7 +105,7 @@ module _ (o : CaseState) (v : View) (c : CaseState) (of : v.origin ≡ Some o) (
     outs = subst (λ (p : Option ℕ). MayChange p c.out c'.out) (sym none) (inl t.out);
   }
 
-  turned_idle : (c' : CaseState) → HasTurned c c' → HasNothing (given (taken v c) c')
+  pub turned_idle : (c' : CaseState) → HasTurned c c' → HasNothing (given (taken v c) c')
   turned_idle c' t = (refl, subst (λ (p : Option ℕ). batch_after p c.out c'.out ≡ None) (sym none) (first_none 0 c.out c'.out t.out))
 
   module _ (c1 : CaseState) (t : HasTurned c c1) (valid : IsValidCase c1) where

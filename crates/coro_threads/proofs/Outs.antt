@@ -1,8 +1,8 @@
 -- How batches go out of a case and come back.
-use Rattle.std.proofs.Common.{◌≡◌, ◌⊎◌, ℕ, zero, suc, ◌+◌, ◌-◌, ◌*◌, ◌<◌, ◌≤◌, Bool, true, false, List, [], ◌∷◌, ◌++◌, length, Some, inl, inr, refl, sym, ap, ◌∙◌, subst, ⊎_elim, arith, length-set}
+use Rattle.std.proofs.Common.{◌≡◌, ◌⊎◌, ℕ, zero, suc, ◌+◌, ◌-◌, ◌*◌, ◌<◌, ◌≤◌, true, false, List, [], ◌∷◌, ◌++◌, length, Some, inl, inr, refl, sym, ap, ◌∙◌, subst, ⊎_elim, arith, length-set}
 use Rattle.std.specs.Prelude.{slice_get, slice_index, slice_index_or}
 use Rattle.std.proofs.Math.Path.{fun_ext}
-use Rattle.std.proofs.lemmas.Bool.{cases_eq, cases_lt}
+use Rattle.std.proofs.lemmas.Bool.{cases_eq, cases_lt, cases_Bool}
 use Rattle.std.proofs.lemmas.List.{get_or-set_same, get_or-set_other, get_or_past}
 use Rattle.std.proofs.lemmas.Option.{slice_get_within}
 use Rattle.kahn_model.specs.Counts.{total}
@@ -48,10 +48,6 @@ fewer_by room room' ticks ticks' made e f some few = omega arith
 
 -- ---- who is out
 
-either : (b : Bool) → (b ≡ true) ⊎ (b ≡ false)
-either true = inl refl
-either false = inr refl
-
 out_inside : (c : CaseState) (i : ℕ) → IsOut c i → i < length c.out
 out_inside c i e =
     ⊎_elim (λ (l : i < length c.out). l)
@@ -66,7 +62,7 @@ none_out c home = record { each = λ n b e. absurd (cc); apart = λ n m a b e f 
 
 pub all_home : (c : CaseState) → AreOut c [] → AreAllHome c
 all_home c out i =
-    ⊎_elim (λ (o : IsOut c i). let w = out.whole i o in absurd (let e = w.2 in cc)) (λ (h : IsAtHome c i). h) (either (slice_index_or c.out i false))
+    ⊎_elim (λ (o : IsOut c i). let w = out.whole i o in absurd (let e = w.2 in cc)) (λ (h : IsAtHome c i). h) (cases_Bool (slice_index_or c.out i false))
 
 -- a case that only looked has the same batches out
 pub same_out : (c c' : CaseState) (bs : List Lot) → IsSameCase c c' → AreOut c bs → AreOut c' bs

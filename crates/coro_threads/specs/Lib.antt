@@ -1,4 +1,5 @@
 pub mod Out
 pub mod Ends
+pub mod Ticks
 pub mod Seats
 pub mod Turn

@@ -4,6 +4,7 @@ use Rattle.coro_threads.specs.Ends.{IsEndAt}
 use Rattle.atomic_table.specs.Seated.{TableId}
 use Rattle.atomic_table.specs.declared.shared.Seat.{Seat}
 use Rattle.coro_threads.specs.Turn.{HasNothing, HasTurned}
+use Rattle.coro_threads.specs.Ticks.{HasSeenMany}
 use Rattle.net_case.specs.State.{IsValidCase}
 use Rattle.net_case.specs.Claims.{Claims}
 use Rattle.coro_threads.specs.declared.free.Turned.{Turned}
@@ -40,9 +41,12 @@ pub record HasBatch (o : CaseState) (v : View) (batch : Lot) : Type 0 where
 abbrev pub SeesTheEnd : CaseState → View → Type 0
 SeesTheEnd o v = HasNothing v × IsEndAt o v.seen
 
--- what a worker is left with
-abbrev pub Finished : CaseState → View → Bool → Type 0
-Finished o v short = HasNothing v × ((short ≡ true) ⊎ IsEndAt o v.seen)
+-- what a worker is left with: neither the turn nor a batch; it found no memory, or batches stay small, or it has seen the end; and if
+-- they stay small, it has seen that many ticks were made
+pub record Finished (o : CaseState) (v : View) (short small : Bool) : Type 0 where
+  pub idle : HasNothing v
+  pub seen : small ≡ true → HasSeenMany o v.seen
+  pub over : (short ≡ true) ⊎ ((small ≡ true) ⊎ IsEndAt o v.seen)
 
 -- what a seat has after a claim
 abbrev pub AfterClaim : {B : Type 0} → CaseState → View → Claimed B → Type 0

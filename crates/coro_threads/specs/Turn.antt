@@ -93,7 +93,7 @@ first_new k (x ∷ xs) (false ∷ ys) = first_new (suc k) xs ys
 first_new k (true ∷ xs) (true ∷ ys) = first_new (suc k) xs ys
 first_new k (false ∷ xs) (true ∷ ys) = Some k
 
--- b, if it is so
+-- Some b if the condition holds, and None otherwise
 abbrev pub some_if : Bool → ℕ → Option ℕ
 some_if true b = Some b
 some_if false b = None

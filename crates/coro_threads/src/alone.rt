@@ -12,7 +12,7 @@ use net_core::{Body, Net, Outcome, settle, settle_on};
 use std::alloc::Global;
 use tapa_base::OutOfMemory;
 
-// Batch after batch, until nothing may step.
+// Runs batch after batch, until no instance may step.
 fn drive_alone<B: Body + Drop>(case: &mut Case<B>) -> Result<Outcome, OutOfMemory>
     requires { AreAllHome case.old }
     ensures run { IsSameRun case.old case.new }

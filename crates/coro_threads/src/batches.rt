@@ -7,7 +7,7 @@ ghost use Rattle.coro_threads.specs.Out.{IsSameRun, AreOut, ahead, HasEndedAs};
 use net_case::{Batch, Case, Claimed};
 use net_core::{Body, Outcome};
 
-// All others that may step go out after the first one.
+// Claims a batch of each other instance that may step, after the first one.
 fn claim_others<B: Body + Drop>(case: &mut Case<B>, batches: &mut Vec<Batch<B>>)
     requires out { AreOut case.old batches.old.items }
     requires some { 0 < length batches.old.items }
@@ -28,8 +28,8 @@ fn claim_others<B: Body + Drop>(case: &mut Case<B>, batches: &mut Vec<Batch<B>>)
     }
 }
 
-/// All instances that may step go out; or, where none may and none is out, how the case ends. There is room for a batch of
-/// each instance.
+/// Claims a batch of each instance that may step. Returns how the case ends if no instance may step and none is out. There is room
+/// for a batch of each instance.
 pub(crate) fn claim_all<B: Body + Drop>(
     case: &mut Case<B>,
     batches: &mut Vec<Batch<B>>,
@@ -53,7 +53,7 @@ pub(crate) fn claim_all<B: Body + Drop>(
     None
 }
 
-/// All batches come back, the last one first.
+/// Commits all batches, the last one first.
 pub(crate) fn commit_all<B: Body + Drop>(case: &mut Case<B>, batches: &mut Vec<Batch<B>>)
     requires { AreOut case.old batches.old.items }
     ensures run { IsSameRun case.old case.new }

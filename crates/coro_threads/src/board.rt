@@ -76,8 +76,8 @@ fn give_case<B: Body + Drop>(
 }
 
 impl<B: Body + Drop> Board<B> {
-    /// Waits for the turn, and gives the case. Where the seat has a batch, its instance is out in that case, at the count that
-    /// the seat saw last, so its commit is not stale.
+    /// Waits for the turn, and returns the case. If the seat has a batch, the batch's instance is out in that case, at the count
+    /// that the seat saw last, so that its commit is not stale.
     pub fn take<R: Wait>(&self, rt: &R, seat: &mut BoardSeat<B>) -> Case<B>
         requires { IsSeatOf self.now seat.old × ((view seat.old).turn ≡ false) }
         ensures same { IsSeatOf self.now seat.new }
@@ -92,7 +92,7 @@ impl<B: Body + Drop> Board<B> {
         )
     }
 
-    /// Gives the case as `take` does where the turn is free. Else nothing changes.
+    /// Returns the case as `take` does, if the turn is free. Otherwise nothing changes.
     pub fn try_take(&self, seat: &mut BoardSeat<B>) -> Option<Case<B>>
         requires { IsSeatOf self.now seat.old × ((view seat.old).turn ≡ false) }
         ensures same { IsSeatOf self.now seat.new }

@@ -1,4 +1,4 @@
-// Who runs a network.
+// Crews, and how they run a network.
 ghost use Rattle.std.specs.Prelude.{◌≡◌, ◌<◌, ◌≤◌, All, IfOk, length};
 ghost use Rattle.kahn_model.specs.Counts.{IsReachable};
 ghost use Rattle.net_core.specs.State.{network, count, IsNew};
@@ -19,8 +19,8 @@ use std::sync::Wait;
 use std::thread;
 use std::thread::Threads;
 
-/// Who runs a network: at most `workers` workers, 1 to 64, on a runtime that can start threads. Each passes the gate before it makes
-/// ticks; one worker alone, which waits for no other, passes none.
+/// A crew that runs a network: at most `workers` workers, 1 to 64, on a runtime that can start threads. Each worker passes the gate
+/// before it makes ticks. One worker alone, which waits for no other, passes none.
 #[derive(Drop)]
 pub struct Crew<'a, R: Threads + Wait + Sync, G: Gate> {
     pub rt: &'a R,
@@ -28,7 +28,8 @@ pub struct Crew<'a, R: Threads + Wait + Sync, G: Gate> {
     pub workers: u32,
 }
 
-// The number of workers that are of use: where the gate lets everyone through at once, at most those of instances and processors.
+// Returns the number of workers that are of use. If the gate lets everyone through at once, there are no more of them than instances,
+// and than processors.
 fn of_use<R: Threads + Wait + Sync, G: Gate>(crew: &Crew<'_, R, G>, instances: usize) -> u32
     requires { (0 < crew.now.workers) × (crew.now.workers ≤ 64) }
     ensures some { (0 < result) × (result ≤ 64) }
@@ -45,18 +46,18 @@ fn of_use<R: Threads + Wait + Sync, G: Gate>(crew: &Crew<'_, R, G>, instances: u
     crew.workers.min(most as u32)
 }
 
-// The case, once all workers have returned.
+// Closes a board after all its workers have returned.
 fn closed<B: Body + Drop>(board: Board<B>, workers: Vec<Worker<B>>) -> Case<B>
     requires count { length workers.items ≡ workers_of board }
-    requires workers { All (λ w. IsSeatOf board w.seat × Finished (origin board) (view w.seat) w.short) workers.items }
+    requires workers { All (λ w. IsSeatOf board w.seat × Finished (origin board) (view w.seat) w.short w.small) workers.items }
     ensures run { IsSameRun (origin board) result }
     ensures home { AreAllHome result }
 {
     board.close(workers)
 }
 
-// `workers` workers share a case on a board, until nothing is left to do, a worker finds no memory for a batch, or batches are small.
-// Without memory for a board the case stays as it is.
+// Lets `workers` workers share a case on a board, until nothing is left to do, a worker finds no memory for a batch, or batches stay
+// small. Without memory for a board the case stays as it is.
 fn share<R: Threads + Wait + Sync, B: Body + Send + Drop, G: Gate>(
     rt: &R,
     alloc: Global,
@@ -78,7 +79,7 @@ fn share<R: Threads + Wait + Sync, B: Body + Send + Drop, G: Gate>(
     }
 }
 
-// The workers share a case as long as batches are large, and one thread drives its net while they are small, by turns.
+// Drives a case by turns: the workers share it as long as batches are large, and one thread drives its net while they are small.
 fn by_turns<R: Threads + Wait + Sync, B: Body + Send + Drop, G: Gate>(
     rt: &R,
     alloc: Global,
@@ -111,8 +112,8 @@ fn by_turns<R: Threads + Wait + Sync, B: Body + Send + Drop, G: Gate>(
     unreachable!()
 }
 
-/// Drives a new net to its end, by the workers of a crew: one alone as `settle` does. More share a case of it while batches are large;
-/// while they are small, one thread drives it.
+/// Drives a new net to its end, by the workers of a crew. One worker alone drives it as `settle` does. More workers share a case of
+/// it while batches are large; while they are small, one thread drives it.
 pub fn run_by<R: Threads + Wait + Sync, B: Body + Send + Drop, G: Gate>(
     crew: &Crew<'_, R, G>,
     alloc: Global,

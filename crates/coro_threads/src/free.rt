@@ -1,9 +1,10 @@
 // Workers that go on by themselves: each claims a batch in its turn, runs it outside, and commits it in a later turn.
 ghost use Rattle.std.specs.Prelude.{◌≡◌, ◌<◌, ◌≤◌, true, false, length, All};
+ghost use Rattle.coro_threads.specs.Ticks.{HasSeenMany};
 ghost use Rattle.coro_threads.specs.Turn.{HasNothing};
 ghost use Rattle.coro_threads.specs.Seats.{IsSeatOf, view, origin, Turns, AfterTurn, HasBatch, Finished};
 
-use crate::seats::{Board, BoardSeat, Worker};
+use crate::seats::{Board, BoardSeat, Worker, sum_of};
 use crate::signals::Signals;
 use net_case::{Batch, Case, Claimed, Gate};
 use net_core::Body;
@@ -17,20 +18,23 @@ const SMALL: u64 = 256;
 // The greatest number of small batches that are run within one turn.
 const MANY: u32 = 65_536;
 
-/// What a turn leaves a worker with that has no batch.
+// The least number of ticks that were made since the board was made if workers leave because batches stay small.
+const MANY_TICKS: u64 = 4_096;
+
+/// The result of a turn of a worker that has no batch.
 pub enum Turned<B: Body> {
     /// The result of its last claim.
     Found(Claimed<B>),
     /// Nothing: another worker has the turn, or waits for it.
     Left,
-    /// Nothing: it was long enough.
+    /// Nothing: it was long enough, or workers are to leave.
     Again,
-    /// Nothing: there was no memory for a batch, or batches are small, so that one thread does better.
+    /// Nothing: there was no memory for a batch.
     Short,
 }
 
 // Claims batches, and as long as they are small, the gate is open and no other worker waits for the turn, runs and commits each at
-// once. Where batches have been small for some time and none is out, all workers are to leave.
+// once. If batches have been small for some time and none is out, it signals that all workers are to leave.
 fn turn<B: Body + Drop, G: Gate>(case: &mut Case<B>, signals: &Signals, gate: &G) -> Turned<B>
     ensures { Turns case.old result case.new }
 {
@@ -53,7 +57,7 @@ fn turn<B: Body + Drop, G: Gate>(case: &mut Case<B>, signals: &Signals, gate: &G
         }
         if case.is_slow() {
             signals.leave();
-            return Turned::Short;
+            return Turned::Again;
         }
         if signals.is_awaited() {
             return Turned::Left;
@@ -62,7 +66,7 @@ fn turn<B: Body + Drop, G: Gate>(case: &mut Case<B>, signals: &Signals, gate: &G
     Turned::Again
 }
 
-// One turn of a seat without a batch, if the turn is free.
+// Takes a turn for a seat without a batch, if the turn is free.
 fn take_turn<B: Body + Drop, G: Gate>(
     board: &Board<B>,
     seat: &mut BoardSeat<B>,
@@ -80,7 +84,7 @@ fn take_turn<B: Body + Drop, G: Gate>(
     turned
 }
 
-// The turn in which a seat's batch is committed.
+// Waits for the turn, and commits the seat's batch in it.
 fn commit_one<R: Wait, B: Body + Drop>(
     rt: &R,
     board: &Board<B>,
@@ -101,7 +105,8 @@ fn commit_one<R: Wait, B: Body + Drop>(
     board.give(seat, case);
 }
 
-// A batch makes its ticks outside of the turn, once its instance has passed the gate, and is committed. Whether there was memory for it.
+// Runs a batch outside of the turn, after its instance has passed the gate, and commits the batch. Returns whether there was memory
+// for its ticks.
 fn run_outside<R: Wait, B: Body + Drop, G: Gate>(
     rt: &R,
     board: &Board<B>,
@@ -121,33 +126,56 @@ fn run_outside<R: Wait, B: Body + Drop, G: Gate>(
     ran.is_ok()
 }
 
-// A worker that gives up is short, and the others look again for what it leaves.
+// Checks whether many ticks were made since the board was made, in a turn that the worker waits for.
+fn has_seen_many<R: Wait, B: Body + Drop>(rt: &R, board: &Board<B>, seat: &mut BoardSeat<B>) -> bool
+    requires { IsSeatOf board.now seat.old × HasNothing (view seat.old) }
+    ensures same { IsSeatOf board.now seat.new }
+    ensures idle { HasNothing (view seat.new) }
+    ensures many { result ≡ true → HasSeenMany (origin board.now) (view seat.new).seen }
+{
+    let case = board.take(rt, seat);
+    let made = sum_of(case.counts()).saturating_sub(board.begun);
+    board.give(seat, case);
+    made >= MANY_TICKS
+}
+
+// Marks a worker that found no memory for a batch, and lets the others look for what it leaves.
 fn give_up<B: Body>(worker: &mut Worker<B>, signals: &Signals)
     ensures seat { worker.new.seat ≡ worker.old.seat }
     ensures short { worker.new.short ≡ true }
+    ensures small { worker.new.small ≡ worker.old.small }
 {
     worker.short = true;
     signals.tell_all();
 }
 
-/// One worker, until a claim finds the end, or there is no memory for a batch. It runs a small batch within its turn where the gate
-/// is open; before it resumes another one, outside, it passes the gate. Without memory it commits the batch as it is, is short, and
-/// returns; the others go on. Where batches are small all workers are short, and return.
+// Marks a worker that leaves because batches stay small, and wakes the others.
+fn leave<B: Body>(worker: &mut Worker<B>, signals: &Signals)
+    ensures seat { worker.new.seat ≡ worker.old.seat }
+    ensures small { worker.new.small ≡ true }
+{
+    worker.small = true;
+    signals.tell_all();
+}
+
+/// Runs one worker until a claim finds the end, memory runs out for a batch, or batches stay small. The worker runs a small batch
+/// within its turn if the gate is open; before it resumes another one, outside, it passes the gate. Without memory it commits the
+/// batch as it is, is `short`, and returns; the others go on. If batches stay small, all workers are `small`, and return.
 pub fn work<R: Wait, B: Body + Drop, G: Gate>(
     rt: &R,
     board: &Board<B>,
     worker: &mut Worker<B>,
     gate: &G,
 )
-    requires { IsSeatOf board.now worker.old.seat × HasNothing (view worker.old.seat) × (worker.old.short ≡ false) }
+    requires { IsSeatOf board.now worker.old.seat × HasNothing (view worker.old.seat) × (worker.old.short ≡ false) × (worker.old.small ≡ false) }
     ensures same { IsSeatOf board.now worker.new.seat }
-    ensures done { Finished (origin board.now) (view worker.new.seat) worker.new.short }
+    ensures done { Finished (origin board.now) (view worker.new.seat) worker.new.short worker.new.small }
 {
     let signals = &board.signals;
     for _ in rt.forever() {
         let news = signals.news();
-        if signals.are_to_leave() {
-            return give_up(worker, signals);
+        if signals.are_to_leave() && has_seen_many(rt, board, &mut worker.seat) {
+            return leave(worker, signals);
         }
         match take_turn(board, &mut worker.seat, gate) {
             Turned::Found(Claimed::Over(_)) => {
@@ -168,8 +196,8 @@ pub fn work<R: Wait, B: Body + Drop, G: Gate>(
     unreachable!()
 }
 
-/// All workers of a crew, each in a thread where one can be made, else one after another. After it each worker is short, or
-/// its seat has seen a count at which nothing is left to do.
+/// Runs all workers of a crew, each in a thread if one can be made, and otherwise one after another. Afterwards each worker is
+/// `short`, is `small`, or its seat has seen a count at which nothing is left to do.
 pub fn run_free<R: Threads + Wait + Sync, B: Body + Drop + Send, G: Gate>(
     rt: &R,
     board: &Board<B>,
@@ -177,14 +205,14 @@ pub fn run_free<R: Threads + Wait + Sync, B: Body + Drop + Send, G: Gate>(
     gate: &G,
 )
     requires workers { (0 < length crew.old) × (length crew.old ≤ 64) }
-    requires crew { All (λ w. IsSeatOf board.now w.seat × HasNothing (view w.seat) × (w.short ≡ false)) crew.old }
+    requires crew { All (λ w. IsSeatOf board.now w.seat × HasNothing (view w.seat) × (w.short ≡ false) × (w.small ≡ false)) crew.old }
     ensures len { length crew.new ≡ length crew.old }
-    ensures finished { All (λ w. IsSeatOf board.now w.seat × Finished (origin board.now) (view w.seat) w.short) crew.new }
+    ensures finished { All (λ w. IsSeatOf board.now w.seat × Finished (origin board.now) (view w.seat) w.short w.small) crew.new }
 {
     let workers = crew.len();
     let one = |_: usize, worker: &mut Worker<B>|
-        requires { IsSeatOf board.now worker.now.seat × HasNothing (view worker.now.seat) × (worker.now.short ≡ false) }
-        ensures { IsSeatOf board.entry.now worker.exit.now.seat × Finished (origin board.entry.now) (view worker.exit.now.seat) worker.exit.now.short }
+        requires { IsSeatOf board.now worker.now.seat × HasNothing (view worker.now.seat) × (worker.now.short ≡ false) × (worker.now.small ≡ false) }
+        ensures { IsSeatOf board.entry.now worker.exit.now.seat × Finished (origin board.entry.now) (view worker.exit.now.seat) worker.exit.now.short worker.exit.now.small }
     { work(rt, board, worker, gate) };
     thread::for_each_mut(rt, crew, workers, &one);
 }

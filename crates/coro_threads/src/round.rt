@@ -25,7 +25,7 @@ fn prepare_all<B: Body>(batches: &mut Vec<Batch<B>>) -> Result<(), OutOfMemory>
     Ok(())
 }
 
-// Whether batches have made few ticks in all. No contract depends on it.
+// Checks whether batches have made few ticks in all. No contract depends on the answer.
 fn made_few<B: Body>(batches: &Vec<Batch<B>>) -> bool {
     let mut left = FEW_TICKS;
     for k in 0..batches.len() {
@@ -34,7 +34,7 @@ fn made_few<B: Body>(batches: &Vec<Batch<B>>) -> bool {
     left > 0
 }
 
-// The batches that are out make their ticks, in at most `threads` threads, and come back. Returns whether they have made few.
+// Runs the batches that are out, in at most `threads` threads, and commits them. Returns whether they made few ticks.
 fn run_ready<R: Threads + Sync, B: Body + Send + Drop, G: Gate>(
     rt: &R,
     case: &mut Case<B>,
@@ -59,8 +59,8 @@ fn run_ready<R: Threads + Sync, B: Body + Send + Drop, G: Gate>(
     few
 }
 
-/// The batches that are out make their ticks, in at most `threads` threads, and come back. Returns whether they have made few.
-/// Without memory for what they may write they come back as they are.
+/// Runs the batches that are out, in at most `threads` threads, and commits them. Returns whether they made few ticks. Without
+/// memory for what they may write, they are committed as they are.
 pub(crate) fn round<R: Threads + Sync, B: Body + Send + Drop, G: Gate>(
     rt: &R,
     case: &mut Case<B>,

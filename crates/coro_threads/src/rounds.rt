@@ -15,7 +15,7 @@ use std::alloc::Global;
 use std::thread::Threads;
 use tapa_base::OutOfMemory;
 
-// Round after round, until nothing may step. There is room for a batch of each instance.
+// Runs round after round, until no instance may step. There is room for a batch of each instance.
 fn drive<R: Threads + Sync, B: Body + Send + Drop, G: Gate>(
     rt: &R,
     case: &mut Case<B>,
@@ -42,7 +42,7 @@ fn drive<R: Threads + Sync, B: Body + Send + Drop, G: Gate>(
     }
 }
 
-// The rounds of a case, with room for a batch of each instance.
+// Drives a case in rounds, with room for a batch of each instance.
 fn drive_in_rounds<R: Threads + Sync, B: Body + Send + Drop, G: Gate>(
     rt: &R,
     alloc: Global,

@@ -1,25 +1,25 @@
-// How workers sleep, and how they are woken.
+// Counters by which workers sleep and are woken.
 use std::sync::Wait;
 use std::sync::atomic::{AtomicU64, Ordering};
 
-/// Counters by which a worker sleeps only while there is nothing for it to do, and is woken only where one sleeps. No contract
-/// depends on them: each sleep may end for no reason.
+/// Counters that keep a worker from sleeping while there is work, and from waking others if none sleeps. No contract depends on
+/// them: a sleep may end at any time.
 #[derive(Drop)]
 pub struct Signals {
-    /// How many workers sleep until the turn is free, or are about to.
+    /// The number of workers that sleep until the turn is free, or are about to.
     pub sleepers: AtomicU64,
-    /// How many workers wait for the turn with a batch that has made its ticks.
+    /// The number of workers that wait for the turn with a batch that has made its ticks.
     pub comers: AtomicU64,
-    /// It grows where another worker may find something to do, and at the end.
+    /// The number of times that there was news: another worker may find something to do, or a worker has found the end.
     pub news: AtomicU64,
-    /// How many workers sleep until there is news, or are about to.
+    /// The number of workers that sleep until there is news, or are about to.
     pub waiters: AtomicU64,
     /// 1 once the workers are to leave the network to one thread.
     pub left: AtomicU64,
 }
 
 impl Signals {
-    /// Nobody sleeps.
+    /// Returns counters at which nobody sleeps.
     pub fn new() -> Signals {
         Signals {
             sleepers: AtomicU64::new(0),
@@ -30,44 +30,44 @@ impl Signals {
         }
     }
 
-    /// One more worker waits for the turn with a batch.
+    /// Counts one more worker that waits for the turn with a batch.
     pub fn comes(&self) {
         let _ = self.comers.fetch_add(1, Ordering::SeqCst);
     }
 
-    /// It has the turn.
+    /// Counts one less, as a worker with a batch has the turn.
     pub fn has_come(&self) {
         let _ = self.comers.fetch_sub(1, Ordering::SeqCst);
     }
 
-    /// Whether some worker waits for the turn with a batch.
+    /// Checks whether some worker waits for the turn with a batch.
     pub fn is_awaited(&self) -> bool {
         self.comers.load(Ordering::SeqCst) > 0
     }
 
-    /// All workers are to leave.
+    /// Signals that all workers are to leave.
     pub fn leave(&self) {
         self.left.store(1, Ordering::SeqCst);
     }
 
-    /// Whether they are.
+    /// Checks whether the workers are to leave.
     pub fn are_to_leave(&self) -> bool {
         self.left.load(Ordering::SeqCst) == 1
     }
 
-    /// How much news there was so far.
+    /// Returns the number of times that there was news.
     pub fn news(&self) -> u64 {
         self.news.load(Ordering::SeqCst)
     }
 
-    /// Sleeps while there was so much news and no more.
+    /// Sleeps as long as there was news `news` times.
     pub fn wait<R: Wait>(&self, rt: &R, news: u64) {
         let _ = self.waiters.fetch_add(1, Ordering::SeqCst);
         self.news.park(rt, (news % 4_294_967_296) as u32);
         let _ = self.waiters.fetch_sub(1, Ordering::SeqCst);
     }
 
-    /// There is news, for one worker.
+    /// Counts news, and wakes one worker that sleeps.
     pub fn tell_one(&self) {
         let _ = self.news.fetch_add(1, Ordering::SeqCst);
         if self.waiters.load(Ordering::SeqCst) > 0 {
@@ -75,7 +75,7 @@ impl Signals {
         }
     }
 
-    /// There is news, for all workers.
+    /// Counts news, and wakes all workers that sleep.
     pub fn tell_all(&self) {
         let _ = self.news.fetch_add(1, Ordering::SeqCst);
         if self.waiters.load(Ordering::SeqCst) > 0 {

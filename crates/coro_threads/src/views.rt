@@ -4,20 +4,20 @@ use net_case::{Case, CaseState};
 use net_core::Body;
 use std::snapshot::Snapshot;
 
-/// What a board was made with: its case, and the number of its workers.
+/// The case and the number of workers with which a board was made.
 #[derive(Drop)]
 pub struct Key<B: Body> {
     pub origin: Snapshot<Case<B>>,
     pub workers: u64,
 }
 
-/// What contracts see of a seat: no value of this type is made. A clause reads an array as a list of any length.
+/// A seat as contracts see it. No value of this type is made. A clause reads an array as a list of any length.
 pub struct View {
     /// The case with which the board was made. A seat that was joined to another one has none.
     pub origin: Option<CaseState>,
     /// The ticks of each instance when the case was last seen.
     pub seen: [u64; 0],
-    /// Whether the seat holds the turn.
+    /// True if the seat holds the turn.
     pub turn: bool,
     /// The instances that were out when the turn was taken.
     pub out: [bool; 0],

@@ -4,16 +4,16 @@ ghost use Rattle.std.specs.Prelude.{◌≡◌, ◌<◌, ◌≤◌, ◌∷◌, []
 ghost use Rattle.std.specs.Str.{IsAscii};
 ghost use Rattle.vlog_tree.specs.Form.{ModuleTree};
 ghost use Rattle.vlog_tree.specs.declared.tree.Atom.TheVariants.{Net, Literal};
-ghost use Rattle.hw_build.specs.Elements.{with, with_all, Input, Output, Outlet, InstanceWire, Register, Block, Instance, copied, reset_or};
+ghost use Rattle.hw_build.specs.Elements.{with, with_all, Input, Output, Outlet, InstanceWire, Register, Block, Instance, reset_or};
 ghost use Rattle.hw_channel_lines.specs.Names.{relay_name as relay_name_lem};
-ghost use Rattle.hw_channel_lines.specs.Texts.{step_tree, even_tree, odd_tree, row_tree, row_ports as row_ports_lem, of_net, first_part as first_lem};
+ghost use Rattle.hw_channel_lines.specs.Texts.{set_where, step_tree, even_tree, odd_tree, row_tree, row_ports as row_ports_lem, of_net, first_part as first_lem};
 ghost use Rattle.hw_channel_lines.specs.Texts.{second_of_two as second_of_two_lem, second_of_three as second_of_three_lem, third_part as third_lem, AreRelays};
 
 use crate::ends::relay_connections;
 use crate::names::relay_name;
-use hw_build::{Draft, copy_steps, net, net_value, number, reset_steps, text};
+use hw_build::{Draft, net, net_value, number, reset_steps, text};
 use std::alloc::{AllocError, Global};
-use vlog_tree::{Connections, Module};
+use vlog_tree::{Connections, Module, Step};
 
 fn inputs(alloc: Global, draft: &mut Draft, bits: u32) -> Result<(), AllocError>
     ensures { IfOk result (λ u. draft.new ≡ with_all draft.old (Input 1 (codes "put") ∷ Input bits (codes "din") ∷ Input 1 (codes "rdy_early") ∷ [])) }
@@ -56,28 +56,42 @@ fn follower(
     draft.block(reset_steps(alloc, register, number(1, 0), next)?)
 }
 
-// A register that follows a net, also in reset.
-fn free_follower(
+// The steps of a register that takes a net's number where `set` is 1, in reset too.
+fn set_steps(
     alloc: Global,
-    draft: &mut Draft,
     register: &[u8],
+    set: &[u8],
     next: &[u8],
-) -> Result<(), AllocError>
+) -> Result<Vec<Step>, AllocError>
     requires register { IsAscii register.now }
+    requires set { IsAscii set.now }
     requires next { IsAscii next.now }
-    ensures { IfOk result (λ u. draft.new ≡ with_all draft.old (Block (copied register.now (Net next.now)) ∷ [])) }
+    ensures { IfOk result (λ steps. steps.items ≡ set_where register.now set.now (Net next.now)) }
 {
-    let next = net(alloc, next)?;
-    draft.block(copy_steps(alloc, register, next)?)
+    let mut steps = Vec::new(alloc);
+    steps.push(Step::If(text(alloc, set)?))?;
+    steps.push(Step::NonblockingAssign {
+        register: text(alloc, register)?,
+        value: net(alloc, next)?,
+    })?;
+    steps.push(Step::End)?;
+    Ok(steps)
+}
+
+// The register of the token, which is taken where one is put in.
+fn token_register(alloc: Global, draft: &mut Draft) -> Result<(), AllocError>
+    ensures { IfOk result (λ u. draft.new ≡ with_all draft.old (Block (set_where (codes "token") (codes "put") (Net (codes "din"))) ∷ [])) }
+{
+    draft.block(set_steps(alloc, b"token", b"put", b"din")?)
 }
 
 fn blocks(alloc: Global, draft: &mut Draft) -> Result<(), AllocError>
     ensures { IfOk result (λ u. draft.new ≡ with_all draft.old
-        (Block (reset_or (codes "full") (Literal 1 0) (Net (codes "put"))) ∷ Block (copied (codes "token") (Net (codes "din"))) ∷ Block
+        (Block (reset_or (codes "full") (Literal 1 0) (Net (codes "put"))) ∷ Block (set_where (codes "token") (codes "put") (Net (codes "din"))) ∷ Block
         (reset_or (codes "room") (Literal 1 0) (Net (codes "rdy_early"))) ∷ [])) }
 {
     follower(alloc, draft, b"full", b"put")?;
-    free_follower(alloc, draft, b"token", b"din")?;
+    token_register(alloc, draft)?;
     follower(alloc, draft, b"room", b"rdy_early")
 }
 

@@ -52,17 +52,6 @@ module _ (s : SimTree) (old now : List (Vec Token Global)) (i : ℕ) (low : i < 
   pub behind_more : (j : ℕ) → i + 1 ≤ j → get_or (lists_of (slice_set now i new)) j [] ≡ get_or (lists_of old) j []
   behind_more j h = away j (λ e. absurd (omega arith)) ∙ behind j (omega arith)
 
--- a simulator in cycle 0, with no tokens
-pub run_begins : (first : SimTree) (carried : List (List Token)) → first.told.cycle ≡ 0 → ((m : ModuleTree) → TopOf first.design m → length carried ≡ length (streams_of m)) → ((i : ℕ) → get_or carried i [] ≡ []) → IsRunTo first first carried
-run_begins first carried zero_cycle count none = record {
-  same = refl;
-  ready = refl;
-  told = λ m env nets at f ready r told. told;
-  count = count;
-  tokens = λ m env nets at f ready r told place l got. ap (λ n. tokens l.bits (λ n. nets n []) l.name n) zero_cycle ∙ sym (none place);
-  going = λ m env nets at f ready r told n le d. (let a : 1 ≤ n = d.0 in absurd (omega (arith, zero_cycle)));
-}
-
 module _ (first now next : SimTree) (old : List (List Token)) (run : IsRunTo first now old) (step : IsNext now next) where
   told_next : InRuns first (λ m env nets. IsToldOf first.design.modules m env nets next.told)
   told_next m env nets at f ready r told =
@@ -108,12 +97,6 @@ module _ (first now next : SimTree) (old new : List (List Token)) (run : IsRunTo
     by_last m env nets at f ready r told n d le (inr ne) =
         let c : next.told.cycle ≡ now.told.cycle + 1 = step.cycle in
         run.going m env nets at f ready r told n (omega arith) d
-
-  -- the first cycle in which the design is done
-  pub done_first : (limit : ℕ) → next.told.cycle ≤ limit → InRuns next (λ m env nets. RaisesDone (λ n. nets n []) next.told.cycle) → InRuns first (λ m env nets. IsDoneAt (λ n. nets n []) limit (Some next.told.cycle))
-  done_first limit le done m env nets at f ready r told =
-      let c : next.told.cycle ≡ now.told.cycle + 1 = step.cycle in
-      (le, from_next first now next old run step (λ m env nets. RaisesDone (λ n. nets n []) next.told.cycle) done m env nets at f ready r told, λ n low d. run.going m env nets at f ready r told n (omega arith) d)
 
 -- a simulator that has not gone on stands in cycle 0 of its own runs
 pub later_none : (first : SimTree) → first.told.cycle ≡ 0 → IsLater first first 0

@@ -2,9 +2,9 @@
 use Rattle.std.proofs.Common.{◌≡◌, ℕ, suc, ◌<◌, ◌≤◌, Bool, true, false, cond, ◌&&◌, List, [], ◌∷◌, ◌++◌, Option, Some, None, length, get_or, map, append-nil, refl, sym, ap, subst, ◌∙◌, arith}
 use Rattle.std.specs.Prelude.{◌==◌, ◌↔◌, IsTrue, slice_get}
 use Rattle.std.specs.Option.{option_to_list}
-use Rattle.std.proofs.lemmas.Bool.Decides.{nat_tests}
 use Rattle.std.proofs.lemmas.List.{map-append}
 use Rattle.std.proofs.lemmas.Option.{slice_get_within, slice_get-get_or}
+use Rattle.std.proofs.lemmas.Bool.{eq-eqb, eqb-true}
 use Rattle.tapa_base.specs.declared.shape.Port.{Port}
 use Rattle.tapa_base.specs.declared.token.Token.{Token}
 use Rattle.vlog_tree.specs.Form.{ModuleTree}
@@ -23,12 +23,6 @@ use Rattle.cycle_sim.specs.Wholes.{IsSim, IsStream, sim_tree, token_on}
 use Rattle.cycle_sim.proofs.Stepping.{one_test}
 use Rattle.cycle_sim.proofs.Advancing.{in_runs}
 
-test_true : (a b : ℕ) → a ≡ b → (a == b) ≡ true
-test_true a b e = grind (arith, nat_tests)
-
-true_test : (a b : ℕ) → (a == b) ≡ true → a ≡ b
-true_test a b e = grind (arith, nat_tests)
-
 -- one token more, or none
 one_more : (w d : ℕ) (c : List ℕ) (b : Bool) → map (token_of w) (cond b (c ++ d ∷ []) c) ≡ map (token_of w) c ++ option_to_list (cond b (Some (token_of w d)) None)
 one_more w d c true = map-append (token_of w) c (d ∷ [])
@@ -39,20 +33,20 @@ module _ (p : Parts) (s : State) (sim : IsSim p s) where
   ns = s.numbers.items
 
   -- whether the design is done
-  pub done_is : (b : Bool) → 0 < s.cycle → b ≡ is_one ns p.done → InRuns (sim_tree p s) (λ m env nets. IsTrue b ↔ RaisesDone (λ n. nets n []) s.cycle)
+  pub done_is : (b : Bool) → 0 < s.cycle → b ≡ is_one ns p.around.done → InRuns (sim_tree p s) (λ m env nets. IsTrue b ↔ RaisesDone (λ n. nets n []) s.cycle)
   done_is b later is = in_runs p s sim (λ m env nets. IsTrue b ↔ RaisesDone (λ n. nets n []) s.cycle) (λ env nets f ready r now.
-      let e : (nets s.cycle []).net done ≡ pair_value ns p.done = now.placed sim.parts.around.is_done.0 ([], done) p.done sim.parts.around.is_done.1 sim.parts.around.is_done.2 in (
-        λ t. (omega arith, e ∙ true_test (pair_value ns p.done) 1 (one_test ns p.done ∙ sym is ∙ t)),
-        λ d. is ∙ sym (one_test ns p.done) ∙ test_true (pair_value ns p.done) 1 (sym e ∙ d.1),
+      let e : (nets s.cycle []).net done ≡ pair_value ns p.around.done = now.placed sim.parts.around.is_done.0 ([], done) p.around.done sim.parts.around.is_done.1 sim.parts.around.is_done.2 in (
+        λ t. (omega arith, e ∙ eqb-true (pair_value ns p.around.done) 1 (one_test ns p.around.done ∙ sym is ∙ t)),
+        λ d. is ∙ sym (one_test ns p.around.done) ∙ eq-eqb (pair_value ns p.around.done) 1 (sym e ∙ d.1),
       ))
 
-  module _ (place : ℕ) (token : Option Token) (t : Stream) (got : slice_get p.streams.items place ≡ Some t) (is : token ≡ token_on ns t) where
-    carried_later : (nets : ℕ → Path → Cycle) → ((x : List ℕ) (q : Pair) → IsPairOf p.design.modules p.flat p.pairs.items x q → (nets s.cycle []).net x ≡ pair_value ns q)
+  module _ (place : ℕ) (token : Option Token) (t : Stream) (got : slice_get p.around.streams.items place ≡ Some t) (is : token ≡ token_on ns t) where
+    carried_later : (nets : ℕ → Path → Cycle) → ((x : List ℕ) (q : Pair) → IsPairOf p.design.modules p.flat p.machine.pairs.items x q → (nets s.cycle []).net x ≡ pair_value ns q)
         → (l : Port) (n : ℕ) → slice_get (streams_of sim.parts.top) place ≡ Some l → s.cycle ≡ suc n → tokens l.bits (λ k. nets k []) l.name (suc n) ≡ tokens l.bits (λ k. nets k []) l.name n ++ option_to_list token
     carried_later nets here l n at cycle =
         let u = sim.parts.around.streams.each place l at in
         let same : u.0 ≡ t = cc (u.1, got) in
-        let st : IsStream p.design.modules p.flat p.pairs.items l t = subst (IsStream p.design.modules p.flat p.pairs.items l) same u.2 in
+        let st : IsStream p.design.modules p.flat p.machine.pairs.items l t = subst (IsStream p.design.modules p.flat p.machine.pairs.items l) same u.2 in
         let run : ℕ → Cycle = λ k. nets k [] in
         let wr : (run (suc n)).net (s_wr l.name) ≡ pair_value ns t.wr = subst (λ k. (run k).net (s_wr l.name) ≡ pair_value ns t.wr) cycle (here (s_wr l.name) t.wr st.wr) in
         let rdy : (run (suc n)).net (s_rdy l.name) ≡ pair_value ns t.rdy = subst (λ k. (run k).net (s_rdy l.name) ≡ pair_value ns t.rdy) cycle (here (s_rdy l.name) t.rdy st.rdy) in
@@ -78,25 +72,25 @@ module _ (p : Parts) (s : State) (sim : IsSim p s) where
   pub carried_first : (place : ℕ) → s.cycle ≡ 0 → IsCarried (sim_tree p s) place None
   carried_first place zero_cycle = record { first = λ z. refl; later = λ m env nets at f ready r told l n got e. (let a : s.cycle ≡ suc n = e in absurd (omega arith)) }
 
-  pub no_stream : (place : ℕ) → length p.streams.items ≤ place → IsCarried (sim_tree p s) place None
+  pub no_stream : (place : ℕ) → length p.around.streams.items ≤ place → IsCarried (sim_tree p s) place None
   no_stream place far = record {
     first = λ z. refl;
     later = λ m env nets at f ready r told l n got e.
         let same : sim.parts.top ≡ m = cc (sim.parts.at, at) in
         let here : slice_get (streams_of sim.parts.top) place ≡ Some l = subst (λ (q : ModuleTree). slice_get (streams_of q) place ≡ Some l) (sym same) got in
         let low : place < length (streams_of sim.parts.top) = slice_get_within (streams_of sim.parts.top) place l here in
-        let c : length p.streams.items ≡ length (streams_of sim.parts.top) = sim.parts.around.streams.count in
+        let c : length p.around.streams.items ≡ length (streams_of sim.parts.top) = sim.parts.around.streams.count in
         absurd (omega arith);
   }
 
   -- the bits of a stream
-  pub stream_bits : (place : ℕ) (t : Stream) → slice_get p.streams.items place ≡ Some t → (2 ≤ t.bits) × (t.bits ≤ 65)
+  pub stream_bits : (place : ℕ) (t : Stream) → slice_get p.around.streams.items place ≡ Some t → (2 ≤ t.bits) × (t.bits ≤ 65)
   stream_bits place t got =
-      let c : length p.streams.items ≡ length (streams_of sim.parts.top) = sim.parts.around.streams.count in
-      let low : place < length p.streams.items = slice_get_within p.streams.items place t got in
+      let c : length p.around.streams.items ≡ length (streams_of sim.parts.top) = sim.parts.around.streams.count in
+      let low : place < length p.around.streams.items = slice_get_within p.around.streams.items place t got in
       let none : Port = record { name = []; bits = 0 } in
       let l : Port = get_or (streams_of sim.parts.top) place none in
       let u = sim.parts.around.streams.each place l (slice_get-get_or (streams_of sim.parts.top) place none (omega arith)) in
       let same : u.0 ≡ t = cc (u.1, got) in
-      let st : IsStream p.design.modules p.flat p.pairs.items l t = subst (IsStream p.design.modules p.flat p.pairs.items l) same u.2 in
+      let st : IsStream p.design.modules p.flat p.machine.pairs.items l t = subst (IsStream p.design.modules p.flat p.machine.pairs.items l) same u.2 in
       (subst (λ k. 2 ≤ k) (sym st.bits) st.low, subst (λ k. k ≤ 65) (sym st.bits) st.high)

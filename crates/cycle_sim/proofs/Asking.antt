@@ -1,9 +1,9 @@
 -- What the memories around a design are given fits their cells.
-use Rattle.std.proofs.Common.{◌≡◌, ℕ, ◌^◌, ◌<◌, ◌≤◌, true, false, ◌&&◌, List, Option, Some, None, length, inl, inr, refl, ap, subst, ◌∙◌, map, arith}
+use Rattle.std.proofs.Common.{◌≡◌, ◌^◌, ◌<◌, ◌≤◌, true, false, ◌&&◌, List, Option, Some, None, length, inl, inr, refl, ap, subst, ◌∙◌, map, arith}
 use Rattle.std.specs.Prelude.{nat_le}
 use Rattle.std.specs.Option.{option_map_or}
 use Rattle.std.proofs.Math.Pow.{pow_mono}
-use Rattle.std.proofs.lemmas.Bool.Decides.{nat_tests}
+use Rattle.std.proofs.lemmas.Bool.{leb-true}
 use Rattle.tapa_base.specs.declared.shape.Port.{Port}
 use Rattle.vlog_tree.specs.declared.tree.PortDecl.{PortDecl}
 use Rattle.vlog_tree.specs.declared.table.Declaration.{Declaration}
@@ -24,9 +24,6 @@ use Rattle.vlog_run_laws.proofs.runs.Labelled.{ack_label, rdata_of_label}
 use Rattle.vlog_run_laws.specs.widths.Widths.{NumbersFit}
 use Rattle.vlog_run_laws.proofs.widths.Agreeing.{port_bits, data_agree}
 
-pub le_of : (a b : ℕ) → nat_le a b ≡ true → a ≤ b
-le_of a b h = grind (arith, nat_tests)
-
 pub wdata_clock : (l : Name) → is_clk (m_wdata l) ≡ false
 unfolding m_wdata clk
 wdata_clock l = refl
@@ -37,7 +34,7 @@ few_bits ports before p l e h =
     let r = subst (λ (o : Option Name). option_map_or (λ x. is_input p.direction && nat_le p.width 64 && has_all_five ports x && agrees before (m_wdata x) p.width) o true ≡ true) e h in
     let s = both_true _ (agrees before (m_wdata l) p.width) r in
     let t = both_true _ (has_all_five ports l) s.0 in
-    le_of p.width 64 (both_true (is_input p.direction) (nat_le p.width 64) t.0).1
+    leb-true p.width 64 (both_true (is_input p.direction) (nat_le p.width 64) t.0).1
 
 module _ (ms : List ModuleTree) (names : first_violation (v2_uses ms) ≡ None) (tops : first_violation (v6_uses ms) ≡ None) (m : ModuleTree) (in_ms : Has ms m) (top : is_top ms m.name ≡ true) where
   abbrev ports : List Declaration

@@ -19,22 +19,19 @@ use Rattle.vlog_run_laws.proofs.runs.Settled.{module_in}
 use Rattle.vlog_run_laws.proofs.runs.Sizes.{has_line}
 use Rattle.sim_tape.specs.declared.gates.Pair.{Pair}
 use Rattle.sim_tape.specs.Operators.{Cells}
-use Rattle.sim_tape.specs.Tape.{TapeTree, number_at, pair_value}
+use Rattle.sim_tape.specs.Tape.{number_at, pair_value}
 use Rattle.sim_tape.specs.Solved.{IsSolved, SameGiven}
-use Rattle.sim_gates.specs.declared.writes.Store.{Store}
 use Rattle.sim_flat.specs.declared.flat.Flat.{Flat}
 use Rattle.sim_flat.specs.Flat.{IsFlat, HasNumber}
 use Rattle.sim_flat.proofs.Standing.{in_top, net_of}
-use Rattle.sim_design.specs.declared.drafts.Commit.{Commit}
-use Rattle.sim_design.specs.declared.drafts.Width.{Width}
 use Rattle.sim_design.proofs.Numbering.{declaration_is}
 use Rattle.sim_design.specs.States.{IsFree}
 use Rattle.sim_design.specs.Given.{HaveOwnSlots, IsGivenPair}
 use Rattle.cycle_sim.specs.declared.inputs.Input.{Input}
-use Rattle.cycle_sim.specs.declared.cells.Outside.{Outside}
 use Rattle.cycle_sim.specs.Firsts.{IsHeldAt, AreHeld}
 use Rattle.cycle_sim.specs.Steps.{IsAway, PairHas}
-use Rattle.cycle_sim.specs.Machines.{AreInputs, AreOutside, IsMachine}
+use Rattle.cycle_sim.specs.declared.parts.Parts.{Parts}
+use Rattle.cycle_sim.specs.Wholes.{AreParts}
 use Rattle.cycle_sim.proofs.Numbering.{tree_at}
 use Rattle.cycle_sim.proofs.Stepping.{given_pair, pair_room, register_away}
 
@@ -129,8 +126,10 @@ module _ (f : Flat) (pairs : List (Option Pair)) (fill i room : ℕ) (are : AreH
     | inr ne ↦ old_kept j bits p ne h (before j bits p (omega arith) h)
   ]
 
-module _ (ms : List ModuleTree) (top : ModuleTree) (f : Flat) (pairs memories : List (Option Pair)) (widths : List Width) (t : TapeTree) (commits : List Commit) (stores : List Store)
-    (machine : IsMachine ms top f pairs memories widths t commits stores) (scalars : List ℕ) (inputs : List Input) (given : AreInputs ms top f pairs scalars inputs) (outside : List Outside) (around : AreOutside ms top f pairs outside) where
+module _ (whole : Parts) (are : AreParts whole) where
+  open whole use {design.{modules as ms}, flat as f, machine.{pairs.{items as pairs}, program as t}, around.{inputs.{items as inputs}}}
+  open are use {top, machine}
+
   free : (number bits : ℕ) (r : IsRegisterNet ms top f number bits) → IsFree ms top r.net
   free number bits r = record { tree = r.tree; at = r.at; by = inl r.is_register }
 
@@ -145,7 +144,7 @@ module _ (ms : List ModuleTree) (top : ModuleTree) (f : Flat) (pairs memories : 
   are_held = record {
     room = λ number bits p h.
         let r = net_held number bits p h in
-        pair_room ms top f pairs memories widths t commits stores machine scalars inputs given outside around (bits_of (declared r.tree) r.net.1) p (given_held number bits p h r);
+        pair_room whole are (bits_of (declared r.tree) r.net.1) p (given_held number bits p h r);
     own = λ i j b c p q ne h g.
         let r = net_held i b p h in
         let s = net_held j c q g in
@@ -158,7 +157,7 @@ module _ (ms : List ModuleTree) (top : ModuleTree) (f : Flat) (pairs memories : 
   held_first cells filled_ns given_ns ns number bits v p h has kept solved same =
       let r = net_held number bits p h in
       let g = given_held number bits p h r in
-      let away = register_away ms top f pairs memories widths t commits stores machine scalars inputs given outside around number r.net r.tree p r.has_number r.at r.is_register h.placed g in
+      let away = register_away whole are number r.net r.tree p r.has_number r.at r.is_register h.placed g in
       let still : PairHas given_ns p v = (
         kept p.low (λ i a got. (away i a got).0) ∙ has.0,
         elim (cases_eq p.high 0) [
@@ -166,4 +165,4 @@ module _ (ms : List ModuleTree) (top : ModuleTree) (f : Flat) (pairs memories : 
           | inr pos ↦ elim has.1 [ inl z ↦ inl z | inr e ↦ inr (kept p.high (λ i a got. elim (away i a got).1 [ inl z ↦ absurd (pos z) | inr y ↦ y ]) ∙ e) ]
         ],
       ) in
-      given_pair ms top f pairs memories widths t commits stores machine scalars inputs given outside around (bits_of (declared r.tree) r.net.1) p cells given_ns ns v g solved same still
+      given_pair whole are (bits_of (declared r.tree) r.net.1) p cells given_ns ns v g solved same still

@@ -4,6 +4,7 @@ use Rattle.std.specs.Prelude.{not, slice_get, option_and_then}
 use Rattle.std.specs.Option.{option_to_list}
 use Rattle.std.specs.List.{AllZip, filter}
 use Rattle.std.proofs.lemmas.Option.{slice_get_within}
+use Rattle.std.proofs.lemmas.Bool.{not-true}
 use Rattle.tapa_base.specs.Lists.{Has}
 use Rattle.tapa_base.proofs.Lists.{has_got}
 use Rattle.vlog_tree.specs.declared.table.Declaration.{Declaration}
@@ -70,13 +71,9 @@ has_kept p (y ∷ ys) x h = kept_by p y ys x (p y) refl (has_kept p ys x) h
 
 -- ---- pairs of nets
 
-not_yes : (a : Bool) → not a ≡ true → a ≡ false
-not_yes true h = cc
-not_yes false h = refl
-
 -- what is shown can be read, and is not the clock
 is_net : (d : Declaration) → is_shown d ≡ true → (net_kind_is_read d.net_kind ≡ true) × (is_clk d.name ≡ false)
-is_net d h = let two = both_true (net_kind_is_read d.net_kind) (not (is_clk d.name)) h in (two.0, not_yes (is_clk d.name) two.1)
+is_net d h = let two = both_true (net_kind_is_read d.net_kind) (not (is_clk d.name)) h in (two.0, not-true (is_clk d.name) two.1)
 
 module _ (ms : List ModuleTree) (top : ModuleTree) (f : Flat) (pairs : List (Option Pair)) (t : TapeTree) (names : List Declaration) (here : IsTopPlaced ms top f pairs t names) where
   -- a net that is shown has a pair at its place
@@ -122,19 +119,19 @@ module _ (ms : List ModuleTree) (place : ℕ) (design : IsDesign ms place) (top 
 
 -- ---- what a simulator shows
 
-module _ (p : Parts) (s : State) (sim : IsSim p s) (place : ℕ) (q : Pair) (got : slice_get p.shown.items place ≡ Some q) where
-  here : (d : Declaration) → slice_get (shown_nets sim.parts.top) place ≡ Some d → IsPairOf p.design.modules p.flat p.pairs.items d.name q
+module _ (p : Parts) (s : State) (sim : IsSim p s) (place : ℕ) (q : Pair) (got : slice_get p.around.shown.items place ≡ Some q) where
+  here : (d : Declaration) → slice_get (shown_nets sim.parts.top) place ≡ Some d → IsPairOf p.design.modules p.flat p.machine.pairs.items d.name q
   here d at =
       let u = sim.parts.around.shown.each place d at in
       let same : u.0 ≡ q = cc (u.1, got) in
-      subst (IsPairOf p.design.modules p.flat p.pairs.items d.name) same u.2
+      subst (IsPairOf p.design.modules p.flat p.machine.pairs.items d.name) same u.2
 
   pub shown_told : (m : ModuleTree) (d : Declaration) → TopOf p.design m → slice_get (shown_nets m) place ≡ Some d → pair_value s.numbers.items q ≡ (sim_tree p s).told.number [] d.name
   shown_told m d top at =
       let same : m ≡ sim.parts.top = cc (sim.parts.at, top) in
       let i = here d (subst (λ (k : ModuleTree). slice_get (shown_nets k) place ≡ Some d) same at) in
       let ns : List ℕ = s.numbers.items in
-      sym (ap (λ o. number_told ns (option_and_then (λ number. get_or p.pairs.items number None) o)) (number_is_found p.design.modules sim.parts.top p.flat sim.parts.machine.flat i.0 ([], d.name) i.1) ∙ ap (number_told ns) i.2)
+      sym (ap (λ o. number_told ns (option_and_then (λ number. get_or p.machine.pairs.items number None) o)) (number_is_found p.design.modules sim.parts.top p.flat sim.parts.machine.flat i.0 ([], d.name) i.1) ∙ ap (number_told ns) i.2)
 
   pub shown_fits : InRuns (sim_tree p s) (λ m env nets. (d : Declaration) → slice_get (shown_nets m) place ≡ Some d → pair_value s.numbers.items q < 2 ^ d.bits)
   shown_fits m env nets top f ready r told d at =
@@ -144,9 +141,9 @@ module _ (p : Parts) (s : State) (sim : IsSim p s) (place : ℕ) (q : Pair) (got
       subst (λ n. n < 2 ^ d.bits) (sym (shown_told m d top at)) (told_fits p.design.modules flat.top_place flat.design m there place d at env nets (sim_tree p s).told told f r)
 
 -- past the last pair there is no net
-pub none_shown : (p : Parts) (s : State) → IsSim p s → (place : ℕ) → length p.shown.items ≤ place → (m : ModuleTree) (d : Declaration) → TopOf p.design m → slice_get (shown_nets m) place ≡ Some d → ⊥
+pub none_shown : (p : Parts) (s : State) → IsSim p s → (place : ℕ) → length p.around.shown.items ≤ place → (m : ModuleTree) (d : Declaration) → TopOf p.design m → slice_get (shown_nets m) place ≡ Some d → ⊥
 none_shown p s sim place far m d top at =
     let same : m ≡ sim.parts.top = cc (sim.parts.at, top) in
     let low : place < length (shown_nets sim.parts.top) = slice_get_within (shown_nets sim.parts.top) place d (subst (λ (k : ModuleTree). slice_get (shown_nets k) place ≡ Some d) same at) in
-    let count : length p.shown.items ≡ length (shown_nets sim.parts.top) = sim.parts.around.shown.count in
+    let count : length p.around.shown.items ≡ length (shown_nets sim.parts.top) = sim.parts.around.shown.count in
     absurd (omega arith)

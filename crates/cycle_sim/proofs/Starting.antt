@@ -77,58 +77,58 @@ cells_more vs v wanted n long was is j low = ap (λ l. get_or l j []) (map-appen
 
 module _ (p : Parts) (are : AreParts p) where
   -- registers and inputs have slots of their own
-  pub held : AreHeld p.flat p.pairs.items (length p.program.gates)
-  held = are_held p.design.modules are.top p.flat p.pairs.items p.memories.items p.widths.items p.program p.commits.items p.stores.items are.machine p.scalars.items p.inputs.items are.around.inputs p.outside.items are.around.outside
+  pub held : AreHeld p.flat p.machine.pairs.items (length p.machine.program.gates)
+  held = are_held p are
 
-  pub slots : HaveSlots (length p.program.gates) p.inputs.items
-  slots = have_slots p.design.modules are.top p.flat p.pairs.items p.memories.items p.widths.items p.program p.commits.items p.stores.items are.machine p.scalars.items p.inputs.items are.around.inputs p.outside.items are.around.outside
+  pub slots : HaveSlots (length p.machine.program.gates) p.around.inputs.items
+  slots = have_slots p are
 
-  module _ (cells : Cells) (filled_ns given_ns ns : List ℕ) (solved : IsSolved p.program cells ns) (same : SameGiven p.program.gates given_ns ns) where
-    pub inputs_first : ((i : ℕ) (a : Input) → slice_get p.inputs.items i ≡ Some a → PairHas given_ns a.pair (supplied (lists_of p.ready.items) 0 a.supply))
-        → (i : ℕ) (a : Input) → slice_get p.inputs.items i ≡ Some a → pair_value ns a.pair ≡ supplied (lists_of p.ready.items) 0 a.supply
+  module _ (cells : Cells) (filled_ns given_ns ns : List ℕ) (solved : IsSolved p.machine.program cells ns) (same : SameGiven p.machine.program.gates given_ns ns) where
+    pub inputs_first : ((i : ℕ) (a : Input) → slice_get p.around.inputs.items i ≡ Some a → PairHas given_ns a.pair (supplied (lists_of p.ready.items) 0 a.supply))
+        → (i : ℕ) (a : Input) → slice_get p.around.inputs.items i ≡ Some a → pair_value ns a.pair ≡ supplied (lists_of p.ready.items) 0 a.supply
     inputs_first values =
-        given_next p.design.modules are.top p.flat p.pairs.items p.memories.items p.widths.items p.program p.commits.items p.stores.items are.machine p.scalars.items p.inputs.items are.around.inputs p.outside.items are.around.outside
+        given_next p are
         cells given_ns ns (lists_of p.ready.items) 0 solved same values
 
-    pub registers_first : (fill : ℕ) → ((number bits : ℕ) (q : Pair) → IsHeldAt p.flat p.pairs.items number bits q → PairHas filled_ns q (fill % 2 ^ bits))
-        → ((k : ℕ) → ((i : ℕ) (a : Input) → slice_get p.inputs.items i ≡ Some a → IsAway k a.pair) → number_at given_ns k ≡ number_at filled_ns k)
-        → (number bits : ℕ) (q : Pair) → IsHeldAt p.flat p.pairs.items number bits q → pair_value ns q ≡ fill % 2 ^ bits
+    pub registers_first : (fill : ℕ) → ((number bits : ℕ) (q : Pair) → IsHeldAt p.flat p.machine.pairs.items number bits q → PairHas filled_ns q (fill % 2 ^ bits))
+        → ((k : ℕ) → ((i : ℕ) (a : Input) → slice_get p.around.inputs.items i ≡ Some a → IsAway k a.pair) → number_at given_ns k ≡ number_at filled_ns k)
+        → (number bits : ℕ) (q : Pair) → IsHeldAt p.flat p.machine.pairs.items number bits q → pair_value ns q ≡ fill % 2 ^ bits
     registers_first fill values kept number bits q h =
-        held_first p.design.modules are.top p.flat p.pairs.items p.memories.items p.widths.items p.program p.commits.items p.stores.items are.machine p.scalars.items p.inputs.items are.around.inputs p.outside.items are.around.outside
+        held_first p are
         cells filled_ns given_ns ns number bits (fill % 2 ^ bits) q h (values number bits q h) kept solved same
 
   module _ (s : State) (fill : ℕ) (cycle : s.cycle ≡ 0)
-      (inside : (i : ℕ) (w : Width) → slice_get p.widths.items i ≡ Some w → (get_or (cells_of s.cells.items) (length p.outside.items + 2 * i) [] ≡ replicate w.cells (fill % 2 ^ w.bits)) × (get_or (cells_of s.cells.items) (length p.outside.items + 2 * i + 1) [] ≡ replicate w.cells 0))
-      (solved : IsSolved p.program (cells_of s.cells.items) s.numbers.items)
-      (given : (i : ℕ) (a : Input) → slice_get p.inputs.items i ≡ Some a → pair_value s.numbers.items a.pair ≡ supplied (lists_of p.ready.items) 0 a.supply)
-      (registers : (number bits : ℕ) (q : Pair) → IsHeldAt p.flat p.pairs.items number bits q → pair_value s.numbers.items q ≡ fill % 2 ^ bits) where
+      (inside : (i : ℕ) (w : Width) → slice_get p.machine.widths.items i ≡ Some w → (get_or (cells_of s.cells.items) (length p.around.outside.items + 2 * i) [] ≡ replicate w.cells (fill % 2 ^ w.bits)) × (get_or (cells_of s.cells.items) (length p.around.outside.items + 2 * i + 1) [] ≡ replicate w.cells 0))
+      (solved : IsSolved p.machine.program (cells_of s.cells.items) s.numbers.items)
+      (given : (i : ℕ) (a : Input) → slice_get p.around.inputs.items i ≡ Some a → pair_value s.numbers.items a.pair ≡ supplied (lists_of p.ready.items) 0 a.supply)
+      (registers : (number bits : ℕ) (q : Pair) → IsHeldAt p.flat p.machine.pairs.items number bits q → pair_value s.numbers.items q ≡ fill % 2 ^ bits) where
     abbrev cells : Cells
     cells = cells_of s.cells.items
 
     abbrev ns : List ℕ
     ns = s.numbers.items
 
-    lists : (number : ℕ) (n : FlatNet) (m : ModuleTree) (w k : ℕ) (q : Pair) → HasNumber p.design.modules p.flat number n → module_at p.design.modules are.top n.0 ≡ Some m → Has m.items (Memory w n.1 k) → get_or p.memories.items number None ≡ Some q
+    lists : (number : ℕ) (n : FlatNet) (m : ModuleTree) (w k : ℕ) (q : Pair) → HasNumber p.design.modules p.flat number n → module_at p.design.modules are.top n.0 ≡ Some m → Has m.items (Memory w n.1 k) → get_or p.machine.memories.items number None ≡ Some q
         → (get_or cells q.low [] ≡ replicate k (fill % 2 ^ w)) × (get_or cells q.high [] ≡ replicate k 0)
     lists number n m w k q h at line e =
         let a = are.machine.numbered.all number n m w k h at line in
         let many : ℕ = length (shape_of are.top).memories in
         let pair : Pair = record { low = many + 2 * a.0; high = many + 2 * a.0 + 1 } in
         let same : q ≡ pair = same_Some q pair (sym e ∙ a.2) in
-        let count : length p.outside.items ≡ many = are.around.outside.count in
+        let count : length p.around.outside.items ≡ many = are.around.outside.count in
         let r = inside a.0 (record { pair = pair; bits = w; cells = k }) a.1 in
-        let low : q.low ≡ length p.outside.items + 2 * a.0 = ap (λ (z : Pair). z.low) same ∙ ap (λ z. z + 2 * a.0) (sym count) in
-        let high : q.high ≡ length p.outside.items + 2 * a.0 + 1 = ap (λ (z : Pair). z.high) same ∙ ap (λ z. z + 2 * a.0 + 1) (sym count) in
+        let low : q.low ≡ length p.around.outside.items + 2 * a.0 = ap (λ (z : Pair). z.low) same ∙ ap (λ z. z + 2 * a.0) (sym count) in
+        let high : q.high ≡ length p.around.outside.items + 2 * a.0 + 1 = ap (λ (z : Pair). z.high) same ∙ ap (λ z. z + 2 * a.0 + 1) (sym count) in
         (ap (λ z. get_or cells z []) low ∙ r.0, ap (λ z. get_or cells z []) high ∙ r.1)
 
-    has_cells : HasCells p.design.modules are.top p.flat p.memories.items cells
+    has_cells : HasCells p.design.modules are.top p.flat p.machine.memories.items cells
     has_cells number n m w k q h at line e =
         let r = lists number n m w k q h at line e in
         (ap length r.0 ∙ length-replicate k (fill % 2 ^ w), ap length r.1 ∙ length-replicate k 0)
 
-    filled_with : IsFilledWith p.design.modules are.top p.flat p.pairs.items p.memories.items fill cells ns
+    filled_with : IsFilledWith p.design.modules are.top p.flat p.machine.pairs.items p.machine.memories.items fill cells ns
     filled_with = record {
-      registers = λ number n m w q h at line e. registers number w q (register_held p.design.modules are.top p.flat are.machine.flat p.pairs.items number n m w q h at line e);
+      registers = λ number n m w q h at line e. registers number w q (register_held p.design.modules are.top p.flat are.machine.flat p.machine.pairs.items number n m w q h at line e);
       inside = λ number n m w k q h at line e a low.
           let r = lists number n m w k q h at line e in
           let v : ℕ = fill % 2 ^ w in
@@ -139,7 +139,7 @@ module _ (p : Parts) (are : AreParts p) where
     }
 
     -- it is a simulator
-    pub sim_first : length ns ≡ length p.program.gates → length s.given.items ≡ length p.program.gates → s.is_still ≡ false → IsSim p s
+    pub sim_first : length ns ≡ length p.machine.program.gates → length s.given.items ≡ length p.machine.program.gates → s.is_still ≡ false → IsSim p s
     sim_first size room moves = record {
       parts = are;
       size = size;
@@ -151,7 +151,7 @@ module _ (p : Parts) (are : AreParts p) where
     }
 
     -- what is told of the first cycle is what each run has there that begins with one number everywhere
-    pub told_first : (memories : List (List ℕ)) → ((i : ℕ) → i < length p.outside.items → get_or cells i [] ≡ slice_index_or memories i [])
+    pub told_first : (memories : List (List ℕ)) → ((i : ℕ) → i < length p.around.outside.items → get_or cells i [] ≡ slice_index_or memories i [])
         → (m : ModuleTree) (env : Environment) → TopOf p.design m → FitsShape env (shape_of m) → env.scalars ≡ p.scalars.items → env.memories ≡ memories → TellsEachRun p.design.modules m env fill (sim_tree p s).told
     told_first memories first m env at fits scalars are_memories contents nets filled r =
         let same : are.top ≡ m = same_Some are.top m (sym are.at ∙ at) in
@@ -159,13 +159,13 @@ module _ (p : Parts) (are : AreParts p) where
         let env_fits : FitsShape env (shape_of are.top) = subst (λ (q : ModuleTree). FitsShape env (shape_of q)) (sym same) fits in
         let is_filled : IsFilled ms are.top fill contents = subst (λ (q : ModuleTree). IsFilled ms q fill contents) (sym same) filled in
         let run : IsRunFrom ms are.top env contents nets = subst (λ (q : ModuleTree). IsRunFrom ms q env contents nets) (sym same) r in
-        let shown = shown_first ms are.top p.flat p.pairs.items p.memories.items p.widths.items p.program p.commits.items p.stores.items are.machine p.scalars.items p.inputs.items are.around.inputs p.outside.items are.around.outside
+        let shown = shown_first p are
         env env_fits scalars nets fill contents is_filled run cells ns solved (lists_of p.ready.items) has_cells filled_with given (outside env are_memories) in
-        let told = told_of ms are.top p.flat p.pairs.items p.memories.items p.widths.items p.program p.commits.items p.stores.items are.machine env nets 0 cells ns shown in
+        let told = told_of p are env nets 0 cells ns shown in
         subst (λ (q : ModuleTree). IsToldOf ms q env nets (sim_tree p s).told) same
-        (subst (λ n. IsToldOf ms are.top env nets (told_by ms p.flat p.pairs.items p.memories.items n cells ns)) (sym cycle) told) where
+        (subst (λ n. IsToldOf ms are.top env nets (told_by ms p.flat p.machine.pairs.items p.machine.memories.items n cells ns)) (sym cycle) told) where
           outside : (env : Environment) → env.memories ≡ memories → (i : ℕ) (l : Port) → slice_get (shape_of are.top).memories i ≡ Some l → get_or cells i [] ≡ slice_index_or env.memories i []
           outside env is i l got =
               let there : i < length (shape_of are.top).memories = slice_get_within (shape_of are.top).memories i l got in
-              let count : length p.outside.items ≡ length (shape_of are.top).memories = are.around.outside.count in
+              let count : length p.around.outside.items ≡ length (shape_of are.top).memories = are.around.outside.count in
               first i (omega arith) ∙ ap (λ (z : List (List ℕ)). slice_index_or z i []) (sym is)

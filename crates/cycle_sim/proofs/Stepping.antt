@@ -1,5 +1,5 @@
 -- What slots and cells show of a run's cycle they show of its next cycle after a step.
-use Rattle.std.proofs.Common.{◌≡◌, ◌≢◌, ℕ, zero, suc, ◌+◌, ◌*◌, ◌^◌, ◌<◌, ◌≤◌, Bool, true, false, cond, ◌&&◌, List, [], Option, Some, None, length, get_or, inl, inr, refl, sym, ap, subst, ◌∙◌, arith}
+use Rattle.std.proofs.Common.{◌≡◌, ◌≢◌, ℕ, zero, suc, ◌+◌, ◌*◌, ◌^◌, ◌<◌, ◌≤◌, Bool, true, false, cond, ◌&&◌, List, [], Some, None, length, get_or, inl, inr, refl, sym, ap, subst, ◌∙◌, arith}
 use Rattle.std.specs.Prelude.{◌⊎◌, ◌==◌, slice_get, slice_index_or}
 use Rattle.std.proofs.Math.Pow.{pow_mono}
 use Rattle.std.proofs.lemmas.Bool.{cases_lt, cases_eq}
@@ -25,15 +25,13 @@ use Rattle.vlog_run_laws.proofs.widths.Ruled.{widths_in_range}
 use Rattle.sim_tape.specs.declared.gates.Pair.{Pair}
 use Rattle.sim_tape.specs.declared.gates.Rule.TheVariants.{Given, Constant}
 use Rattle.sim_tape.specs.Operators.{Cells, cell_in}
-use Rattle.sim_tape.specs.Tape.{TapeTree, gate_value, number_at, pair_value}
+use Rattle.sim_tape.specs.Tape.{gate_value, number_at, pair_value}
 use Rattle.sim_tape.specs.Solved.{IsSolved, SameGiven}
 use Rattle.sim_gates.specs.declared.writes.Store.{Store}
 use Rattle.sim_gates.specs.Next.{cell_after}
-use Rattle.sim_flat.specs.declared.flat.Flat.{Flat}
 use Rattle.sim_flat.specs.Flat.{HasNumber}
 use Rattle.sim_flat.proofs.Standing.{in_top, net_of, net_single}
 use Rattle.sim_design.specs.declared.drafts.Commit.{Commit}
-use Rattle.sim_design.specs.declared.drafts.Width.{Width}
 use Rattle.sim_design.specs.Valuations.{IsLawful, IsValuation}
 use Rattle.sim_design.specs.States.{IsFree, HasCellsOf, CellsAre}
 use Rattle.sim_design.specs.Given.{IsGivenSlot, IsGivenPair}
@@ -42,7 +40,9 @@ use Rattle.cycle_sim.specs.declared.inputs.Supply.TheVariants.{Reset, Scalar, Re
 use Rattle.cycle_sim.specs.declared.inputs.Input.{Input}
 use Rattle.cycle_sim.specs.declared.cells.Outside.{Outside}
 use Rattle.cycle_sim.specs.Steps.{IsAway, PairHas, HasRoom, HaveSlots, supplied, stored_all, is_one, outside_list}
-use Rattle.cycle_sim.specs.Machines.{IsSuppliedBy, IsInput, AreInputs, IsPairOf, IsOutside, AreOutside, IsMachine, HasCells, IsShown}
+use Rattle.cycle_sim.specs.declared.parts.Parts.{Parts}
+use Rattle.cycle_sim.specs.Machines.{IsSuppliedBy, IsInput, IsPairOf, IsOutside, HasCells, IsShown}
+use Rattle.cycle_sim.specs.Wholes.{AreParts}
 use Rattle.cycle_sim.proofs.Numbering.{tree_at}
 use Rattle.cycle_sim.proofs.Telling.{cells_are, cell_is}
 use Rattle.cycle_sim.proofs.Storing.{AreApart, set_past, all_length, all_stay, all_stores}
@@ -72,8 +72,10 @@ one_test ns p = by_high (cases_eq (number_at ns p.high) 0) where
       let f : (pair_value ns p == 1) ≡ false = grind (arith, nat_tests) in
       f ∙ ap (λ b. b && (number_at ns p.low == 1)) (sym t)
 
-module _ (ms : List ModuleTree) (top : ModuleTree) (f : Flat) (pairs memories : List (Option Pair)) (widths : List Width) (t : TapeTree) (commits : List Commit) (stores : List Store)
-    (machine : IsMachine ms top f pairs memories widths t commits stores) (scalars : List ℕ) (inputs : List Input) (given : AreInputs ms top f pairs scalars inputs) (outside : List Outside) (around : AreOutside ms top f pairs outside) where
+module _ (whole : Parts) (are : AreParts whole) where
+  open whole use {design.{modules as ms}, flat as f, machine.{pairs.{items as pairs}, memories.{items as memories}, program as t, commits.{items as commits}, stores.{items as stores}}, around.{inputs.{items as inputs}, outside.{items as outside}}, scalars.{items as scalars}}
+  open are use {top, machine, around.{inputs as given, outside as around}}
+
   abbrev HasTop : FlatNet → ModuleTree → Type 0
   HasTop n m = module_at ms top n.0 ≡ Some m
 

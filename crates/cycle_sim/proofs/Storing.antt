@@ -1,7 +1,7 @@
 -- Two lists of halves after stores have the halves of what a memory has after them.
 use Rattle.std.proofs.Common.{◌≡◌, ◌≢◌, ℕ, ◌+◌, ◌*◌, ◌^◌, ◌<◌, ◌≤◌, Bool, true, false, cond, ◌&&◌, List, [], ◌∷◌, length, get_or, inl, inr, refl, sym, ap, ◌∙◌, arith}
 use Rattle.std.specs.Prelude.{◌⊎◌, ◌==◌, nat_lt, slice_set}
-use Rattle.std.proofs.lemmas.Bool.{cases_eq}
+use Rattle.std.proofs.lemmas.Bool.{cases_eq, eq-eqb, ne_eqb, lt-ltb, le-ltb}
 use Rattle.std.proofs.lemmas.Bool.Decides.{nat_tests}
 use Rattle.std.proofs.lemmas.List.{get_or-set_other, length-set}
 use Rattle.std.proofs.lemmas.Grind.{get_or-set_at}
@@ -18,18 +18,6 @@ use Rattle.cycle_sim.proofs.Writing.{cond_here, cond_away}
 abbrev pub AreApart : Pair → Pair → Type 0
 AreApart p q = (p.low ≢ q.low) × (p.low ≢ q.high) × (p.high ≢ q.low) × (p.high ≢ q.high)
 
-same_test : (a b : ℕ) → a ≡ b → (a == b) ≡ true
-same_test a b e = grind (arith, nat_tests)
-
-other_test : (a b : ℕ) → (a ≡ b → ⊥) → (a == b) ≡ false
-other_test a b h = grind (arith, nat_tests)
-
-lt_true : (a b : ℕ) → a < b → nat_lt a b ≡ true
-lt_true a b h = grind (arith, nat_tests)
-
-lt_false : (a b : ℕ) → b ≤ a → nat_lt a b ≡ false
-lt_false a b h = grind (arith, nat_tests)
-
 pub set_length : (cells : List ℕ) (a v : ℕ) → length (set_cell cells a v) ≡ length cells
 set_length cells a v = by_test (nat_lt a (length cells)) where
   by_test : (b : Bool) → length (cond b (slice_set cells a v) cells) ≡ length cells
@@ -37,7 +25,7 @@ set_length cells a v = by_test (nat_lt a (length cells)) where
   by_test false = refl
 
 pub set_past : (cells : List ℕ) (a v : ℕ) → length cells ≤ a → set_cell cells a v ≡ cells
-set_past cells a v h = ap (λ b. cond b (slice_set cells a v) cells) (lt_false a (length cells) h)
+set_past cells a v h = ap (λ b. cond b (slice_set cells a v) cells) (le-ltb a (length cells) h)
 
 -- a cell after one is set
 set_read : (cells : List ℕ) (at v a : ℕ) → a < length cells → get_or (set_cell cells at v) a 0 ≡ cond (a == at) v (get_or cells a 0)
@@ -45,7 +33,7 @@ set_read cells at v a low = by_case (cases_eq a at) where
   by_case : (a ≡ at) ⊎ (a ≢ at) → get_or (set_cell cells at v) a 0 ≡ cond (a == at) v (get_or cells a 0)
   by_case (inl e) =
       let there : at < length cells = omega arith in
-      ap (λ b. get_or (cond b (slice_set cells at v) cells) a 0) (lt_true at (length cells) there) ∙ get_or-set_at cells at a v 0 e there ∙ sym (cond_here a at v (get_or cells a 0) e)
+      ap (λ b. get_or (cond b (slice_set cells at v) cells) a 0) (lt-ltb at (length cells) there) ∙ get_or-set_at cells at a v 0 e there ∙ sym (cond_here a at v (get_or cells a 0) e)
   by_case (inr ne) = other (nat_lt at (length cells)) ∙ sym (cond_away a at v (get_or cells a 0) ne) where
     other : (b : Bool) → get_or (cond b (slice_set cells at v) cells) a 0 ≡ get_or cells a 0
     other true = get_or-set_other cells at a v 0 ne
@@ -124,7 +112,7 @@ module _ (ns : List ℕ) (k : ℕ) (few : k < 2 ^ 64) (q : Pair) (two : q.low �
         let pos : 0 < number_at ns t.at.high = grind (arith, nat_tests) in
         let far : k ≤ pair_value ns t.at = omega arith in
         sym (no_hit (
-        ap (λ b. (number_at ns t.on == 1) && (((t.memory.low == q.low) && (a == pair_value ns t.at)) && b)) (lt_false (pair_value ns t.at) k far)
+        ap (λ b. (number_at ns t.on == 1) && (((t.memory.low == q.low) && (a == pair_value ns t.at)) && b)) (le-ltb (pair_value ns t.at) k far)
         ∙ dead (number_at ns t.on == 1) (t.memory.low == q.low) (a == pair_value ns t.at))) where
           dead : (x y z : Bool) → (x && ((y && z) && false)) ≡ false
           dead true true true = refl
@@ -138,7 +126,7 @@ module _ (ns : List ℕ) (k : ℕ) (few : k < 2 ^ 64) (q : Pair) (two : q.low �
       hit_test : (b c : Bool) → (a == at) ≡ b → nat_lt at k ≡ c → hits ns k q a t ≡ (b && c)
       hit_test b c eb ec =
           ap (λ z. z && (((t.memory.low == q.low) && (a == pair_value ns t.at)) && nat_lt (pair_value ns t.at) k)) ex
-          ∙ ap (λ z. (z && (a == pair_value ns t.at)) && nat_lt (pair_value ns t.at) k) (same_test t.memory.low q.low (ap (λ (p : Pair). p.low) is))
+          ∙ ap (λ z. (z && (a == pair_value ns t.at)) && nat_lt (pair_value ns t.at) k) (eq-eqb t.memory.low q.low (ap (λ (p : Pair). p.low) is))
           ∙ ap (λ z. (a == z) && nat_lt z k) (place_is zero_high)
           ∙ ap (λ z. z && nat_lt at k) eb ∙ ap (λ z. b && z) ec
 
@@ -147,10 +135,10 @@ module _ (ns : List ℕ) (k : ℕ) (few : k < 2 ^ 64) (q : Pair) (two : q.low �
           let x : get_or (set_cell low at (number_at ns t.value.low)) a 0 ≡ number_at ns t.value.low = set_read low at (number_at ns t.value.low) a (omega arith) ∙ cond_here a at _ _ e in
           let y : get_or (set_cell high at (number_at ns t.value.high)) a 0 ≡ number_at ns t.value.high = set_read high at (number_at ns t.value.high) a (omega arith) ∙ cond_here a at _ _ e in
           ap (λ z. z * 2 ^ 64 + get_or (set_cell low at (number_at ns t.value.low)) a 0) y ∙ ap (λ z. number_at ns t.value.high * 2 ^ 64 + z) x
-          ∙ sym (ap (λ b. cond b (pair_value ns t.value) (value_of low high)) (hit_test true true (same_test a at e) (lt_true at k (omega arith))))
+          ∙ sym (ap (λ b. cond b (pair_value ns t.value) (value_of low high)) (hit_test true true (eq-eqb a at e) (lt-ltb at k (omega arith))))
       by_place (inr ne) =
           both_same _ _ (set_read low at (number_at ns t.value.low) a (omega arith) ∙ cond_away a at _ _ ne) (set_read high at (number_at ns t.value.high) a (omega arith) ∙ cond_away a at _ _ ne)
-          ∙ sym (no_hit (hit_test false (nat_lt at k) (other_test a at ne) refl))
+          ∙ sym (no_hit (hit_test false (nat_lt at k) (ne_eqb a at ne) refl))
 
     store_here : value_of (stored_list ns t q.low low) (stored_list ns t q.high high) ≡ cond (hits ns k q a t) (pair_value ns t.value) (value_of low high)
     store_here =
@@ -165,7 +153,7 @@ module _ (ns : List ℕ) (k : ℕ) (few : k < 2 ^ 64) (q : Pair) (two : q.low �
       ∙ ap (λ l. get_or high a 0 * 2 ^ 64 + get_or l a 0) (list_stays t q.low low (λ e. apart.0 (sym e)) (λ e. apart.2 (sym e)))
       ∙ sym (ap (λ b. cond b (pair_value ns t.value) (get_or high a 0 * 2 ^ 64 + get_or low a 0)) (miss (number_at ns t.on == 1))) where
         miss : (x : Bool) → (x && (((t.memory.low == q.low) && (a == pair_value ns t.at)) && nat_lt (pair_value ns t.at) k)) ≡ false
-        miss true = ap (λ b. (b && (a == pair_value ns t.at)) && nat_lt (pair_value ns t.at) k) (other_test t.memory.low q.low apart.0)
+        miss true = ap (λ b. (b && (a == pair_value ns t.at)) && nat_lt (pair_value ns t.at) k) (ne_eqb t.memory.low q.low apart.0)
         miss false = refl
 
   -- all stores, one after another

@@ -4,8 +4,7 @@ use Rattle.std.specs.Prelude.{◌⊎◌, IfSome, IsSome, bytes_eq, is_some, nat_
 use Rattle.std.specs.List.{position_or_len}
 use Rattle.std.specs.Option.{option_to_list}
 use Rattle.std.specs.Cmp.Lexicographic.{bytes_decides}
-use Rattle.std.proofs.lemmas.Bool.{cases_eq, cases_lt}
-use Rattle.std.proofs.lemmas.Bool.Decides.{nat_tests}
+use Rattle.std.proofs.lemmas.Bool.{cases_eq, cases_lt, ltb-false}
 use Rattle.std.proofs.lemmas.List.{length_push}
 use Rattle.std.proofs.lemmas.List.Quantifiers.{position-Some}
 use Rattle.std.proofs.lemmas.List.Sums.{fails_before_first}
@@ -51,9 +50,6 @@ pub some_clash : {A B : Type 0} (g : A → B) (o : Option A) → is_some o ≡ t
 some_clash g None h e = cc
 some_clash g (Some x) h e = cc
 
-ge_of : (a b : ℕ) → nat_lt a b ≡ false → b ≤ a
-ge_of a b h = grind (arith, nat_tests)
-
 abbrev is_named : Name → Port → Bool
 is_named x l = bytes_eq l.name x
 
@@ -67,7 +63,7 @@ label_got ls x i e =
 there_by : (ls : List Port) (x : Name) (l : Port) → Has ls l → l.name ≡ x → (b : Bool) → nat_lt (position_or_len (is_named x) ls) (length ls) ≡ b → cond b (Some (position_or_len (is_named x) ls)) None ≡ None → ⊥
 there_by ls x l has name true t e = cc
 there_by ls x l has name false t e =
-    let past : length ls ≤ position_or_len (is_named x) ls = ge_of _ _ t in
+    let past : length ls ≤ position_or_len (is_named x) ls = ltb-false _ _ t in
     let g = got_has ls l has in
     let low : g.0 < length ls = g.1 in
     let fails : is_named x (get_or ls g.0 l) ≡ false = fails_before_first (is_named x) ls g.0 l (omega arith) in

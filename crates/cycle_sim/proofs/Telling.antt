@@ -1,8 +1,7 @@
 -- What slots and cells tell of a cycle is what they show of it.
-use Rattle.std.proofs.Common.{◌≡◌, ℕ, ◌+◌, ◌*◌, ◌^◌, ◌<◌, ◌≤◌, true, false, cond, List, [], Option, Some, None, length, get_or, inl, inr, refl, sym, ap, ◌∙◌, arith}
+use Rattle.std.proofs.Common.{◌≡◌, ℕ, ◌+◌, ◌*◌, ◌^◌, ◌<◌, ◌≤◌, cond, List, [], Option, Some, None, length, get_or, inl, inr, refl, sym, ap, ◌∙◌, arith}
 use Rattle.std.specs.Prelude.{◌⊎◌, IsSome, nat_lt, option_and_then}
-use Rattle.std.proofs.lemmas.Bool.{cases_lt}
-use Rattle.std.proofs.lemmas.Bool.Decides.{nat_tests}
+use Rattle.std.proofs.lemmas.Bool.{cases_lt, lt-ltb, le-ltb}
 use Rattle.std.proofs.lemmas.List.{get_or_past}
 use Rattle.vlog_tree.specs.declared.tree.Item.TheVariants.{Memory}
 use Rattle.vlog_tree.specs.declared.table.Declaration.{Declaration}
@@ -18,27 +17,19 @@ use Rattle.vlog_run_laws.proofs.runs.Sizes.{has_line}
 use Rattle.cycle_sim.specs.Told.{IsToldOf}
 use Rattle.sim_tape.specs.declared.gates.Pair.{Pair}
 use Rattle.sim_tape.specs.Operators.{Cells, cell_in}
-use Rattle.sim_tape.specs.Tape.{TapeTree, pair_value}
-use Rattle.sim_gates.specs.declared.writes.Store.{Store}
-use Rattle.sim_flat.specs.declared.flat.Flat.{Flat}
+use Rattle.sim_tape.specs.Tape.{pair_value}
 use Rattle.sim_flat.specs.Flat.{HasNumber}
 use Rattle.sim_flat.proofs.Standing.{in_top}
-use Rattle.sim_design.specs.declared.drafts.Commit.{Commit}
-use Rattle.sim_design.specs.declared.drafts.Width.{Width}
 use Rattle.sim_design.specs.States.{CellsAre}
 use Rattle.cycle_sim.specs.SlotsTold.{number_told, cell_told, pair_of, told_by}
-use Rattle.cycle_sim.specs.Machines.{IsMachine, HasCells, IsShown}
+use Rattle.cycle_sim.specs.declared.parts.Parts.{Parts}
+use Rattle.cycle_sim.specs.Machines.{HasCells, IsShown}
+use Rattle.cycle_sim.specs.Wholes.{AreParts}
 use Rattle.cycle_sim.proofs.Numbering.{number_is_found, net_number, named_number, tree_at}
 
 pub some_is : {A : Type 0} (o : Option A) → IsSome o → (x : A) × (o ≡ Some x)
 some_is None h = cc
 some_is (Some x) h = (x, refl)
-
-below : (a k : ℕ) → a < k → nat_lt a k ≡ true
-below a k h = grind (arith, nat_tests)
-
-past : (a k : ℕ) → k ≤ a → nat_lt a k ≡ false
-past a k h = grind (arith, nat_tests)
 
 -- past the end of both halves a cell is 0
 pub cell_past : (cells : Cells) (q : Pair) (k a : ℕ) → length (get_or cells q.low []) ≡ k → length (get_or cells q.high []) ≡ k → k ≤ a → 0 ≡ cell_in cells q.high a * 2 ^ 64 + cell_in cells q.low a
@@ -52,14 +43,16 @@ pub cells_are : (c : Cycle) (x : Name) (cells : Cells) (q : Pair) (k : ℕ) → 
     → ((a : ℕ) → a < k → c.cell x a ≡ cell_in cells q.high a * 2 ^ 64 + cell_in cells q.low a) → CellsAre c x k cells q
 cells_are c x cells q k low high is a = by_case (cases_lt a k) where
   by_case : (a < k) ⊎ (k ≤ a) → cond (nat_lt a k) (c.cell x a) 0 ≡ cell_in cells q.high a * 2 ^ 64 + cell_in cells q.low a
-  by_case (inl l) = ap (λ b. cond b (c.cell x a) 0) (below a k l) ∙ is a l
-  by_case (inr h) = ap (λ b. cond b (c.cell x a) 0) (past a k h) ∙ cell_past cells q k a low high h
+  by_case (inl l) = ap (λ b. cond b (c.cell x a) 0) (lt-ltb a k l) ∙ is a l
+  by_case (inr h) = ap (λ b. cond b (c.cell x a) 0) (le-ltb a k h) ∙ cell_past cells q k a low high h
 
 pub cell_is : (c : Cycle) (x : Name) (cells : Cells) (q : Pair) (k a : ℕ) → CellsAre c x k cells q → a < k → c.cell x a ≡ cell_in cells q.high a * 2 ^ 64 + cell_in cells q.low a
-cell_is c x cells q k a h low = ap (λ b. cond b (c.cell x a) 0) (sym (below a k low)) ∙ h a
+cell_is c x cells q k a h low = ap (λ b. cond b (c.cell x a) 0) (sym (lt-ltb a k low)) ∙ h a
 
-module _ (ms : List ModuleTree) (top : ModuleTree) (f : Flat) (pairs memories : List (Option Pair)) (widths : List Width) (t : TapeTree) (commits : List Commit) (stores : List Store)
-    (machine : IsMachine ms top f pairs memories widths t commits stores) (env : Environment) (nets : ℕ → Path → Cycle) (n : ℕ) (cells : Cells) (ns : List ℕ) where
+module _ (whole : Parts) (are : AreParts whole) (env : Environment) (nets : ℕ → Path → Cycle) (n : ℕ) (cells : Cells) (ns : List ℕ) where
+  open whole use {design.{modules as ms}, flat as f, machine.{pairs.{items as pairs}, memories.{items as memories}}}
+  open are use {top, machine}
+
   pair_found : (ps : List (Option Pair)) (number : ℕ) (k : FlatNet) (p : Pair) → HasNumber ms f number k → get_or ps number None ≡ Some p → pair_of ms f ps k.0 k.1 ≡ Some p
   pair_found ps number k p h e = ap (λ o. option_and_then (λ number. get_or ps number None) o) (number_is_found ms top f machine.flat number k h) ∙ e
 

@@ -1,6 +1,7 @@
 -- The nets of a design's top that its surroundings read: done, and those of streams and of memories around it.
 use Rattle.std.proofs.Common.{◌≡◌, ℕ, ◌≤◌, Bool, true, false, cond, ◌&&◌, List, [], ◌∷◌, Option, Some, None, map, inl, inr, refl, sym, ap, subst, ◌∙◌}
 use Rattle.std.specs.Prelude.{◌==◌, codes, nat_le, not, slice_get}
+use Rattle.std.proofs.lemmas.Bool.{leb-true}
 use Rattle.tapa_base.specs.declared.shape.Port.{Port}
 use Rattle.vlog_tree.specs.declared.tree.Item.{Item}
 use Rattle.vlog_tree.specs.declared.tree.Item.TheVariants.{Wire, Reg, Memory, Assign, Always, Instance}
@@ -21,7 +22,7 @@ use Rattle.vlog_run_laws.proofs.runs.Cycles.{port_stands}
 use Rattle.vlog_tree.proofs.Labelled.{labelled}
 use Rattle.vlog_run_laws.proofs.runs.TopPorts.{use_right, five_of, memory_clock}
 use Rattle.vlog_run_laws.proofs.runs.Settled.{IsTopTree, top_tree}
-use Rattle.cycle_sim.proofs.Asking.{le_of, five_ports, wdata_clock}
+use Rattle.cycle_sim.proofs.Asking.{five_ports, wdata_clock}
 
 ack_clock : (l : Name) → is_clk (m_ack l) ≡ false
 unfolding m_ack clk
@@ -181,4 +182,4 @@ module _ (ms : List ModuleTree) (place : ℕ) (design : IsDesign ms place) (top 
         (ap (λ z. net_kind_is_read (net_kind_of (declared top) z)) (sym name) ∙ ap net_kind_is_read is, din_clock l.name)
 
     pub din_bits : (2 ≤ l.bits) × (l.bits ≤ 65)
-    din_bits = (subst (λ w. 2 ≤ w) (sym said.wide) (le_of 2 said.width parts.0), subst (λ w. w ≤ 65) (sym said.wide) (le_of said.width 65 parts.1))
+    din_bits = (subst (λ w. 2 ≤ w) (sym said.wide) (leb-true 2 said.width parts.0), subst (λ w. w ≤ 65) (sym said.wide) (leb-true said.width 65 parts.1))

@@ -1,11 +1,11 @@
 -- Writes to slots and to cells, one after another.
-use Rattle.std.proofs.Common.{◌≡◌, ◌≢◌, ℕ, zero, suc, ◌+◌, ◌<◌, ◌≤◌, Bool, false, cond, List, [], ◌∷◌, Some, length, get_or, inl, inr, refl, sym, ap, subst, ◌∙◌, arith, eq-eqb}
+use Rattle.std.proofs.Common.{◌≡◌, ◌≢◌, ℕ, zero, suc, ◌+◌, ◌<◌, ◌≤◌, Bool, cond, List, [], ◌∷◌, Some, length, get_or, inl, inr, refl, sym, ap, subst, ◌∙◌, arith, eq-eqb}
 use Rattle.std.specs.Prelude.{◌⊎◌, ◌==◌, slice_get, slice_set, Vec}
 use Rattle.std.specs.declared.alloc.Global.{Global}
-use Rattle.std.proofs.lemmas.Bool.{cases_eq}
-use Rattle.std.proofs.lemmas.Bool.Decides.{nat_tests}
+use Rattle.std.proofs.lemmas.Bool.{cases_eq, ne_eqb}
 use Rattle.std.proofs.lemmas.List.{get_or-set_other}
 use Rattle.std.proofs.lemmas.Grind.{get_or-set_at}
+use Rattle.sim_pass.proofs.Reading.{cells_got}
 use Rattle.vlog_tree.specs.Environment.{set_cell}
 use Rattle.sim_tape.specs.declared.gates.Pair.{Pair}
 use Rattle.sim_tape.specs.Tape.{number_at}
@@ -17,21 +17,13 @@ use Rattle.cycle_sim.specs.Steps.{IsAway, PairHas, HaveSlots, supplied, put_list
 pub cond_here : {A : Type 0} (m i : ℕ) (x y : A) → m ≡ i → cond (m == i) x y ≡ x
 cond_here m i x y e = ap (λ b. cond b x y) (eq-eqb m i e)
 
-differs : (m i : ℕ) → (m ≡ i → ⊥) → (m == i) ≡ false
-differs m i h = grind (arith, nat_tests)
-
 pub cond_away : {A : Type 0} (m i : ℕ) (x y : A) → (m ≡ i → ⊥) → cond (m == i) x y ≡ y
-cond_away m i x y h = ap (λ b. cond b x y) (differs m i h)
+cond_away m i x y h = ap (λ b. cond b x y) (ne_eqb m i h)
 
 cells_set : (vs : List (Vec ℕ Global)) (i : ℕ) (v : Vec ℕ Global) → cells_of (slice_set vs i v) ≡ slice_set (cells_of vs) i v.items
 cells_set [] i v = refl
 cells_set (u ∷ vs) zero v = refl
 cells_set (u ∷ vs) (suc i) v = ap (λ z. u.items ∷ z) (cells_set vs i v)
-
-cells_got : (vs : List (Vec ℕ Global)) (i : ℕ) (d : Vec ℕ Global) → i < length vs → get_or (cells_of vs) i [] ≡ (get_or vs i d).items
-cells_got [] i d low = absurd (omega arith)
-cells_got (u ∷ vs) zero d low = refl
-cells_got (u ∷ vs) (suc i) d low = cells_got vs i d (omega arith)
 
 pub cells_long : (vs : List (Vec ℕ Global)) → length (cells_of vs) ≡ length vs
 cells_long [] = refl

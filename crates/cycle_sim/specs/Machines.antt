@@ -14,11 +14,8 @@ use Rattle.vlog_tree.specs.Environment.{Environment, shape_of, cells_at}
 use Rattle.sim_tape.specs.declared.gates.Pair.{Pair}
 use Rattle.sim_tape.specs.Operators.{Cells, cell_in}
 use Rattle.sim_tape.specs.Tape.{TapeTree, IsTape, pair_value}
-use Rattle.sim_gates.specs.declared.writes.Store.{Store}
 use Rattle.sim_flat.specs.declared.flat.Flat.{Flat}
 use Rattle.sim_flat.specs.Flat.{IsFlat, HasNumber}
-use Rattle.sim_design.specs.declared.drafts.Commit.{Commit}
-use Rattle.sim_design.specs.declared.drafts.Width.{Width}
 use Rattle.sim_design.specs.States.{ShowsPlaced, CellsAre, TellsNumbers}
 use Rattle.sim_design.specs.Given.{ArePlaced, AreGiven}
 use Rattle.sim_design.specs.Drafts.{AreMemories, AreNext}
@@ -26,6 +23,7 @@ use Rattle.cycle_sim.specs.declared.inputs.Supply.{Supply}
 use Rattle.cycle_sim.specs.declared.inputs.Supply.TheVariants.{Reset, Scalar, Ready}
 use Rattle.cycle_sim.specs.declared.inputs.Input.{Input}
 use Rattle.cycle_sim.specs.declared.cells.Outside.{Outside}
+use Rattle.cycle_sim.specs.declared.parts.Machine.{Machine}
 
 -- the names that a design's top declares, and the pairs of all its nets
 pub record IsTopPlaced (ms : List ModuleTree) (top : ModuleTree) (f : Flat) (pairs : List (Option Pair)) (t : TapeTree) (names : List Declaration) : Type 0 where
@@ -80,15 +78,14 @@ pub record AreOutside (ms : List ModuleTree) (top : ModuleTree) (f : Flat) (pair
   pub each : (i : ℕ) (l : Port) → slice_get (shape_of top).memories i ≡ Some l → (o : Outside) × (slice_get outside i ≡ Some o) × IsOutside ms f pairs l.name o
 
 -- a design on a tape, ready to run
-pub record IsMachine (ms : List ModuleTree) (top : ModuleTree) (f : Flat) (pairs memories : List (Option Pair)) (widths : List Width) (t : TapeTree)
-    (commits : List Commit) (stores : List Store) : Type 0 where
+pub record IsMachine (ms : List ModuleTree) (top : ModuleTree) (f : Flat) (k : Machine) : Type 0 where
   pub flat : IsFlat ms top f
-  pub tape : IsTape t
-  pub placed : ArePlaced ms top f pairs
-  pub given : AreGiven ms top f pairs t
-  pub numbered : AreMemories ms top f memories widths
-  pub tells : TellsNumbers ms top f pairs memories t
-  pub next : AreNext ms top f pairs memories t commits stores
+  pub tape : IsTape k.program
+  pub placed : ArePlaced ms top f k.pairs.items
+  pub given : AreGiven ms top f k.pairs.items k.program
+  pub numbered : AreMemories ms top f k.memories.items k.widths.items
+  pub tells : TellsNumbers ms top f k.pairs.items k.memories.items k.program
+  pub next : AreNext ms top f k.pairs.items k.memories.items k.program k.commits.items k.stores.items
 
 -- each memory inside has two lists of half cells, each as long as the memory
 abbrev pub HasCells : List ModuleTree → ModuleTree → Flat → List (Option Pair) → Cells → Type 0

@@ -26,8 +26,8 @@ use vlog_design::Design;
 use vlog_scope::Scope;
 use vlog_tree::{ack_name, addr_name, rdy_name, wdata_name, we_name, wr_name};
 
-/// The inputs of the top with what they are given, the memories and the streams around a design, the pairs of its top's nets, and
-/// the pair of its `done`.
+/// The interface of a design to its environment: the inputs of the top with their supplies, the memories and the streams around the
+/// design, the pairs of its top's nets, and the pair of its `done`.
 #[derive(Drop)]
 pub struct Around {
     pub inputs: Vec<Input>,
@@ -116,7 +116,7 @@ fn all_streams(
     Ok(streams)
 }
 
-/// The interface of a design: the inputs of its top, of which scalars have these numbers, and the memories and streams.
+/// Finds the interface of a design. The scalars among its inputs have these numbers.
 #[tactic(auto, using(vlog_run_laws::proofs::runs::Ascii::done_ascii))]
 pub fn around_of(
     alloc: Global,
@@ -126,7 +126,7 @@ pub fn around_of(
 ) -> Result<Around, AllocError>
     ensures { IfOk result (λ a. (top : ModuleTree) (f : FlatTree) (t : TapeTree) → TopOf design.now top → IsFlat design.now.modules top f
         → ArePlaced design.now.modules top f pairs.now → AreGiven design.now.modules top f pairs.now t
-        → IsAround design.now.modules top f pairs.now scalars.now a.inputs.items a.outside.items a.streams.items a.shown.items a.done) }
+        → IsAround design.now.modules top f pairs.now scalars.now a) }
 {
     let scope = design.scope();
     let shape = design.shape(alloc)?;

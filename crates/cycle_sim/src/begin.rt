@@ -23,13 +23,11 @@ ghost use Rattle.cycle_sim.specs.Wholes.{AreParts, IsAround, IsSim, sim_tree};
 use crate::around::{Around, around_of};
 use crate::first::first_cells;
 use crate::inputs::give;
-use crate::parts::{Parts, State};
+use crate::parts::{Machine, Parts, State};
 use crate::registers::fill_registers;
-use sim_design::{Commit, TapeDraft, Width, draft_of};
+use sim_design::{TapeDraft, draft_of};
 use sim_flat::{Flat, flatten};
-use sim_gates::Store;
 use sim_pass::Schedule;
-use sim_tape::Pair;
 use std::alloc::{AllocError, Global};
 use vlog_design::{Design, Env};
 
@@ -44,24 +42,14 @@ fn copied(alloc: Global, ready: &[Vec<bool>]) -> Result<Vec<Vec<bool>>, AllocErr
     Ok(out)
 }
 
-// A draft whose tape is ready to run.
-struct Finished {
-    program: Schedule,
-    pairs: Vec<Option<Pair>>,
-    memories: Vec<Option<Pair>>,
-    widths: Vec<Width>,
-    commits: Vec<Commit>,
-    stores: Vec<Store>,
-}
-
-fn finish(alloc: Global, draft: TapeDraft) -> Result<Finished, AllocError>
+// Makes a draft's tape ready to run.
+fn finish(alloc: Global, draft: TapeDraft) -> Result<Machine, AllocError>
     requires { IsTape (tree_of draft.tape) }
-    ensures machine { IfOk result (λ f. (ms : List ModuleTree) (m : ModuleTree) (flat : FlatTree) → IsDraft ms m flat draft
-        → IsMachine ms m flat f.pairs.items f.memories.items f.widths.items f.program f.commits.items f.stores.items) }
-    ensures pairs { IfOk result (λ f. f.pairs ≡ draft.pairs) }
+    ensures machine { IfOk result (λ k. (ms : List ModuleTree) (m : ModuleTree) (flat : FlatTree) → IsDraft ms m flat draft → IsMachine ms m flat k) }
+    ensures pairs { IfOk result (λ k. k.pairs ≡ draft.pairs) }
 {
     let program = Schedule::of_tape(alloc, draft.tape)?;
-    Ok(Finished {
+    Ok(Machine {
         program,
         pairs: draft.pairs,
         memories: draft.memories,
@@ -71,27 +59,25 @@ fn finish(alloc: Global, draft: TapeDraft) -> Result<Finished, AllocError>
     })
 }
 
-// The tape of a flattened design, and the design's interface to its environment.
+// Puts a flattened design on a tape, and finds its interface to its environment.
 fn laid_out(
     alloc: Global,
     design: &Design,
     flat: &Flat,
     scalars: &[u64],
-) -> Result<(Finished, Around), AllocError>
+) -> Result<(Machine, Around), AllocError>
     requires { (m : ModuleTree) → TopOf design.now m → IsFlat design.now.modules m flat.now }
-    ensures machine { IfOk result (λ r. (m : ModuleTree) → TopOf design.now m
-        → IsMachine design.now.modules m flat.now r.0.pairs.items r.0.memories.items r.0.widths.items r.0.program r.0.commits.items r.0.stores.items) }
-    ensures around { IfOk result (λ r. (m : ModuleTree) → TopOf design.now m
-        → IsAround design.now.modules m flat.now r.0.pairs.items scalars.now r.1.inputs.items r.1.outside.items r.1.streams.items r.1.shown.items r.1.done) }
+    ensures machine { IfOk result (λ r. (m : ModuleTree) → TopOf design.now m → IsMachine design.now.modules m flat.now r.0) }
+    ensures around { IfOk result (λ r. (m : ModuleTree) → TopOf design.now m → IsAround design.now.modules m flat.now r.0.pairs.items scalars.now r.1) }
 {
     design.valid();
     let draft = draft_of(alloc, design, flat)?.unwrap();
     let around = around_of(alloc, design, &draft.pairs, scalars)?;
-    let finished = finish(alloc, draft)?;
-    Ok((finished, around))
+    let machine = finish(alloc, draft)?;
+    Ok((machine, around))
 }
 
-/// A design on a tape, with its interface to the environment.
+/// Puts a design on a tape, with its interface to the environment.
 pub fn parts_of(alloc: Global, design: Design, around: &Env) -> Result<Parts, AllocError>
     ensures parts { IfOk result (λ p. AreParts p) }
     ensures design { IfOk result (λ p. p.design ≡ design) }
@@ -102,55 +88,31 @@ pub fn parts_of(alloc: Global, design: Design, around: &Env) -> Result<Parts, Al
     let scalars = around.scalars.as_slice().to_vec(alloc)?;
     let ready = copied(alloc, &around.ready)?;
     let flat = flatten(alloc, &design)?;
-    let (finished, around) = laid_out(alloc, &design, &flat, &scalars)?;
-    let Finished {
-        program,
-        pairs,
-        memories,
-        widths,
-        commits,
-        stores,
-    } = finished;
-    let Around {
-        inputs,
-        outside,
-        streams,
-        shown,
-        done,
-    } = around;
+    let (machine, around) = laid_out(alloc, &design, &flat, &scalars)?;
     Ok(Parts {
         design,
         flat,
-        pairs,
-        memories,
-        widths,
-        program,
-        commits,
-        stores,
+        machine,
+        around,
         scalars,
-        inputs,
-        outside,
-        streams,
-        shown,
-        done,
         ready,
     })
 }
 
-// Gives all slots the numbers of the first cycle.
+// Writes the numbers of the first cycle to all slots.
 fn first_numbers(parts: &Parts, fill: u64, cells: &[Vec<u64>], numbers: &mut [u64])
     requires parts { AreParts parts.now }
-    requires size { length numbers.old ≡ length parts.now.program.gates }
-    ensures solved { IsSolved parts.now.program (cells_of cells.now) numbers.new }
-    ensures given { (i : ℕ) (a : InputTree) → slice_get parts.now.inputs.items i ≡ Some a → pair_value numbers.new a.pair ≡ supplied (lists_of parts.now.ready.items) 0 a.supply }
-    ensures filled { (number bits : ℕ) (p : PairTree) → IsHeldAt parts.now.flat parts.now.pairs.items number bits p → pair_value numbers.new p ≡ fill % 2 ^ bits }
+    requires size { length numbers.old ≡ length parts.now.machine.program.gates }
+    ensures solved { IsSolved parts.now.machine.program (cells_of cells.now) numbers.new }
+    ensures given { (i : ℕ) (a : InputTree) → slice_get parts.now.around.inputs.items i ≡ Some a → pair_value numbers.new a.pair ≡ supplied (lists_of parts.now.ready.items) 0 a.supply }
+    ensures filled { (number bits : ℕ) (p : PairTree) → IsHeldAt parts.now.flat parts.now.machine.pairs.items number bits p → pair_value numbers.new p ≡ fill % 2 ^ bits }
 {
-    fill_registers(&parts.flat, &parts.pairs, fill, numbers);
-    give(&parts.inputs, &parts.ready, 0, numbers);
-    parts.program.pass(numbers, cells);
+    fill_registers(&parts.flat, &parts.machine.pairs, fill, numbers);
+    give(&parts.around.inputs, &parts.ready, 0, numbers);
+    parts.machine.program.pass(numbers, cells);
 }
 
-/// The first cycle, where every register and every cell inside holds `fill` modulo 2 to the power of its width, and the memories
+/// Returns the first cycle: every register and every cell inside holds `fill` modulo 2 to the power of its width, and the memories
 /// around the design hold these cells.
 pub fn first_state(
     alloc: Global,
@@ -165,11 +127,12 @@ pub fn first_state(
         → env.memories ≡ lists_of memories.now
         → TellsEachRun parts.now.design.modules m env fill (sim_tree parts.now s).told) }
 {
-    let cells = first_cells(alloc, memories, parts.outside.len(), &parts.widths, fill)?;
-    let mut numbers = vec![in alloc; 0; parts.program.len()]?;
+    let outside = parts.around.outside.len();
+    let cells = first_cells(alloc, memories, outside, &parts.machine.widths, fill)?;
+    let mut numbers = vec![in alloc; 0; parts.machine.program.len()]?;
     first_numbers(parts, fill, &cells, &mut numbers);
-    let given = vec![in alloc; 0; parts.program.len()]?;
-    let marks = parts.program.marks(alloc)?;
+    let given = vec![in alloc; 0; parts.machine.program.len()]?;
+    let marks = parts.machine.program.marks(alloc)?;
     Ok(State {
         cycle: 0,
         numbers,

@@ -11,7 +11,7 @@ use crate::slots::{is_one, number};
 use sim_gates::Store;
 use sim_tape::Pair;
 
-/// A memory around the design: the pairs and the slot of what it is asked.
+/// A memory around the design: the pairs and the slot of its ports.
 #[derive(Clone, Copy)]
 pub struct Outside {
     pub ack: Pair,
@@ -36,7 +36,7 @@ fn put_cell(cells: &mut [Vec<u64>], memory: usize, at: usize, n: u64)
     }
 }
 
-// Whether a store is made in a cycle.
+// Checks whether a store is made in a cycle.
 fn is_made(numbers: &[u64], store: &Store) -> bool
     ensures { result ≡ is_made_lem numbers.now store.now }
 {
@@ -63,7 +63,7 @@ fn store(numbers: &[u64], store: &Store, cells: &mut [Vec<u64>])
     }
 }
 
-// The stores of a cycle, in the order of the text.
+// Makes the stores of a cycle, in the order of the text.
 fn store_all(numbers: &[u64], stores: &[Store], cells: &mut [Vec<u64>])
     ensures { (m : ℕ) → get_or (cells_of cells.new) m [] ≡ stored_all numbers.now m (get_or (cells_of cells.old) m []) stores.now }
 {
@@ -72,7 +72,7 @@ fn store_all(numbers: &[u64], stores: &[Store], cells: &mut [Vec<u64>])
     }
 }
 
-// Whether a memory around the design is written in a cycle.
+// Checks whether a memory around the design is written in a cycle.
 fn is_written(numbers: &[u64], o: &Outside) -> bool
     ensures { result ≡ is_written_lem numbers.now o.now }
 {
@@ -120,7 +120,7 @@ fn no_memory_is_written(numbers: &[u64], outside: &[Outside]) -> bool
     true
 }
 
-// Whether no cell is written in a cycle.
+// Checks whether no cell is written in a cycle.
 fn no_cell_is_written(numbers: &[u64], stores: &[Store], outside: &[Outside]) -> bool
     ensures stores { IsTrue result → AreUnmade numbers.now stores.now }
     ensures outside { IsTrue result → AreUnwritten numbers.now outside.now }
@@ -132,8 +132,7 @@ fn no_cell_is_written(numbers: &[u64], stores: &[Store], outside: &[Outside]) ->
     no_memory_is_written(numbers, outside)
 }
 
-/// Makes the stores of a cycle and the writes to the memories around the design, each at its index. Says whether there is
-/// any.
+/// Makes the stores of a cycle and the writes to the memories around the design, each at its index. Returns whether there is any.
 pub fn write_all(
     numbers: &[u64],
     stores: &[Store],

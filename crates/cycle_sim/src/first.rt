@@ -10,7 +10,7 @@ ghost use Rattle.cycle_sim.specs.Firsts.{width_lists};
 use sim_design::Width;
 use std::alloc::{AllocError, Global};
 
-/// The low bits of a number.
+/// Returns the low bits of a number.
 pub fn cut(fill: u64, bits: u32) -> u64
     ensures { result ≡ fill % 2 ^ bits }
 {
@@ -31,7 +31,7 @@ fn add_width(
     Ok(())
 }
 
-// The cells of the memories inside a design, all with one number, after those outside.
+// Adds the cells of the memories inside a design, all with one number, after those outside.
 fn add_widths(
     alloc: Global,
     all: &mut Vec<Vec<u64>>,
@@ -46,8 +46,8 @@ fn add_widths(
     Ok(())
 }
 
-// Asks for room for the numbers of all memories inside at once, and gives it back: where a short text has more of them than there
-// is memory for, it is refused before the first one is filled.
+// Allocates room for the numbers of all memories inside at once, and frees it: if a short text has more of them than there is memory
+// for, memory runs out before the first one is filled.
 fn ask_room(alloc: Global, widths: &[Width]) -> Result<(), AllocError> {
     let mut numbers: usize = 0;
     for width in widths {
@@ -66,7 +66,7 @@ fn cells_at(alloc: Global, memories: &[Vec<u64>], at: usize) -> Result<Vec<u64>,
     }
 }
 
-// The cells of `count` memories around a design.
+// Returns the cells of `count` memories around a design.
 fn outside_cells(
     alloc: Global,
     memories: &[Vec<u64>],
@@ -83,7 +83,7 @@ fn outside_cells(
     Ok(all)
 }
 
-/// The cells of `count` memories around a design, and after them those of the memories inside, all with one number.
+/// Returns the cells of `count` memories around a design, and after them those of the memories inside, all with one number.
 pub fn first_cells(
     alloc: Global,
     memories: &[Vec<u64>],

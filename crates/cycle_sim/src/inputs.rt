@@ -1,4 +1,4 @@
-// What the inputs of the top are given.
+// The inputs of the top and their supplies.
 
 ghost use Rattle.std.specs.Prelude.{◌≡◌, ℕ, Bool, List, [], Some, true, length, slice_get, slice_index_or};
 ghost use Rattle.vlog_tree.specs.Environment.{ready_at};
@@ -10,7 +10,7 @@ ghost use Rattle.cycle_sim.specs.Steps.{HaveSlots, IsAway, PairHas, supplied as 
 use crate::slots::{number, put_pair};
 use sim_tape::Pair;
 
-/// What an input of the top is given: reset, a number that stays, or whether the memory at an index is ready.
+/// The supply of an input of the top: the reset, a number that stays, or 1 while the memory at an index is ready.
 #[derive(Clone, Copy)]
 pub enum Supply {
     Reset,
@@ -18,7 +18,7 @@ pub enum Supply {
     Ready(usize),
 }
 
-/// The slots of an input of the top, and what it is given.
+/// The slots of an input of the top, and its supply.
 #[derive(Clone, Copy)]
 pub struct Input {
     pub pair: Pair,
@@ -56,7 +56,7 @@ fn supplied(ready: &[Vec<bool>], cycle: u64, supply: Supply) -> u64
     }
 }
 
-/// Gives the inputs of the top what the environment has in a cycle.
+/// Writes the numbers that the environment supplies in a cycle to the inputs of the top.
 pub fn give(inputs: &[Input], ready: &[Vec<bool>], cycle: u64, numbers: &mut [u64])
     requires { HaveSlots (length numbers.old) inputs.now }
     ensures values { (i : ℕ) (a : InputTree) → slice_get inputs.now i ≡ Some a → PairHas numbers.new a.pair (supplied_lem (lists_of ready.now) cycle a.supply) }
@@ -67,7 +67,7 @@ pub fn give(inputs: &[Input], ready: &[Vec<bool>], cycle: u64, numbers: &mut [u6
     }
 }
 
-// Whether a pair has a number of at most 64 bits.
+// Checks whether a pair has a number of at most 64 bits.
 fn has_number(numbers: &[u64], pair: Pair, n: u64) -> bool
     ensures { result ≡ true → PairHas numbers.now pair n }
 {
@@ -77,7 +77,7 @@ fn has_number(numbers: &[u64], pair: Pair, n: u64) -> bool
     pair.high == 0 || number(numbers, pair.high) == 0
 }
 
-/// Whether the inputs of the top have what the environment gives in a cycle.
+/// Checks whether the inputs of the top have the numbers that the environment supplies in a cycle.
 pub fn are_given(inputs: &[Input], ready: &[Vec<bool>], cycle: u64, numbers: &[u64]) -> bool
     ensures { result ≡ true → (i : ℕ) (a : InputTree) → slice_get inputs.now i ≡ Some a → PairHas numbers.now a.pair (supplied_lem (lists_of ready.now) cycle a.supply) }
 {

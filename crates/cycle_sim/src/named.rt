@@ -15,7 +15,7 @@ use std::alloc::{AllocError, Global};
 use tapa_base::Text;
 use vlog_scope::Scope;
 
-/// The name `s_X_din`.
+/// Returns the name `s_X_din`.
 #[tactic(auto, unfolding(vlog_tree::specs::Labels::s_din))]
 pub fn din_name(alloc: Global, label: &[u8]) -> Result<Vec<u8>, AllocError>
     ensures { IfOk result (λ v. v.items ≡ s_din label.now) }
@@ -26,7 +26,7 @@ pub fn din_name(alloc: Global, label: &[u8]) -> Result<Vec<u8>, AllocError>
     Ok(name)
 }
 
-/// The name `done`.
+/// Returns the name `done`.
 #[tactic(auto, unfolding(vlog_tree::specs::Labels::done))]
 pub fn done_name(alloc: Global) -> Result<Vec<u8>, AllocError>
     ensures { IfOk result (λ v. v.items ≡ done) }
@@ -34,7 +34,7 @@ pub fn done_name(alloc: Global) -> Result<Vec<u8>, AllocError>
     b"done".to_vec(alloc)
 }
 
-/// The pair of a name that can be read; the constant 0 where there is no such name.
+/// Returns the pair of a name that can be read, and the constant 0 if there is no such name.
 pub fn pair_named(scope: &Scope, pairs: &[Option<Pair>], name: Vec<u8>) -> Pair
     requires { IsAscii name.items }
     ensures { (ms : List ModuleTree) (top : ModuleTree) (f : FlatTree) (t : TapeTree) (x : List ℕ) → IsTopPlaced ms top f pairs.now t scope.now → name.items ≡ x

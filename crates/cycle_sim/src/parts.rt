@@ -10,8 +10,9 @@ ghost use Rattle.cycle_sim.specs.Sims.{InRuns, IsNext, IsCarried};
 ghost use Rattle.cycle_sim.specs.ShownNets.{shown_nets};
 ghost use Rattle.cycle_sim.specs.Wholes.{IsSim, sim_tree, token_on};
 
-use crate::cells::{Outside, write_all};
-use crate::inputs::{Input, are_given, give};
+use crate::around::Around;
+use crate::cells::write_all;
+use crate::inputs::{are_given, give};
 use crate::slots::{is_one, number, take_over};
 use sim_design::{Commit, Width};
 use sim_flat::Flat;
@@ -30,29 +31,32 @@ pub struct Stream {
     pub bits: u32,
 }
 
-/// A design, the numbers of its nets, their pairs of slots, and by names of memories the numbers of their lists of cells; the
-/// tape, what registers take over, what is stored, the interface to the environment, and the pairs of its top's nets.
+/// A design's tape, ready to run: the pairs of slots of its nets, the numbers of its memories' lists of cells, the sizes of these
+/// memories, the gates, what registers latch, and what is stored.
 #[derive(Drop)]
-pub struct Parts {
-    pub design: Design,
-    pub flat: Flat,
+pub struct Machine {
     pub pairs: Vec<Option<Pair>>,
     pub memories: Vec<Option<Pair>>,
     pub widths: Vec<Width>,
     pub program: Schedule,
     pub commits: Vec<Commit>,
     pub stores: Vec<Store>,
+}
+
+/// A design, the numbers of its nets, its tape, its interface to the environment, and what the environment gives: scalars, and when
+/// memories are ready.
+#[derive(Drop)]
+pub struct Parts {
+    pub design: Design,
+    pub flat: Flat,
+    pub machine: Machine,
+    pub around: Around,
     pub scalars: Vec<u64>,
-    pub inputs: Vec<Input>,
-    pub outside: Vec<Outside>,
-    pub streams: Vec<Stream>,
-    pub shown: Vec<Pair>,
-    pub done: Pair,
     pub ready: Vec<Vec<bool>>,
 }
 
-/// A cycle: its number, the numbers of all slots and the cells of all memories; and what the next cycle is worked out with: room for
-/// the numbers that slots are given, marks of the gates that are to be worked out, and whether nothing changes while the inputs stay.
+/// A cycle: its number, the numbers of all slots and the cells of all memories. Beside these are buffers for the next cycle: room for
+/// the numbers that slots are given, marks of the gates to evaluate, and whether nothing changes while the inputs stay.
 #[derive(Drop)]
 pub struct State {
     pub cycle: u64,
@@ -63,7 +67,7 @@ pub struct State {
     pub is_still: bool,
 }
 
-// Whether nothing changes while the inputs stay: no number has changed, and no cell is written.
+// Checks whether nothing changes while the inputs stay: no number has changed, and no cell is written.
 fn is_still(is_same: bool, is_written: bool) -> bool
     ensures same { result ≡ true → is_same ≡ true }
     ensures unwritten { result ≡ true → is_written ≡ false }
@@ -71,7 +75,7 @@ fn is_still(is_same: bool, is_written: bool) -> bool
     is_same && !is_written
 }
 
-// Works the next cycle out. Where few numbers change, only gates that read these are.
+// Works out the next cycle. If few numbers change, only gates that read these are evaluated.
 fn work_out(parts: &Parts, state: &mut State)
     requires sim { IsSim parts.now state.old }
     requires few { state.old.cycle + 1 < 2 ^ 64 }
@@ -80,14 +84,19 @@ fn work_out(parts: &Parts, state: &mut State)
 {
     let is_written = write_all(
         &state.numbers,
-        &parts.stores,
-        &parts.outside,
+        &parts.machine.stores,
+        &parts.around.outside,
         &mut state.cells,
     );
-    take_over(&parts.commits, &state.numbers, &mut state.given);
+    take_over(&parts.machine.commits, &state.numbers, &mut state.given);
     state.cycle += 1;
-    give(&parts.inputs, &parts.ready, state.cycle, &mut state.given);
-    let is_same = parts.program.follow(
+    give(
+        &parts.around.inputs,
+        &parts.ready,
+        state.cycle,
+        &mut state.given,
+    );
+    let is_same = parts.machine.program.follow(
         &state.given,
         is_written,
         &mut state.numbers,
@@ -97,26 +106,33 @@ fn work_out(parts: &Parts, state: &mut State)
     state.is_still = is_still(is_same, is_written);
 }
 
-/// Goes to the next cycle. Where nothing changes while the inputs stay, and they do, that is one like this.
+/// Goes to the next cycle. If nothing changes while the inputs stay, and they do, the next cycle is like this one.
 pub fn advance(parts: &Parts, state: &mut State)
     requires sim { IsSim parts.now state.old }
     requires few { state.old.cycle + 1 < 2 ^ 64 }
     ensures sim { IsSim parts.now state.new }
     ensures next { IsNext (sim_tree parts.now state.old) (sim_tree parts.now state.new) }
 {
-    if state.is_still && are_given(&parts.inputs, &parts.ready, state.cycle + 1, &state.given) {
+    if state.is_still
+        && are_given(
+            &parts.around.inputs,
+            &parts.ready,
+            state.cycle + 1,
+            &state.given,
+        )
+    {
         state.cycle += 1;
         return;
     }
     work_out(parts, state);
 }
 
-/// Whether the design is done in a cycle.
+/// Checks whether the design is done in a cycle.
 pub fn is_done(parts: &Parts, state: &State) -> bool
     requires { IsSim parts.now state.now }
     ensures { InRuns (sim_tree parts.now state.now) (λ m env nets. IsTrue result ↔ RaisesDone (λ n. nets n []) state.now.cycle) }
 {
-    state.cycle > 0 && is_one(&state.numbers, parts.done)
+    state.cycle > 0 && is_one(&state.numbers, parts.around.done)
 }
 
 fn join(low: u64, high: u64) -> u128
@@ -125,7 +141,7 @@ fn join(low: u64, high: u64) -> u128
     (u128::from(high) << 64) + u128::from(low)
 }
 
-// What the bits of a stream say: an end where the highest one is set, and else a datum.
+// Returns the token that the bits of a stream encode: an end if the highest bit is set, and otherwise a datum.
 #[tactic(auto, using(vlog_tree::proofs::Tokens::low_datum))]
 fn token_of(bits: u32, din: u128) -> Token
     requires low { 2 ≤ bits }
@@ -153,12 +169,12 @@ fn carries(numbers: &[u64], s: &Stream) -> Option<Token>
     }
 }
 
-/// The token that a stream carries in a cycle; in cycle 0 it carries none.
+/// Returns the token that a stream carries in a cycle. In cycle 0 a stream carries none.
 pub fn carried(parts: &Parts, state: &State, place: usize) -> Option<Token>
     requires { IsSim parts.now state.now }
     ensures { IsCarried (sim_tree parts.now state.now) place result }
 {
-    match parts.streams.get(place) {
+    match parts.around.streams.get(place) {
         Some(s) => {
             if state.cycle == 0 {
                 None
@@ -170,14 +186,14 @@ pub fn carried(parts: &Parts, state: &State, place: usize) -> Option<Token>
     }
 }
 
-/// The number of a net of the top in a cycle, by its index among those that have one; past the last, 0.
+/// Returns the number of a net of the top in a cycle, by its index among those that have one, and 0 past the last.
 pub fn shown_value(parts: &Parts, state: &State, place: usize) -> u128
     requires { IsSim parts.now state.now }
     ensures told { (m : ModuleTree) (d : DeclarationTree) → TopOf parts.now.design m → slice_get (shown_nets m) place ≡ Some d
         → result ≡ (sim_tree parts.now state.now).told.number [] d.name }
     ensures fits { InRuns (sim_tree parts.now state.now) (λ m env nets. (d : DeclarationTree) → slice_get (shown_nets m) place ≡ Some d → result < 2 ^ d.bits) }
 {
-    match parts.shown.get(place) {
+    match parts.around.shown.get(place) {
         Some(pair) => join(
             number(&state.numbers, pair.low),
             number(&state.numbers, pair.high),
@@ -186,7 +202,7 @@ pub fn shown_value(parts: &Parts, state: &State, place: usize) -> u128
     }
 }
 
-/// The cells of a list in a cycle.
+/// Returns the cells of a list in a cycle.
 pub fn cells_in(state: &State, m: usize) -> &[u64]
     ensures { result.now ≡ get_or (cells_of state.now.cells.items) m [] }
 {

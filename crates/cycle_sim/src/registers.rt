@@ -20,7 +20,7 @@ fn is_register(net_kind: NetKind) -> bool
     matches!(net_kind, NetKind::Register)
 }
 
-// The pair of a register and its bits, by its net's number.
+// Returns the pair of a register and its width in bits, by its net's number.
 fn held_at(flat: &Flat, pairs: &[Option<Pair>], number: usize) -> Option<(Pair, u32)>
     ensures is { IfSome result (λ r. IsHeldAt flat.now pairs.now number r.1 r.0) }
     ensures some { (bits : ℕ) (p : PairTree) → IsHeldAt flat.now pairs.now number bits p → result ≡ Some (p, bits) }
@@ -48,7 +48,7 @@ fn fill_register(flat: &Flat, pairs: &[Option<Pair>], number: usize, fill: u64, 
     put_pair(numbers, pair, cut(fill, bits));
 }
 
-/// Gives all registers one number, each cut to its width.
+/// Writes one number to all registers, modulo 2 to the power of each one's width.
 pub fn fill_registers(flat: &Flat, pairs: &[Option<Pair>], fill: u64, numbers: &mut [u64])
     requires { AreHeld flat.now pairs.now (length numbers.old) }
     ensures { (number bits : ℕ) (p : PairTree) → IsHeldAt flat.now pairs.now number bits p → PairHas numbers.new p (fill % 2 ^ bits) }

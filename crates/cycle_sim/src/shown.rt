@@ -15,14 +15,14 @@ use vlog_rules::{is_clock, is_read};
 use vlog_scope::Scope;
 use vlog_tree::Declaration;
 
-/// Whether a name is a net that has a value in each cycle: a port but the clock, a wire or a register.
+/// Checks whether a name is a net that has a value in each cycle: a port except the clock, a wire or a register.
 pub fn is_shown(d: &Declaration) -> bool
     ensures { result ≡ is_shown_lem d.now }
 {
     is_read(d.net_kind) && !is_clock(&d.name)
 }
 
-// The pair at the index of a name that is shown, and none for another name.
+// Returns the pair at the index of a name that is shown, and `None` for another name.
 fn shown_at(pairs: &[Option<Pair>], place: usize, d: &Declaration) -> Option<Pair>
     ensures shown { is_shown_lem d.now ≡ true → result ≡ get_or pairs.now place None }
     ensures other { is_shown_lem d.now ≡ false → result ≡ None }
@@ -43,7 +43,7 @@ fn add_pair(shown: &mut Vec<Pair>, pair: Option<Pair>) -> Result<(), AllocError>
     Ok(())
 }
 
-/// The pairs of the ports of the top but the clock, of its wires and of its registers, in the order of the text.
+/// Lists the pairs of the ports of the top except the clock, of its wires and of its registers, in the order of the text.
 pub fn all_shown(
     alloc: Global,
     scope: &Scope,

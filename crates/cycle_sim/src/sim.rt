@@ -19,8 +19,7 @@ use tapa_base::Token;
 use vlog_design::{Design, Env};
 
 impl Sim {
-    /// A design in cycle 0, in an environment, where every register and every cell holds `fill` modulo 2 to the power of
-    /// its width.
+    /// Starts a design in cycle 0, in an environment. Every register and every cell holds `fill` modulo 2 to the power of its width.
     pub fn new(alloc: Global, design: Design, around: &Env, fill: u64) -> Result<Sim, AllocError>
         ensures { IfOk result (λ sim. IsNewSim design (environment_of around.now) fill (sim_of sim)) }
     {
@@ -37,75 +36,59 @@ impl Sim {
         advance(&self.parts, &mut self.state);
     }
 
-    /// The number of the cycle.
+    /// Returns the number of the cycle.
     pub fn cycle(&self) -> u64
         ensures { result ≡ (sim_of self.now).told.cycle }
     {
         self.state.cycle
     }
 
-    /// Whether the design is done in this cycle.
+    /// Checks whether the design is done in this cycle.
     pub fn done(&self) -> bool
         ensures { InRuns (sim_of self.now) (λ m env nets. IsTrue result ↔ RaisesDone (λ n. nets n []) (sim_of self.now).told.cycle) }
     {
         is_done(&self.parts, &self.state)
     }
 
-    /// The token that a stream carries in this cycle, by its index among the streams; in cycle 0 it carries none.
+    /// Returns the token that a stream carries in this cycle, by the stream's index. In cycle 0 a stream carries none.
     pub fn token(&self, stream: u32) -> Option<Token>
         ensures { IsCarried (sim_of self.now) stream result }
     {
         carried(&self.parts, &self.state, stream as usize)
     }
 
-    /// The cells of a memory around the design in this cycle, before its store, by the memory's index in the shape.
+    /// Returns the cells of a memory around the design in this cycle, before its store, by the memory's index in the shape.
     pub fn memory(&self, m: u32) -> &[u64]
         ensures { result.now ≡ (sim_of self.now).told.outside m }
     {
         cells_in(&self.state, m as usize)
     }
 
-    /// The value in this cycle of a net of the top, by its index among the ports but the clock, and then the wires and the
-    /// registers, in the order of the text (IEEE 1364-2005, two-valued); past the last, 0.
-    pub fn value(&self, net: u32) -> u128
+    /// Returns the value in this cycle of a net of the top, by its index among the ports except the clock, and then the wires and
+    /// the registers, in the order of the text (IEEE 1364-2005, two-valued). Returns 0 past the last.
+    pub fn value(&self, net: usize) -> u128
         ensures told { (m : ModuleTree) (d : DeclarationTree) → TopOf (sim_of self.now).design m → slice_get (shown_nets m) net ≡ Some d → result ≡ (sim_of self.now).told.number [] d.name }
         ensures fits { InRuns (sim_of self.now) (λ m env nets. (d : DeclarationTree) → slice_get (shown_nets m) net ≡ Some d → result < 2 ^ d.bits) }
     {
-        self.value_at(net as usize)
+        shown_value(&self.parts, &self.state, net)
     }
 
-    /// The value in this cycle of the net of the top at any index, past the last of them 0.
-    pub fn value_at(&self, place: usize) -> u128
-        ensures told { (m : ModuleTree) (d : DeclarationTree) → TopOf (sim_of self.now).design m → slice_get (shown_nets m) place ≡ Some d
-            → result ≡ (sim_of self.now).told.number [] d.name }
-        ensures fits { InRuns (sim_of self.now) (λ m env nets. (d : DeclarationTree) → slice_get (shown_nets m) place ≡ Some d → result < 2 ^ d.bits) }
-    {
-        shown_value(&self.parts, &self.state, place)
-    }
-
-    /// The design that it was made with.
+    /// Returns the design that the simulator was made with.
     pub fn design(&self) -> &Design
         ensures { result.now ≡ (sim_of self.now).design }
     {
         &self.parts.design
     }
 
-    /// How many streams the design has.
+    /// Returns the number of streams that the design has.
     pub fn streams(&self) -> usize
         ensures { (m : ModuleTree) → TopOf (sim_of self.now).design m → result ≡ length (streams_of m) }
     {
-        self.parts.streams.len()
-    }
-
-    // The token of a stream, by any index.
-    fn token_at(&self, place: usize) -> Option<Token>
-        ensures { IsCarried (sim_of self.now) place result }
-    {
-        carried(&self.parts, &self.state, place)
+        self.parts.around.streams.len()
     }
 }
 
-/// What the streams carried, by their indices, and the cycle in which the design was done.
+/// The tokens that the streams carried, by the streams' indices, and the cycle in which the design was done.
 #[derive(Drop)]
 pub struct Carried {
     pub tokens: Vec<Vec<Token>>,
@@ -115,7 +98,7 @@ pub struct Carried {
 fn add_token(sim: &Sim, place: usize, tokens: &mut Vec<Token>) -> Result<(), AllocError>
     ensures { OnOk result (IsAdded (sim_of sim.now) place tokens.old.items tokens.new.items) }
 {
-    if let Some(token) = sim.token_at(place) {
+    if let Some(token) = carried(&sim.parts, &sim.state, place) {
         tokens.push(token)?;
     }
     Ok(())
@@ -152,9 +135,9 @@ fn go_on(sim: &mut Sim, tokens: &mut [Vec<Token>]) -> Result<(), AllocError>
     add_tokens(sim, tokens)
 }
 
-/// Steps until the design is done or to a cycle, and gives the tokens of the cycles from 1 on, and the first cycle in which the
-/// design is done. The simulator is then in the last of these cycles. Want of memory leaves it in one of them, from which
-/// it may go on.
+/// Steps until the design is done, or to cycle `limit`. Returns the tokens of the cycles from 1 on, and the first cycle in which the
+/// design is done. The simulator is then in the last of these cycles. If memory runs out, the simulator is in one of them, and may
+/// go on from there.
 pub fn run_cycles(alloc: Global, sim: &mut Sim, limit: u64) -> Result<Carried, AllocError>
     requires { (sim_of sim.old).told.cycle ≡ 0 }
     ensures done { IfOk result (λ r. InRuns (sim_of sim.old) (λ m env nets. IsDoneAt (λ n. nets n []) limit r.done_at)) }

@@ -1,4 +1,4 @@
-// Numbers of slots, and those that registers take over.
+// Numbers of slots, and those that registers latch.
 
 ghost use Rattle.std.specs.Prelude.{◌≡◌, ◌<◌, ℕ, Some, length, slice_get};
 ghost use Rattle.sim_tape.specs.Tape.{number_at};
@@ -8,7 +8,7 @@ ghost use Rattle.cycle_sim.specs.Steps.{HasRoom, IsAway, PairHas, AreOnce, is_on
 use sim_design::Commit;
 use sim_tape::Pair;
 
-/// The number of a slot, and 0 past the last.
+/// Returns the number of a slot, and 0 past the last.
 pub fn number(numbers: &[u64], slot: u32) -> u64
     ensures { result ≡ number_at numbers.now slot }
 {
@@ -18,14 +18,14 @@ pub fn number(numbers: &[u64], slot: u32) -> u64
     }
 }
 
-/// Whether a pair has the number 1.
+/// Checks whether a pair has the number 1.
 pub fn is_one(numbers: &[u64], pair: Pair) -> bool
     ensures { result ≡ is_one_lem numbers.now pair }
 {
     number(numbers, pair.high) == 0 && number(numbers, pair.low) == 1
 }
 
-/// Gives a pair a number of at most 64 bits.
+/// Writes a number of at most 64 bits to a pair.
 pub fn put_pair(numbers: &mut [u64], pair: Pair, n: u64)
     requires { HasRoom (length numbers.old) pair }
     ensures value { PairHas numbers.new pair n }
@@ -37,7 +37,7 @@ pub fn put_pair(numbers: &mut [u64], pair: Pair, n: u64)
     numbers[pair.low as usize] = n;
 }
 
-/// The numbers that registers take over, all at once.
+/// Writes the numbers that registers latch, all at once.
 pub fn take_over(commits: &[Commit], numbers: &[u64], given: &mut [u64])
     requires slots { (i : ℕ) (a : CommitTree) → slice_get commits.now i ≡ Some a → a.slot < length given.old }
     requires once { AreOnce commits.now }

@@ -1,4 +1,4 @@
-// The inputs of the top, with what each is given.
+// The inputs of the top, with the supply of each.
 
 ghost use Rattle.std.specs.Prelude.{◌≡◌, ◌++◌, ℕ, List, Some, None, IsSome, IfOk, OnOk, IfSome, bytes_eq, get_or, slice_get, slice_index};
 ghost use Rattle.std.specs.Option.{option_to_list};
@@ -40,7 +40,7 @@ fn number_at(numbers: &[u64], at: usize) -> u64
     }
 }
 
-// The first index of a label.
+// Returns the first index of a label.
 fn place_of(labels: &[Port], label: &[u8]) -> Option<usize>
     ensures { result ≡ place_lem labels.now label.now }
 {
@@ -67,7 +67,7 @@ fn ready_supply(labels: &[Port], label: &[u8]) -> Option<Supply>
     Some(Supply::Ready(place))
 }
 
-// What a name of the top is given, where it is the reset, a scalar's or the `ack` of a memory.
+// Returns the supply of a name of the top, if the name is that of the reset, of a scalar or of the `ack` of a memory.
 fn supply_of(shape: &Shape, scalars: &[u64], name: &Text) -> Option<Supply>
     ensures is { (top : ModuleTree) → shape.now.scalars.items ≡ (shape_of top).scalars → shape.now.memories.items ≡ (shape_of top).memories
         → IfSome result (λ s. IsSuppliedBy top scalars.now name.now s) }
@@ -85,7 +85,7 @@ fn supply_of(shape: &Shape, scalars: &[u64], name: &Text) -> Option<Supply>
     None
 }
 
-// The input at an index among the top's names; none where it is no input, or one that a memory answers.
+// Returns the input at an index among the top's names. Returns `None` if the name is not an input, or is one that a memory answers.
 fn input_at(
     shape: &Shape,
     scalars: &[u64],
@@ -124,7 +124,7 @@ fn add_input(inputs: &mut Vec<Input>, input: Option<Input>) -> Result<(), AllocE
     Ok(())
 }
 
-/// The inputs of the top but those that memories answer, in the order of the text; scalars have these numbers.
+/// Lists the inputs of the top except those that memories answer, in the order of the text. Scalars have these numbers.
 pub fn all_inputs(
     alloc: Global,
     scope: &Scope,

@@ -1,22 +1,21 @@
 -- What trees of ors make of their leaves.
-use Rattle.std.proofs.Common.{◌≡◌, ℕ, zero, suc, ◌+◌, ◌-◌, ◌*◌, ◌<◌, ◌≤◌, max, cond, eqb, List, [], ◌∷◌, ◌++◌, inl, refl, sym, ap, ◌∙◌, arith, add-one, ⊎_elim}
+use Rattle.std.proofs.Common.{◌≡◌, ℕ, zero, suc, ◌+◌, ◌-◌, ◌*◌, ◌<◌, ◌≤◌, max, List, [], ◌∷◌, ◌++◌, inl, refl, sym, ap, ◌∙◌, arith, add-one, ⊎_elim}
 use Rattle.std.specs.Prelude.{bit_or, ◌⊎◌}
 use Rattle.std.specs.Int.Bits.{or_zero_l, or_zero_r}
 use Rattle.std.proofs.lemmas.Nat.{or_comm}
 use Rattle.std.proofs.lemmas.Nat.Bits.{bit_at_or, same_from_bits}
 use Rattle.std.proofs.lemmas.Bool.{cases_eq}
 use Rattle.std.specs.Int.{bit_at}
-use Rattle.vlog_tree.specs.declared.tree.Atom.{Atom}
-use Rattle.vlog_tree.specs.declared.tree.Atom.TheVariants.{Net, Literal}
+use Rattle.vlog_tree.specs.declared.tree.Atom.TheVariants.{Net}
 use Rattle.vlog_tree.specs.declared.tree.BinaryOp.TheVariants.{Or}
-use Rattle.vlog_tree.specs.declared.tree.Value.TheVariants.{Binary, Choose}
+use Rattle.vlog_tree.specs.declared.tree.Value.TheVariants.{Binary}
 use Rattle.vlog_tree.specs.Form.{ModuleTree}
 use Rattle.tapa_base.specs.Lists.{Has}
 use Rattle.vlog_tree.specs.Table.{Name}
-use Rattle.vlog_tree.specs.Cycle.{Cycle, Follows, atom_value}
+use Rattle.vlog_tree.specs.Cycle.{Cycle, Follows}
 use Rattle.tapa_base.proofs.Lists.{has_left, has_right}
 use Rattle.hw_build.specs.Elements.{Element, with, with_all, built}
-use Rattle.hw_build.specs.Trees.{numbered, gated, tree_node, tree_nodes, tree_root, or_range}
+use Rattle.hw_build.specs.Trees.{numbered, tree_node, tree_nodes, tree_root, or_range}
 use Rattle.hw_build.proofs.Driven.{wire_driven}
 
 or_assoc : (a b c : ℕ) → bit_or (bit_or a b) c ≡ bit_or a (bit_or b c)
@@ -71,22 +70,6 @@ module _ (v : ℕ → ℕ) where
   pub none_is_zero : (n : ℕ) → ((j : ℕ) → j < n → v j ≡ 0) → or_range v 0 n ≡ 0
   none_is_zero n h = none_from n 0 (λ j l m. h j (omega arith))
 
-  one_from : (n a i : ℕ) → a ≤ i → i < a + n → ((j : ℕ) → a ≤ j → j < a + n → (j ≡ i → ⊥) → v j ≡ 0) → or_range v a n ≡ v i
-  one_from zero a i l m h = absurd (omega arith)
-  one_from (suc n) a i l m h =
-      ⊎_elim
-      (λ e.
-      let rest : or_range v (suc a) n ≡ 0 = none_from n (suc a) (λ j p q. h j (omega arith) (omega arith) (λ s. omega (arith, s, e, p))) in
-      ap (bit_or (v a)) rest ∙ or_zero_r (v a) ∙ ap v e)
-      (λ e.
-      let none : v a ≡ 0 = h a (omega arith) (omega arith) e in
-      ap (λ z. bit_or z (or_range v (suc a) n)) none ∙ or_zero_l (or_range v (suc a) n)
-      ∙ one_from n (suc a) i (omega (arith, l, e)) (omega (arith, m)) (λ j p q r. h j (omega (arith, p)) (omega (arith, q)) r))
-      (cases_eq a i)
-
-  pub one_alone : (n i : ℕ) → i < n → ((j : ℕ) → j < n → (j ≡ i → ⊥) → v j ≡ 0) → or_range v 0 n ≡ v i
-  one_alone n i m h = one_from n 0 i (omega arith) (omega arith) (λ j l k r. h j (omega arith) r)
-
   or_bits : (p q : ℕ) → p < 2 → q < 2 → bit_or p q < 2
   or_bits zero q h k = let e : bit_or 0 q ≡ q = or_zero_l q in omega arith
   or_bits (suc zero) zero h k = omega arith
@@ -133,9 +116,6 @@ module _ (name : Name) (elements : List Element) (run : ℕ → Cycle) (f : Foll
       (λ m h.
       wire_driven name elements run f width (numbered front (leaves + m)) (Binary (Net (numbered front (2 * m))) Or (Net (numbered front (2 * m + 1))))
       (has (tree_node width front leaves m) (node_there width front leaves (leaves - 1) m (omega (arith, h)))) n)
-
-  pub gate_driven : (width : ℕ) (x condition : Name) (value : Atom) → Has elements (gated width x condition value) → (n : ℕ) → (run n).net x ≡ cond (eqb ((run n).net condition) 1) (atom_value (run n) value) 0
-  gate_driven width x condition value has n = wire_driven name elements run f width x (Choose (Net condition) value (Literal width 0)) has n
 
 -- one more element
 pub with_last : (xs : List Element) (m : ModuleTree) (e : Element) → with_all m (xs ++ e ∷ []) ≡ with (with_all m xs) e

@@ -38,7 +38,7 @@ module _ (some all : List Element) (among : IsAmong some all) where
   more_of : {A : Type 0} (f : Element → List A) (y : A) → Has (flat_map f some) y → Has (flat_map f all) y
   more_of f y h = let r = of_flat f some y h in has_flat f all r.0 y (among r.0 r.1) r.2
 
-  net_more : (x : Name) (w : ℕ) → IsNet some x w → IsNet all x w
+  pub net_more : (x : Name) (w : ℕ) → IsNet some x w → IsNet all x w
   net_more x w (inl e) = inl e
   net_more x w (inr h) = inr (more_of readable (x, w) h)
 
@@ -48,7 +48,7 @@ module _ (some all : List Element) (among : IsAmong some all) where
   memory_more : (x : Name) (w : ℕ) → IsMemory some x w → IsMemory all x w
   memory_more x w h = more_of memory_of (x, w) h
 
-  atom_more : (w : ℕ) (a : Atom) → AtomIs some w a → AtomIs all w a
+  pub atom_more : (w : ℕ) (a : Atom) → AtomIs some w a → AtomIs all w a
   atom_more w (Net x) h = net_more x w h
   atom_more w (Part x high low) h = (h.0, net_more x h.0 h.1, h.2, h.3, h.4, h.5)
   atom_more w (Literal v n) h = h

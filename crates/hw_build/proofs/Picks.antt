@@ -1,219 +1,233 @@
 -- What choices among entries give.
-use Rattle.std.proofs.Common.{◌≡◌, ℕ, zero, suc, ◌+◌, ◌-◌, ◌<◌, ◌≤◌, max, cond, eqb, List, [], ◌∷◌, ◌++◌, length, inl, inr, refl, sym, ap, subst, ◌∙◌, arith, ⊎_elim}
+use Rattle.std.proofs.Common.{◌≡◌, ℕ, zero, suc, ◌+◌, ◌-◌, ◌<◌, cond, eqb, List, [], ◌∷◌, ◌++◌, length, inl, inr, refl, sym, ap, subst, ◌∙◌, arith, ⊎_elim}
 use Rattle.std.specs.Prelude.{◌⊎◌, bit_or, IsTrue}
-use Rattle.std.specs.List.{flat_map}
-use Rattle.std.specs.Int.{bit_at}
-use Rattle.std.specs.Int.Bits.{or_zero_l, or_zero_r}
-use Rattle.std.proofs.Math.Pow.{pow_pos}
-use Rattle.std.proofs.lemmas.Nat.Bits.{bit_at_or, same_from_bits}
+use Rattle.std.specs.Int.Bits.{or_zero_l}
+use Rattle.std.proofs.lemmas.Nat.{or_comm}
 use Rattle.std.proofs.lemmas.Bool.{cases_eq, eq-eqb, ne_eqb}
 use Rattle.vlog_tree.specs.declared.tree.Atom.TheVariants.{Net}
-use Rattle.vlog_tree.specs.declared.tree.Value.TheVariants.{Plain}
+use Rattle.vlog_tree.specs.declared.tree.Value.{Value}
 use Rattle.tapa_base.specs.Lists.{Has}
 use Rattle.vlog_tree.specs.Table.{Name}
 use Rattle.vlog_tree.specs.Cycle.{Cycle, Follows, atom_value}
 use Rattle.vlog_tree.specs.V3.{is_width}
 use Rattle.tapa_base.proofs.Lists.{has_left, has_right, has_flat}
 use Rattle.hw_build.specs.Elements.{Element, Wire, built}
-use Rattle.hw_build.specs.Trees.{numbered, gated, tree_nodes, or_range}
+use Rattle.hw_build.specs.Trees.{numbered}
 use Rattle.hw_build.proofs.Driven.{wire_driven}
-use Rattle.hw_build.proofs.Ors.{root_driven, gate_driven, none_is_zero, set_stays}
-use Rattle.hw_build.specs.Scope.{readable, IsNet, AtomIs, FitsAfter}
+use Rattle.hw_build.specs.Scope.{readable, IsNet, AtomIs, ValueIs, FitInOrder}
 use Rattle.hw_build.specs.Fits.{IsAmong}
-use Rattle.hw_build.specs.Choices.{Entry, any_leaves, any_elements, pick_leaves, pick_elements, choice, AnyFits, PickFits}
-use Rattle.hw_build.proofs.Parts.{parts_fit, each_fits, tree_fits}
+use Rattle.hw_build.specs.Choices.{Entry, row, any_driver, any_elements, pick_driver, pick_elements, choice, AnyFits, PickFits}
+use Rattle.hw_build.proofs.Parts.{net_more, atom_more}
 
--- numbers that are 0 or a
-or_self : (a : ℕ) → bit_or a a ≡ a
-or_self a = same_from_bits (bit_or a a) a (λ i. let e : bit_at (bit_or a a) i ≡ max (bit_at a i) (bit_at a i) = bit_at_or a a i in omega (arith, e))
+-- the last number of a row of one more
+last_of : (k n : ℕ) → suc k + n ≡ k + suc n
+last_of k n = omega arith
 
-zero_or : (v : ℕ → ℕ) (a n k : ℕ) → ((j : ℕ) → k ≤ j → j < k + n → (v j ≡ 0) ⊎ (v j ≡ a)) → (or_range v k n ≡ 0) ⊎ (or_range v k n ≡ a)
-zero_or v a zero k h = inl refl
-zero_or v a (suc n) k h = here (h k (omega arith) (omega arith)) (zero_or v a n (suc k) (λ j l m. h j (omega arith) (omega arith))) where
-  here : (v k ≡ 0) ⊎ (v k ≡ a) → (or_range v (suc k) n ≡ 0) ⊎ (or_range v (suc k) n ≡ a) → (or_range v k (suc n) ≡ 0) ⊎ (or_range v k (suc n) ≡ a)
-  here (inl e) (inl f) = inl (ap (λ z. bit_or z (or_range v (suc k) n)) e ∙ or_zero_l (or_range v (suc k) n) ∙ f)
-  here (inl e) (inr f) = inr (ap (λ z. bit_or z (or_range v (suc k) n)) e ∙ or_zero_l (or_range v (suc k) n) ∙ f)
-  here (inr e) (inl f) = inr (ap (λ z. bit_or z (or_range v (suc k) n)) e ∙ ap (bit_or a) f ∙ or_zero_r a)
-  here (inr e) (inr f) = inr (ap (λ z. bit_or z (or_range v (suc k) n)) e ∙ ap (bit_or a) f ∙ or_self a)
+module _ (name : Name) (elements : List Element) (run : ℕ → Cycle) (f : Follows (built name elements) run) (front : Name) (n : ℕ) where
+  abbrev at : Name → ℕ
+  at x = (run n).net x
 
--- of which one is a
-one_is : (v : ℕ → ℕ) (a n k i : ℕ) → k ≤ i → i < k + n → v i ≡ a → ((j : ℕ) → k ≤ j → j < k + n → (v j ≡ 0) ⊎ (v j ≡ a)) → or_range v k n ≡ a
-one_is v a zero k i l m e h = absurd (omega arith)
-one_is v a (suc n) k i l m e h =
-    ⊎_elim
-    (λ s. here (zero_or v a n (suc k) (λ j p q. h j (omega (arith, p)) (omega (arith, q)))) (ap v s ∙ e))
-    (λ s. later (h k (omega arith) (omega arith)) (one_is v a n (suc k) i (omega (arith, l, s)) (omega (arith, m)) e (λ j p q. h j (omega (arith, p)) (omega (arith, q)))))
-    (cases_eq k i) where
-      here : (or_range v (suc k) n ≡ 0) ⊎ (or_range v (suc k) n ≡ a) → v k ≡ a → or_range v k (suc n) ≡ a
-      here (inl f) g = ap (λ z. bit_or z (or_range v (suc k) n)) g ∙ ap (bit_or a) f ∙ or_zero_r a
-      here (inr f) g = ap (λ z. bit_or z (or_range v (suc k) n)) g ∙ ap (bit_or a) f ∙ or_self a
+  -- what net j of a row has
+  abbrev net_at : ℕ → ℕ
+  net_at j = at (numbered front j)
 
-      later : (v k ≡ 0) ⊎ (v k ≡ a) → or_range v (suc k) n ≡ a → or_range v k (suc n) ≡ a
-      later (inl f) g = ap (λ z. bit_or z (or_range v (suc k) n)) f ∙ or_zero_l (or_range v (suc k) n) ∙ g
-      later (inr f) g = ap (λ z. bit_or z (or_range v (suc k) n)) f ∙ ap (bit_or a) g ∙ or_self a
+  abbrev Rest : ℕ → (ℕ → Entry → Value) → ℕ → List Entry → Type 0
+  Rest width driver j entries = IsAmong (row width front driver j entries) elements
 
--- the leaves: each has an entry, and each entry has one
-any_at : (front : Name) (entries : List Entry) (k j : ℕ) → k ≤ j → j < k + length entries → (e : Entry) × Has entries e × Has (any_leaves front k entries) (Wire 1 (numbered front j) (Plain (Net e.condition)))
-any_at front [] k j l m = absurd (omega arith)
-any_at front (e ∷ entries) k j l m =
-    ⊎_elim
-    (λ s. (e, inl refl, inl (ap (λ i. Wire 1 (numbered front i) (Plain (Net e.condition))) s)))
-    (λ s. let r = any_at front entries (suc k) j (omega (arith, l, s)) (omega (arith, m)) in (r.0, inr r.1, inr r.2))
-    (cases_eq k j)
+  rest : (width : ℕ) (driver : ℕ → Entry → Value) (j : ℕ) (d : Entry) (entries : List Entry) → Rest width driver j (d ∷ entries) → Rest width driver (suc j) entries
+  rest width driver j d entries among e h = among e (inr h)
 
-any_of : (front : Name) (entries : List Entry) (k : ℕ) (e : Entry) → Has entries e → (j : ℕ) × (k ≤ j) × (j < k + length entries) × Has (any_leaves front k entries) (Wire 1 (numbered front j) (Plain (Net e.condition)))
-any_of front [] k e h = absurd h
-any_of front (d ∷ entries) k e (inl s) = (k, omega arith, omega arith, inl (ap (λ (z : Entry). Wire 1 (numbered front k) (Plain (Net z.condition))) s))
-any_of front (d ∷ entries) k e (inr h) =
-    let r = any_of front entries (suc k) e h in
-    let low : suc k ≤ r.0 = r.1 in
-    let high : r.0 < suc k + length entries = r.2 in
-    (r.0, omega (arith, low), omega (arith, high), inr r.3)
+  -- a result that the row keeps from a net on to its end
+  ends : (a k m : ℕ) → net_at (suc k + m) ≡ a → net_at (k + suc m) ≡ a
+  ends a k m e = subst (λ j. net_at j ≡ a) (last_of k m) e
 
-pick_at : (width : ℕ) (front : Name) (entries : List Entry) (k j : ℕ) → k ≤ j → j < k + length entries → (e : Entry) × Has entries e × Has (pick_leaves width front k entries) (gated width (numbered front j) e.condition e.value)
-pick_at width front [] k j l m = absurd (omega arith)
-pick_at width front (e ∷ entries) k j l m =
-    ⊎_elim
-    (λ s. (e, inl refl, inl (ap (λ i. gated width (numbered front i) e.condition e.value) s)))
-    (λ s. let r = pick_at width front entries (suc k) j (omega (arith, l, s)) (omega (arith, m)) in (r.0, inr r.1, inr r.2))
-    (cases_eq k j)
+  here : (a k : ℕ) → net_at k ≡ a → net_at (k + 0) ≡ a
+  here a k e = let same : k ≡ k + 0 = omega arith in subst (λ j. net_at j ≡ a) same e
 
-pick_of : (width : ℕ) (front : Name) (entries : List Entry) (k : ℕ) (e : Entry) → Has entries e
-    → (j : ℕ) × (k ≤ j) × (j < k + length entries) × Has (pick_leaves width front k entries) (gated width (numbered front j) e.condition e.value)
-pick_of width front [] k e h = absurd h
-pick_of width front (d ∷ entries) k e (inl s) = (k, omega arith, omega arith, inl (ap (λ (z : Entry). gated width (numbered front k) z.condition z.value) s))
-pick_of width front (d ∷ entries) k e (inr h) =
-    let r = pick_of width front entries (suc k) e h in
-    let low : suc k ≤ r.0 = r.1 in
-    let high : r.0 < suc k + length entries = r.2 in
-    (r.0, omega (arith, low), omega (arith, high), inr r.3)
+  -- ---- whether one of the conditions holds
 
-some_entries : {A : Type 0} (xs : List A) (x : A) → Has xs x → 0 < length xs
-some_entries [] x h = absurd h
-some_entries (y ∷ ys) x h = omega arith
+  abbrev AreBits : List Entry → Type 0
+  AreBits entries = (d : Entry) → Has entries d → at d.condition < 2
+
+  one_or : (q : ℕ) → q < 2 → bit_or 1 q ≡ 1
+  one_or zero h = refl
+  one_or (suc zero) h = refl
+  one_or (suc (suc q)) h = absurd (omega arith)
+
+  or_one : (q : ℕ) → q < 2 → bit_or q 1 ≡ 1
+  or_one q h = or_comm q 1 ∙ one_or q h
+
+  joined : (k : ℕ) (d : Entry) (entries : List Entry) → Rest 1 (any_driver front) (suc k) (d ∷ entries) → net_at (suc k) ≡ bit_or (net_at k) (at d.condition)
+  joined k d entries among = wire_driven name elements run f 1 (numbered front (suc k)) (any_driver front (suc k) d) (among _ (inl refl)) n
+
+  stays_set : (entries : List Entry) (k : ℕ) → Rest 1 (any_driver front) (suc k) entries → AreBits entries → net_at k ≡ 1 → net_at (k + length entries) ≡ 1
+  stays_set [] k among bits e = here 1 k e
+  stays_set (d ∷ entries) k among bits e =
+      ends 1 k (length entries)
+      (stays_set entries (suc k) (rest 1 (any_driver front) (suc k) d entries among) (λ c h. bits c (inr h))
+      (joined k d entries among ∙ ap (λ z. bit_or z (at d.condition)) e ∙ one_or (at d.condition) (bits d (inl refl))))
+
+  bit_next : (entries : List Entry) (k : ℕ) (d : Entry) → Rest 1 (any_driver front) (suc k) (d ∷ entries) → net_at k < 2 → at d.condition < 2 → net_at (suc k) < 2
+  bit_next entries k d among low bit = subst (λ z. z < 2) (sym (joined k d entries among)) (both (net_at k) (at d.condition) low bit) where
+    both : (p q : ℕ) → p < 2 → q < 2 → bit_or p q < 2
+    both zero q h k = let e : bit_or 0 q ≡ q = or_zero_l q in omega arith
+    both (suc zero) q h k = let e : bit_or 1 q ≡ 1 = one_or q k in omega arith
+    both (suc (suc p)) q h k = absurd (omega arith)
+
+  set_later : (entries : List Entry) (k : ℕ) → Rest 1 (any_driver front) (suc k) entries → AreBits entries → net_at k < 2 → (e : Entry) → Has entries e → at e.condition ≡ 1 → net_at (k + length entries) ≡ 1
+  set_later [] k among bits low e h is = absurd h
+  set_later (d ∷ entries) k among bits low e (inl s) is =
+      ends 1 k (length entries)
+      (stays_set entries (suc k) (rest 1 (any_driver front) (suc k) d entries among) (λ c h. bits c (inr h))
+      (joined k d entries among ∙ ap (bit_or (net_at k)) (ap (λ (z : Entry). at z.condition) s ∙ is) ∙ or_one (net_at k) low))
+  set_later (d ∷ entries) k among bits low e (inr h) is =
+      ends 1 k (length entries)
+      (set_later entries (suc k) (rest 1 (any_driver front) (suc k) d entries among) (λ c h. bits c (inr h)) (bit_next entries k d among low (bits d (inl refl))) e h is)
+
+  stays_clear : (entries : List Entry) (k : ℕ) → Rest 1 (any_driver front) (suc k) entries → ((d : Entry) → Has entries d → at d.condition ≡ 0) → net_at k ≡ 0 → net_at (k + length entries) ≡ 0
+  stays_clear [] k among none e = here 0 k e
+  stays_clear (d ∷ entries) k among none e =
+      ends 0 k (length entries)
+      (stays_clear entries (suc k) (rest 1 (any_driver front) (suc k) d entries among) (λ c h. none c (inr h))
+      (joined k d entries among ∙ ap (λ z. bit_or z (at d.condition)) e ∙ or_zero_l (at d.condition) ∙ none d (inl refl)))
+
+  low_later : (entries : List Entry) (k : ℕ) → Rest 1 (any_driver front) (suc k) entries → AreBits entries → net_at k < 2 → net_at (k + length entries) < 2
+  low_later [] k among bits low = let same : k ≡ k + 0 = omega arith in subst (λ j. net_at j < 2) same low
+  low_later (d ∷ entries) k among bits low =
+      subst (λ j. net_at j < 2) (last_of k (length entries))
+      (low_later entries (suc k) (rest 1 (any_driver front) (suc k) d entries among) (λ c h. bits c (inr h)) (bit_next entries k d among low (bits d (inl refl))))
+
+  first_any : (d : Entry) (entries : List Entry) → Rest 1 (any_driver front) 0 (d ∷ entries) → net_at 0 ≡ at d.condition
+  first_any d entries among = wire_driven name elements run f 1 (numbered front 0) (any_driver front 0 d) (among _ (inl refl)) n
+
+  -- the number of the last net
+  result : (a : ℕ) (d : Entry) (entries : List Entry) → net_at (0 + length entries) ≡ a → at (choice front (d ∷ entries)) ≡ a
+  result a d entries e = let same : 0 + length entries ≡ suc (length entries) - 1 = omega arith in subst (λ j. net_at j ≡ a) same e
+
+  any_set_in : (entries : List Entry) → IsAmong (any_elements front entries) elements → AreBits entries → (e : Entry) → Has entries e → at e.condition ≡ 1 → at (choice front entries) ≡ 1
+  any_set_in [] among bits e h is = absurd h
+  any_set_in (d ∷ entries) among bits e (inl s) is =
+      result 1 d entries
+      (stays_set entries 0 (rest 1 (any_driver front) 0 d entries among) (λ c h. bits c (inr h)) (first_any d entries among ∙ ap (λ (z : Entry). at z.condition) s ∙ is))
+  any_set_in (d ∷ entries) among bits e (inr h) is =
+      result 1 d entries
+      (set_later entries 0 (rest 1 (any_driver front) 0 d entries among) (λ c k. bits c (inr k)) (subst (λ z. z < 2) (sym (first_any d entries among)) (bits d (inl refl))) e h is)
+
+  any_clear_in : (entries : List Entry) → IsAmong (any_elements front entries) elements → 0 < length entries → ((d : Entry) → Has entries d → at d.condition ≡ 0) → at (choice front entries) ≡ 0
+  any_clear_in [] among some none = absurd (omega arith)
+  any_clear_in (d ∷ entries) among some none =
+      result 0 d entries (stays_clear entries 0 (rest 1 (any_driver front) 0 d entries among) (λ c h. none c (inr h)) (first_any d entries among ∙ none d (inl refl)))
+
+  any_low_in : (entries : List Entry) → IsAmong (any_elements front entries) elements → 0 < length entries → AreBits entries → at (choice front entries) < 2
+  any_low_in [] among some bits = absurd (omega arith)
+  any_low_in (d ∷ entries) among some bits =
+      let same : 0 + length entries ≡ suc (length entries) - 1 = omega arith in
+      subst (λ j. net_at j < 2) same
+      (low_later entries 0 (rest 1 (any_driver front) 0 d entries among) (λ c h. bits c (inr h)) (subst (λ z. z < 2) (sym (first_any d entries among)) (bits d (inl refl))))
+
+  -- ---- the value whose condition holds
+
+  abbrev AreOff : ℕ → List Entry → Type 0
+  AreOff a entries = (d : Entry) → Has entries d → (at d.condition ≡ 1 → ⊥) ⊎ (atom_value (run n) d.value ≡ a)
+
+  chosen : (width k : ℕ) (d : Entry) (entries : List Entry) → Rest width (pick_driver front) (suc k) (d ∷ entries) → net_at (suc k) ≡ cond (eqb (at d.condition) 1) (atom_value (run n) d.value) (net_at k)
+  chosen width k d entries among = wire_driven name elements run f width (numbered front (suc k)) (pick_driver front (suc k) d) (among _ (inl refl)) n
+
+  on : (c v a : ℕ) → (c ≡ 1 → ⊥) ⊎ (v ≡ a) → c ≡ 1 → v ≡ a
+  on c v a (inl off) e = absurd (off e)
+  on c v a (inr s) e = s
+
+  -- a net that has the result passes it on
+  passed : (c v b a : ℕ) → (c ≡ 1 → ⊥) ⊎ (v ≡ a) → b ≡ a → cond (eqb c 1) v b ≡ a
+  passed c v b a (inl off) e = ap (λ t. cond t v b) (ne_eqb c 1 off) ∙ e
+  passed c v b a (inr s) e = ⊎_elim (λ i. ap (λ t. cond t v b) (eq-eqb c 1 i) ∙ s) (λ i. ap (λ t. cond t v b) (ne_eqb c 1 i) ∙ e) (cases_eq c 1)
+
+  stays : (width a : ℕ) (entries : List Entry) (k : ℕ) → Rest width (pick_driver front) (suc k) entries → AreOff a entries → net_at k ≡ a → net_at (k + length entries) ≡ a
+  stays width a [] k among each e = here a k e
+  stays width a (d ∷ entries) k among each e =
+      ends a k (length entries)
+      (stays width a entries (suc k) (rest width (pick_driver front) (suc k) d entries among) (λ c h. each c (inr h))
+      (chosen width k d entries among ∙ passed (at d.condition) (atom_value (run n) d.value) (net_at k) a (each d (inl refl)) e))
+
+  picked : (width a : ℕ) (entries : List Entry) (k : ℕ) → Rest width (pick_driver front) (suc k) entries → AreOff a entries → (e : Entry) → Has entries e → at e.condition ≡ 1 → net_at (k + length entries) ≡ a
+  picked width a [] k among each e h is = absurd h
+  picked width a (d ∷ entries) k among each e (inl s) is =
+      let one : at d.condition ≡ 1 = ap (λ (z : Entry). at z.condition) s ∙ is in
+      ends a k (length entries)
+      (stays width a entries (suc k) (rest width (pick_driver front) (suc k) d entries among) (λ c h. each c (inr h))
+      (chosen width k d entries among ∙ ap (λ t. cond t (atom_value (run n) d.value) (net_at k)) (eq-eqb (at d.condition) 1 one) ∙ on (at d.condition) (atom_value (run n) d.value) a (each d (inl refl)) one))
+  picked width a (d ∷ entries) k among each e (inr h) is =
+      ends a k (length entries) (picked width a entries (suc k) (rest width (pick_driver front) (suc k) d entries among) (λ c i. each c (inr i)) e h is)
+
+  pick_in : (width a : ℕ) (entries : List Entry) → IsAmong (pick_elements width front entries) elements → AreOff a entries → (e : Entry) → Has entries e → at e.condition ≡ 1 → at (choice front entries) ≡ a
+  pick_in width a [] among each e h is = absurd h
+  pick_in width a (d ∷ entries) among each e (inl s) is =
+      result a d entries
+      (stays width a entries 0 (rest width (pick_driver front) 0 d entries among) (λ c h. each c (inr h))
+      (wire_driven name elements run f width (numbered front 0) (pick_driver front 0 d) (among _ (inl refl)) n
+      ∙ on (at d.condition) (atom_value (run n) d.value) a (each d (inl refl)) (ap (λ (z : Entry). at z.condition) s ∙ is)))
+  pick_in width a (d ∷ entries) among each e (inr h) is =
+      result a d entries (picked width a entries 0 (rest width (pick_driver front) 0 d entries among) (λ c i. each c (inr i)) e h is)
 
 module _ (name : Name) (elements : List Element) (run : ℕ → Cycle) (f : Follows (built name elements) run) where
-  abbrev at : ℕ → Name → ℕ
-  at n x = (run n).net x
+  pub any_set : (front : Name) (entries : List Entry) → IsAmong (any_elements front entries) elements → (n : ℕ) → ((d : Entry) → Has entries d → (run n).net d.condition < 2) → (e : Entry) → Has entries e
+      → (run n).net e.condition ≡ 1 → (run n).net (choice front entries) ≡ 1
+  any_set front entries among n bits e h is = any_set_in name elements run f front n entries among bits e h is
 
-  any_root : (front : Name) (entries : List Entry) → IsAmong (any_elements front entries) elements → 0 < length entries → (n : ℕ)
-      → at n (choice front entries) ≡ or_range (λ j. at n (numbered front j)) 0 (length entries)
-  any_root front entries among some n =
-      root_driven name elements run f 1 front (length entries) some
-      (λ e h. among e (has_right (any_leaves front 0 entries) (tree_nodes 1 front (length entries) (length entries - 1)) e h)) n
+  pub any_clear : (front : Name) (entries : List Entry) → IsAmong (any_elements front entries) elements → (n : ℕ) → 0 < length entries → ((d : Entry) → Has entries d → (run n).net d.condition ≡ 0)
+      → (run n).net (choice front entries) ≡ 0
+  any_clear front entries among n some none = any_clear_in name elements run f front n entries among some none
 
-  any_leaf_is : (front : Name) (entries : List Entry) → IsAmong (any_elements front entries) elements → (n j : ℕ) → j < length entries → (e : Entry) × Has entries e × (at n (numbered front j) ≡ at n e.condition)
-  any_leaf_is front entries among n j l =
-      let r = any_at front entries 0 j (omega arith) (omega arith) in (
-        r.0,
-        r.1,
-        wire_driven name elements run f 1 (numbered front j) (Plain (Net r.0.condition))
-            (among (Wire 1 (numbered front j) (Plain (Net r.0.condition))) (has_left (any_leaves front 0 entries) (tree_nodes 1 front (length entries) (length entries - 1)) _ r.2)) n,
-      )
+  pub any_low : (front : Name) (entries : List Entry) → IsAmong (any_elements front entries) elements → (n : ℕ) → 0 < length entries → ((d : Entry) → Has entries d → (run n).net d.condition < 2)
+      → (run n).net (choice front entries) < 2
+  any_low front entries among n some bits = any_low_in name elements run f front n entries among some bits
 
-  pub any_set : (front : Name) (entries : List Entry) → IsAmong (any_elements front entries) elements → (n : ℕ) → ((d : Entry) → Has entries d → at n d.condition < 2) → (e : Entry) → Has entries e
-      → at n e.condition ≡ 1 → at n (choice front entries) ≡ 1
-  any_set front entries among n small e has is =
-      let r = any_of front entries 0 e has in
-      let here : at n (numbered front r.0) ≡ 1 =
-      wire_driven name elements run f 1 (numbered front r.0) (Plain (Net e.condition))
-      (among (Wire 1 (numbered front r.0) (Plain (Net e.condition))) (has_left (any_leaves front 0 entries) (tree_nodes 1 front (length entries) (length entries - 1)) _ r.3)) n ∙ is in
-      let inside : r.0 < length entries = (let high : r.0 < 0 + length entries = r.2 in omega (arith, high)) in
-      any_root front entries among (some_entries entries e has) n
-      ∙ set_stays (λ j. at n (numbered front j)) (length entries) r.0 inside
-      (λ j l. let k = any_leaf_is front entries among n j l in subst (λ z. z < 2) (sym k.2) (small k.0 k.1)) here
-
-  pub any_clear : (front : Name) (entries : List Entry) → IsAmong (any_elements front entries) elements → (n : ℕ) → 0 < length entries → ((d : Entry) → Has entries d → at n d.condition ≡ 0)
-      → at n (choice front entries) ≡ 0
-  any_clear front entries among n some none =
-      any_root front entries among some n
-      ∙ none_is_zero (λ j. at n (numbered front j)) (length entries) (λ j l. let k = any_leaf_is front entries among n j l in k.2 ∙ none k.0 k.1)
-
-  -- a gate has 0 or its value
-  gate_is : (c v a : ℕ) → (c ≡ 1 → ⊥) ⊎ (v ≡ a) → (cond (eqb c 1) v 0 ≡ 0) ⊎ (cond (eqb c 1) v 0 ≡ a)
-  gate_is c v a (inl off) = inl (ap (λ b. cond b v 0) (ne_eqb c 1 off))
-  gate_is c v a (inr e) = ⊎_elim (λ s. inr (ap (λ b. cond b v 0) (eq-eqb c 1 s) ∙ e)) (λ s. inl (ap (λ b. cond b v 0) (ne_eqb c 1 s))) (cases_eq c 1)
-
-  chosen_gate : (c v a : ℕ) → (c ≡ 1 → ⊥) ⊎ (v ≡ a) → c ≡ 1 → v ≡ a
-  chosen_gate c v a (inl off) e = absurd (off e)
-  chosen_gate c v a (inr s) e = s
-
-  abbrev Chosen : Name → List Entry → Type 0
-  Chosen front entries =
-      (n a : ℕ) → ((d : Entry) → Has entries d → (at n d.condition ≡ 1 → ⊥) ⊎ (atom_value (run n) d.value ≡ a)) → (e : Entry) → Has entries e → at n e.condition ≡ 1 → at n (choice front entries) ≡ a
-
-  picked : (width : ℕ) (front : Name) (entries : List Entry) → IsAmong (pick_leaves width front 0 entries ++ tree_nodes width front (length entries) (length entries - 1)) elements → Chosen front entries
-  picked width front entries among n a each e has is =
-      let nodes = tree_nodes width front (length entries) (length entries - 1) in
-      let r = pick_of width front entries 0 e has in
-      let inside : r.0 < 0 + length entries = r.2 in
-      let gate = λ (j : ℕ) (d : Entry) (h : Has (pick_leaves width front 0 entries) (gated width (numbered front j) d.condition d.value)).
-      gate_driven name elements run f width (numbered front j) d.condition d.value (among (gated width (numbered front j) d.condition d.value) (has_left (pick_leaves width front 0 entries) nodes _ h)) n in
-      let here : at n (numbered front r.0) ≡ a =
-      gate r.0 e r.3 ∙ ap (λ b. cond b (atom_value (run n) e.value) 0) (eq-eqb (at n e.condition) 1 is) ∙ chosen_gate (at n e.condition) (atom_value (run n) e.value) a (each e has) is in
-      root_driven name elements run f width front (length entries) (some_entries entries e has) (λ d h. among d (has_right (pick_leaves width front 0 entries) nodes d h)) n
-      ∙ one_is (λ j. at n (numbered front j)) a (length entries) 0 r.0 (omega arith) inside here
-      (λ j l m.
-      let k = pick_at width front entries 0 j l m in
-      subst (λ z. (z ≡ 0) ⊎ (z ≡ a)) (sym (gate j k.0 k.2)) (gate_is (at n k.0.condition) (atom_value (run n) k.0.value) a (each k.0 k.1)))
-
-  pub pick_chosen : (width : ℕ) (front : Name) (entries : List Entry) → IsAmong (pick_elements width front entries) elements → Chosen front entries
-  pick_chosen width front [] among n a each e has is = absurd has
-  pick_chosen width front (d ∷ []) among n a each e (inl s) is =
-      wire_driven name elements run f width (numbered front 0) (Plain d.value) (among (Wire width (numbered front 0) (Plain d.value)) (inl refl)) n
-      ∙ chosen_gate (at n d.condition) (atom_value (run n) d.value) a (each d (inl refl)) (ap (λ (z : Entry). at n z.condition) s ∙ is)
-  pick_chosen width front (d ∷ []) among n a each e (inr h) is = absurd h
-  pick_chosen width front (d ∷ c ∷ entries) among n a each e has is = picked width front (d ∷ c ∷ entries) among n a each e has is
+  pub pick_chosen : (width : ℕ) (front : Name) (entries : List Entry) → IsAmong (pick_elements width front entries) elements
+      → (n a : ℕ) → ((d : Entry) → Has entries d → ((run n).net d.condition ≡ 1 → ⊥) ⊎ (atom_value (run n) d.value ≡ a)) → (e : Entry) → Has entries e → (run n).net e.condition ≡ 1
+      → (run n).net (choice front entries) ≡ a
+  pick_chosen width front entries among n a each e h is = pick_in name elements run f front n width a entries among each e h is
 
 -- ---- they fit
 
-any_leaf_net : (front : Name) (entries : List Entry) (k j : ℕ) → k ≤ j → j < k + length entries → Has {N = Name × ℕ} (flat_map readable (any_leaves front k entries)) (numbered front j, 1)
-any_leaf_net front entries k j l m =
-    let r = any_at front entries k j l m in
-    has_flat readable (any_leaves front k entries) (Wire 1 (numbered front j) (Plain (Net r.0.condition))) (numbered front j, 1) r.2 (inl refl)
+-- what a row reads is there before each of its nets
+abbrev HasParts : (List Element → Entry → Type 0) → List Element → List Entry → Type 0
+HasParts Parts before entries = (e : Entry) → Has entries e → Parts before e
 
-any_leaf_fits : (before : List Element) (front : Name) (entries : List Entry) (k : ℕ) → ((e : Entry) → Has entries e → IsNet before e.condition 1) → (e : Element) → Has (any_leaves front k entries) e → FitsAfter before e
-any_leaf_fits before front [] k h e n = absurd n
-any_leaf_fits before front (d ∷ entries) k h e (inl s) = subst (FitsAfter before) s (refl, h d (inl refl))
-any_leaf_fits before front (d ∷ entries) k h e (inr n) = any_leaf_fits before front entries (suc k) (λ c i. h c (inr i)) e n
+abbrev Grows : (List Element → Entry → Type 0) → Type 0
+Grows Parts = (before : List Element) (d : Element) (e : Entry) → Parts before e → Parts (before ++ d ∷ []) e
 
-net_behind : (before more : List Element) (x : Name) (w : ℕ) → Has {N = Name × ℕ} (flat_map readable more) (x, w) → IsNet (before ++ more) x w
-net_behind [] more x w h = inr h
-net_behind (e ∷ before) more x w h = here (net_behind before more x w h) where
-  here : IsNet (before ++ more) x w → IsNet (e ∷ before ++ more) x w
-  here (inl s) = inl s
-  here (inr k) = inr (has_right (readable e) (flat_map readable (before ++ more)) (x, w) k)
+net_last : (before : List Element) (w : ℕ) (x : Name) (v : Value) → IsNet (before ++ Wire w x v ∷ []) x w
+net_last before w x v =
+    net_more (Wire w x v ∷ []) (before ++ Wire w x v ∷ []) (λ e h. has_right before (Wire w x v ∷ []) e h) x w (inr (has_flat readable (Wire w x v ∷ []) (Wire w x v) (x, w) (inl refl) (inl refl)))
 
-below_one : (n : ℕ) → 0 < n → n - 1 < n
-below_one n h = omega arith
+module _ (width : ℕ) (front : Name) (wide : IsTrue (is_width width)) (driver : ℕ → Entry → Value) (Parts : List Element → Entry → Type 0) (grows : Grows Parts)
+    (first : (before : List Element) (e : Entry) → Parts before e → ValueIs before width (driver 0 e))
+    (next : (before : List Element) (j : ℕ) (e : Entry) → Parts before e → IsNet before (numbered front j) width → ValueIs before width (driver (suc j) e)) where
+  later_fit : (before : List Element) (j : ℕ) (entries : List Entry) → HasParts Parts before entries → IsNet before (numbered front j) width → FitInOrder before (row width front driver (suc j) entries)
+  later_fit before j [] h net = tt
+  later_fit before j (e ∷ entries) h net =
+      let w : Element = Wire width (numbered front (suc j)) (driver (suc j) e) in (
+        (wide, next before j e (h e (inl refl)) net),
+        later_fit (before ++ w ∷ []) (suc j) entries (λ d k. grows before w d (h d (inr k))) (net_last before width (numbered front (suc j)) (driver (suc j) e)),
+      )
+
+  row_fits : (before : List Element) (entries : List Entry) → HasParts Parts before entries → FitInOrder before (row width front driver 0 entries)
+  row_fits before [] h = tt
+  row_fits before (e ∷ entries) h =
+      let w : Element = Wire width (numbered front 0) (driver 0 e) in (
+        (wide, first before e (h e (inl refl))),
+        later_fit (before ++ w ∷ []) 0 entries (λ d k. grows before w d (h d (inr k))) (net_last before width (numbered front 0) (driver 0 e)),
+      )
 
 pub any_fits : AnyFits
-any_fits before front [] h = tt
-any_fits before front (d ∷ entries) h =
-    let all = d ∷ entries in
-    let leaves = any_leaves front 0 all in
-    parts_fit before leaves (tree_nodes 1 front (length all) (length all - 1)) (each_fits before leaves (any_leaf_fits before front all 0 h))
-    (tree_fits (before ++ leaves) 1 front (length all) refl (λ j l. net_behind before leaves (numbered front j) 1 (any_leaf_net front all 0 j (omega arith) (omega arith))) (length all - 1) (below_one (length all) (omega arith)))
-
-pick_leaf_net : (width : ℕ) (front : Name) (entries : List Entry) (k j : ℕ) → k ≤ j → j < k + length entries → Has {N = Name × ℕ} (flat_map readable (pick_leaves width front k entries)) (numbered front j, width)
-pick_leaf_net width front entries k j l m =
-    let r = pick_at width front entries k j l m in
-    has_flat readable (pick_leaves width front k entries) (gated width (numbered front j) r.0.condition r.0.value) (numbered front j, width) r.2 (inl refl)
-
-pick_leaf_fits : (before : List Element) (width : ℕ) (front : Name) (entries : List Entry) (k : ℕ) → IsTrue (is_width width) → ((e : Entry) → Has entries e → IsNet before e.condition 1 × AtomIs before width e.value)
-    → (e : Element) → Has (pick_leaves width front k entries) e → FitsAfter before e
-pick_leaf_fits before width front [] k w h e n = absurd n
-pick_leaf_fits before width front (d ∷ entries) k w h e (inl s) =
-    let c = h d (inl refl) in
-    subst (FitsAfter before) s (w, (c.0, c.1, (refl, pow_pos width)))
-pick_leaf_fits before width front (d ∷ entries) k w h e (inr n) = pick_leaf_fits before width front entries (suc k) w (λ c i. h c (inr i)) e n
+any_fits before front entries h =
+    row_fits 1 front refl (any_driver front) (λ b e. IsNet b e.condition 1) (λ b d e k. net_more b (b ++ d ∷ []) (λ c i. has_left b (d ∷ []) c i) e.condition 1 k) (λ b e k. k) (λ b j e k net. (net, k)) before entries h
 
 pub pick_fits : PickFits
-pick_fits before width front [] w h = tt
-pick_fits before width front (d ∷ []) w h = ((w, (h d (inl refl)).1), tt)
-pick_fits before width front (d ∷ c ∷ entries) w h =
-    let all = d ∷ c ∷ entries in
-    let leaves = pick_leaves width front 0 all in
-    parts_fit before leaves (tree_nodes width front (length all) (length all - 1)) (each_fits before leaves (pick_leaf_fits before width front all 0 w h))
-    (tree_fits (before ++ leaves) width front (length all) w (λ j l. net_behind before leaves (numbered front j) width (pick_leaf_net width front all 0 j (omega arith) (omega arith))) (length all - 1)
-    (below_one (length all) (omega arith)))
+pick_fits before width front entries w h =
+    row_fits width front w (pick_driver front) (λ b e. IsNet b e.condition 1 × AtomIs b width e.value)
+    (λ b d e k.
+    let among = λ (c : Element) (i : Has b c). has_left b (d ∷ []) c i in (
+      net_more b (b ++ d ∷ []) among e.condition 1 k.0,
+      atom_more b (b ++ d ∷ []) among width e.value k.1,
+    )) (λ b e k. k.1) (λ b j e k net. (k.0, k.1, net)) before entries h

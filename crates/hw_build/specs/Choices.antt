@@ -1,15 +1,17 @@
--- Choices among values that have conditions, as ors of gated values: the result is the value whose condition is the only
--- one that holds.
-use Rattle.std.specs.Prelude.{◌≡◌, ℕ, zero, suc, ◌-◌, ◌<◌, ◌⊎◌, List, [], ◌∷◌, ◌++◌, length, IsTrue}
+-- Choices among values that have conditions, as rows of nets: the result is the value whose condition is the only one that
+-- holds.
+use Rattle.std.specs.Prelude.{◌≡◌, ℕ, zero, suc, ◌-◌, ◌<◌, ◌⊎◌, List, [], ◌∷◌, length, IsTrue}
 use Rattle.vlog_tree.specs.declared.tree.Atom.{Atom}
 use Rattle.vlog_tree.specs.declared.tree.Atom.TheVariants.{Net}
-use Rattle.vlog_tree.specs.declared.tree.Value.TheVariants.{Plain}
+use Rattle.vlog_tree.specs.declared.tree.BinaryOp.TheVariants.{Or}
+use Rattle.vlog_tree.specs.declared.tree.Value.{Value}
+use Rattle.vlog_tree.specs.declared.tree.Value.TheVariants.{Plain, Binary, Choose}
 use Rattle.tapa_base.specs.Lists.{Has}
 use Rattle.vlog_tree.specs.Table.{Name}
 use Rattle.vlog_tree.specs.Cycle.{Cycle, Follows, atom_value}
 use Rattle.vlog_tree.specs.V3.{is_width}
 use Rattle.hw_build.specs.Elements.{Element, Wire, built}
-use Rattle.hw_build.specs.Trees.{numbered, gated, tree_nodes, tree_root}
+use Rattle.hw_build.specs.Trees.{numbered}
 use Rattle.hw_build.specs.Scope.{IsNet, AtomIs, FitInOrder}
 use Rattle.hw_build.specs.Fits.{IsAmong}
 
@@ -18,27 +20,30 @@ pub record Entry : Type 0 where
   pub condition : Name
   pub value : Atom
 
--- whether one of the conditions holds
-abbrev pub any_leaves : Name → ℕ → List Entry → List Element
-any_leaves front j [] = []
-any_leaves front j (e ∷ entries) = Wire 1 (numbered front j) (Plain (Net e.condition)) ∷ any_leaves front (suc j) entries
+-- a net for each entry, numbered from j on
+abbrev pub row : ℕ → Name → (ℕ → Entry → Value) → ℕ → List Entry → List Element
+row width front driver j [] = []
+row width front driver j (e ∷ entries) = Wire width (numbered front j) (driver j e) ∷ row width front driver (suc j) entries
+
+-- Whether the condition of an entry or of one before it holds. The net before has the answer for the entries before.
+abbrev pub any_driver : Name → ℕ → Entry → Value
+any_driver front zero e = Plain (Net e.condition)
+any_driver front (suc j) e = Binary (Net (numbered front j)) Or (Net e.condition)
 
 abbrev pub any_elements : Name → List Entry → List Element
-any_elements front entries = any_leaves front 0 entries ++ tree_nodes 1 front (length entries) (length entries - 1)
+any_elements front entries = row 1 front (any_driver front) 0 entries
 
--- the value whose condition holds; an only value needs no gate
-abbrev pub pick_leaves : ℕ → Name → ℕ → List Entry → List Element
-pick_leaves width front j [] = []
-pick_leaves width front j (e ∷ entries) = gated width (numbered front j) e.condition e.value ∷ pick_leaves width front (suc j) entries
+-- The value of an entry where its condition holds, and that of the net before it otherwise. The first entry needs no condition.
+abbrev pub pick_driver : Name → ℕ → Entry → Value
+pick_driver front zero e = Plain e.value
+pick_driver front (suc j) e = Choose (Net e.condition) e.value (Net (numbered front j))
 
 abbrev pub pick_elements : ℕ → Name → List Entry → List Element
-pick_elements width front [] = []
-pick_elements width front (e ∷ []) = Wire width (numbered front 0) (Plain e.value) ∷ []
-pick_elements width front (e ∷ d ∷ entries) = pick_leaves width front 0 (e ∷ d ∷ entries) ++ tree_nodes width front (length (e ∷ d ∷ entries)) (length (e ∷ d ∷ entries) - 1)
+pick_elements width front entries = row width front (pick_driver front) 0 entries
 
--- the net that has the result
+-- the net that has the result: the last
 abbrev pub choice : Name → List Entry → Name
-choice front entries = tree_root front (length entries)
+choice front entries = numbered front (length entries - 1)
 
 -- the result of `any` is 1 where a condition is
 abbrev pub AnyIsSet : Type 0

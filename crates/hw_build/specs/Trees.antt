@@ -1,20 +1,15 @@
--- Gated values, and trees of ors over numbered nets, each node over two nets before it.
-use Rattle.std.specs.Prelude.{◌≡◌, ℕ, zero, suc, ◌+◌, ◌-◌, ◌*◌, ◌<◌, List, [], ◌∷◌, ◌++◌, bit_or, decimal, ◌==◌, if◌then◌else◌}
-use Rattle.vlog_tree.specs.declared.tree.Atom.{Atom}
-use Rattle.vlog_tree.specs.declared.tree.Atom.TheVariants.{Net, Literal}
+-- Trees of ors over numbered nets, each node over two nets before it.
+use Rattle.std.specs.Prelude.{◌≡◌, ℕ, zero, suc, ◌+◌, ◌-◌, ◌*◌, ◌<◌, List, [], ◌∷◌, ◌++◌, bit_or, decimal}
+use Rattle.vlog_tree.specs.declared.tree.Atom.TheVariants.{Net}
 use Rattle.vlog_tree.specs.declared.tree.BinaryOp.TheVariants.{Or}
-use Rattle.vlog_tree.specs.declared.tree.Value.TheVariants.{Binary, Choose}
+use Rattle.vlog_tree.specs.declared.tree.Value.TheVariants.{Binary}
 use Rattle.tapa_base.specs.Lists.{Has}
 use Rattle.vlog_tree.specs.Table.{Name}
-use Rattle.vlog_tree.specs.Cycle.{Cycle, Follows, atom_value}
+use Rattle.vlog_tree.specs.Cycle.{Cycle, Follows}
 use Rattle.hw_build.specs.Elements.{Element, Wire, built}
 
 unfoldable pub numbered : Name → ℕ → Name
 numbered front n = front ++ 95 ∷ decimal n
-
--- a value where a condition is 1, and else 0
-abbrev pub gated : (width : ℕ) (x condition : Name) → Atom → Element
-gated width x condition value = Wire width x (Choose (Net condition) value (Literal width 0))
 
 -- Node m of a tree over the leaves, which are the nets 0, 1 and so on, is the net leaves + m, the or of the nets 2 m and
 -- 2 m + 1. So the last of one node fewer than leaves has all of them below it, at depths that differ by one at most.
@@ -34,10 +29,7 @@ abbrev pub or_range : (ℕ → ℕ) → (from n : ℕ) → ℕ
 or_range v a zero = 0
 or_range v a (suc n) = bit_or (v a) (or_range v (suc a) n)
 
--- an or of numbers of which all but one are 0 is that one
-abbrev pub OneAloneStays : Type 0
-OneAloneStays = (v : ℕ → ℕ) (n i : ℕ) → i < n → ((j : ℕ) → j < n → (j ≡ i → ⊥) → v j ≡ 0) → or_range v 0 n ≡ v i
-
+-- an or of zeros is 0
 abbrev pub NoneIsZero : Type 0
 NoneIsZero = (v : ℕ → ℕ) (n : ℕ) → ((j : ℕ) → j < n → v j ≡ 0) → or_range v 0 n ≡ 0
 
@@ -55,10 +47,3 @@ RootsAreDriven =
     (name : Name) (elements : List Element) (run : ℕ → Cycle) → Follows (built name elements) run → (width : ℕ) (front : Name) (leaves : ℕ) → 0 < leaves
     → ((e : Element) → Has (tree_nodes width front leaves (leaves - 1)) e → Has elements e) → (n : ℕ)
     → (run n).net (tree_root front leaves) ≡ or_range (λ j. (run n).net (numbered front j)) 0 leaves
-
--- and a gate lets its value through where its condition is 1
-abbrev pub GatesAreDriven : Type 0
-GatesAreDriven =
-    (name : Name) (elements : List Element) (run : ℕ → Cycle) → Follows (built name elements) run → (width : ℕ) (x condition : Name) (value : Atom)
-    → Has elements (gated width x condition value) → (n : ℕ)
-    → (run n).net x ≡ (if (run n).net condition == 1 then atom_value (run n) value else 0)

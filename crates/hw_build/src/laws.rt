@@ -5,7 +5,7 @@ ghost use Rattle.hw_build.specs.Fitting.{BuiltIsRight};
 ghost use Rattle.hw_build.specs.Forms.{BuiltHasForm};
 ghost use Rattle.hw_build.specs.Meaning.{CopiesGoOn, ResetsGoOn, ResetsAndSetsGoOn, StoresGoOn};
 ghost use Rattle.hw_build.specs.Order.{BuiltHasNoLoop, RegisteredChildrenMakeNoLoop, FreeNetsRestOnNoInput, FreeModulesRestOnNoInput, LooplessByLevels};
-ghost use Rattle.hw_build.specs.Trees.{OneAloneStays, NoneIsZero, SetBitStays, TreesAreOrs, RootsAreDriven, GatesAreDriven};
+ghost use Rattle.hw_build.specs.Trees.{NoneIsZero, SetBitStays, TreesAreOrs, RootsAreDriven};
 
 /// What a register or a memory with a block of its own has in the next cycle.
 pub fn law_blocks()
@@ -55,12 +55,10 @@ pub fn law_elements_in_a_run()
     ensures blocks { BlocksAreOwn }
 {}
 
-/// A tree of ors has the or of its leaves: of numbers of which all but one are 0 that one, and of bits whether one is set.
+/// A tree of ors has the or of its leaves: 0 where all of them are 0, and of bits whether one is set.
 pub fn law_trees()
-    ensures one { OneAloneStays }
     ensures none { NoneIsZero }
     ensures set { SetBitStays }
     ensures trees { TreesAreOrs }
     ensures roots { RootsAreDriven }
-    ensures gates { GatesAreDriven }
 {}

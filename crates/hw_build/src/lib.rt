@@ -17,5 +17,5 @@ pub use laws::{
     law_elements_in_a_run, law_loopless, law_rests_on_no_input, law_trees,
 };
 pub use list_laws::{law_choices, law_fit_in_order, law_fit_in_parts, law_names_once};
-pub use steps::{copy_steps, reset_set_steps, reset_steps, store_steps};
+pub use steps::{copy_steps, first_set_steps, reset_set_steps, reset_steps, store_steps};
 pub use texts::{net, net_value, number, numbered, reset_name, text};

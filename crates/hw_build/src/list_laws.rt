@@ -25,7 +25,7 @@ pub fn law_names_once()
     ensures parts { PartsOnce }
 {}
 
-/// Whether one of many conditions holds, and the value whose condition does: trees of ors over gated values give both in each cycle.
+/// Whether one of many conditions holds, and the value whose condition does: rows of nets give both in each cycle.
 pub fn law_choices()
     ensures set { AnyIsSet }
     ensures clear { AnyIsClear }

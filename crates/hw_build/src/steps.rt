@@ -4,6 +4,7 @@ ghost use Rattle.std.specs.Prelude.{◌≡◌, IfOk};
 ghost use Rattle.std.specs.Str.{IsAscii};
 ghost use Rattle.hw_build.specs.Elements.{copied, reset_or, reset_or_set, stored};
 ghost use Rattle.vlog_tree.specs.declared.tree.Step.TheVariants.{NonblockingAssign};
+ghost use Rattle.vlog_module_laws.specs.Forms.{reset_block};
 
 use crate::texts::{reset_name, text};
 use std::alloc::{AllocError, Global};
@@ -48,7 +49,33 @@ pub fn reset_steps(
     Ok(steps)
 }
 
+/// The register takes its first value where `reset` is 1, and else the next one where `set` is 1.
+pub fn first_set_steps(
+    alloc: Global,
+    reset: &[u8],
+    register: &[u8],
+    first: Atom,
+    set: &[u8],
+    next: Atom,
+) -> Result<Vec<Step>, AllocError>
+    requires reset { IsAscii reset.now }
+    requires register { IsAscii register.now }
+    requires set { IsAscii set.now }
+    ensures { IfOk result (λ steps. steps.items ≡ reset_block reset.now set.now register.now first next) }
+{
+    let mut steps = Vec::new(alloc);
+    steps.push(Step::If(text(alloc, reset)?))?;
+    steps.push(assign(alloc, register, first)?)?;
+    steps.push(Step::Else)?;
+    steps.push(Step::If(text(alloc, set)?))?;
+    steps.push(assign(alloc, register, next)?)?;
+    steps.push(Step::End)?;
+    steps.push(Step::End)?;
+    Ok(steps)
+}
+
 /// The register takes its first value in a cycle of reset, and else the next one where `set` is 1.
+#[tactic(auto, unfolding(vlog_tree::specs::Labels::rst))]
 pub fn reset_set_steps(
     alloc: Global,
     register: &[u8],
@@ -60,15 +87,7 @@ pub fn reset_set_steps(
     requires set { IsAscii set.now }
     ensures { IfOk result (λ steps. steps.items ≡ reset_or_set register.now first set.now next) }
 {
-    let mut steps = Vec::new(alloc);
-    steps.push(Step::If(reset_name(alloc)?))?;
-    steps.push(assign(alloc, register, first)?)?;
-    steps.push(Step::Else)?;
-    steps.push(Step::If(text(alloc, set)?))?;
-    steps.push(assign(alloc, register, next)?)?;
-    steps.push(Step::End)?;
-    steps.push(Step::End)?;
-    Ok(steps)
+    first_set_steps(alloc, b"rst", register, first, set, next)
 }
 
 /// The memory takes a value at an index where `write` is 1.

@@ -1,37 +1,16 @@
-// Gates, and trees of ors.
+// Trees of ors.
 
 ghost use Rattle.std.specs.Prelude.{◌≡◌, ◌+◌, ◌-◌, ◌*◌, ◌^◌, ◌<◌, IfOk};
 ghost use Rattle.std.specs.Str.{IsAscii};
 ghost use Rattle.hw_build.specs.Elements.{with, with_all};
-ghost use Rattle.hw_build.specs.Trees.{gated, tree_node, tree_nodes};
+ghost use Rattle.hw_build.specs.Trees.{tree_node, tree_nodes};
 
 use crate::draft::Draft;
-use crate::texts::{net, number, numbered};
+use crate::texts::numbered;
 use std::alloc::{AllocError, Global};
 use vlog_tree::{Atom, BinaryOp, Value};
 
 impl Draft {
-    /// A wire that has a value where a condition is 1, and else 0.
-    pub fn gate(
-        &mut self,
-        alloc: Global,
-        width: u32,
-        name: &[u8],
-        condition: &[u8],
-        value: Atom,
-    ) -> Result<(), AllocError>
-        requires name { IsAscii name.now }
-        requires condition { IsAscii condition.now }
-        ensures { IfOk result (λ u. self.new ≡ with self.old (gated width name.now condition.now value)) }
-    {
-        let gate = Value::Choose {
-            condition: net(alloc, condition)?,
-            yes: value,
-            no: number(width, 0),
-        };
-        self.wire(alloc, width, name, gate)
-    }
-
     /// The or of the `leaves` nets `front_0`, `front_1` and so on: the nodes of a balanced tree over them are the
     /// nets that follow, and the last of these is its root.
     pub fn or_tree(

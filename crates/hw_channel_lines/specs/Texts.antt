@@ -1,14 +1,17 @@
 -- The modules of a channel by their elements.
 use Rattle.std.specs.Prelude.{◌≡◌, ℕ, ◌+◌, ◌-◌, ◌/◌, ◌%◌, ◌*◌, ◌<◌, List, [], ◌∷◌, codes, ◌==◌, if◌then◌else◌}
+use Rattle.vlog_tree.specs.declared.tree.Atom.{Atom}
 use Rattle.vlog_tree.specs.declared.tree.Atom.TheVariants.{Net, Literal}
 use Rattle.vlog_tree.specs.declared.tree.BinaryOp.{BinaryOp}
 use Rattle.vlog_tree.specs.declared.tree.BinaryOp.TheVariants.{Plus, Minus, And, Xor, Equals, Differs, Less}
 use Rattle.vlog_tree.specs.declared.tree.Value.{Value}
 use Rattle.vlog_tree.specs.declared.tree.Value.TheVariants.{Plain, Binary, Choose, Cell}
+use Rattle.vlog_tree.specs.declared.tree.Step.{Step}
+use Rattle.vlog_tree.specs.declared.tree.Step.TheVariants.{If, End, NonblockingAssign}
 use Rattle.vlog_tree.specs.declared.tree.Connection.{Connection}
 use Rattle.vlog_tree.specs.Form.{ModuleTree}
 use Rattle.vlog_tree.specs.Table.{Name}
-use Rattle.hw_build.specs.Elements.{Element, Input, Output, Outlet, Wire, InstanceWire, Register, Memory, Block, Instance, built, copied, reset_or, reset_or_set, stored}
+use Rattle.hw_build.specs.Elements.{Element, Input, Output, Outlet, Wire, InstanceWire, Register, Memory, Block, Instance, built, reset_or, reset_or_set, stored}
 use Rattle.hw_build.specs.Widths.{bits_for}
 use Rattle.hw_channel_lines.specs.Names.{channel_name, fifo_name, relay_name}
 
@@ -27,13 +30,18 @@ with_number x op w n = Binary (Net x) op (Literal w n)
 abbrev pub clocks : List Connection → List Connection
 clocks connections = connected_to (codes "clk") (codes "clk") ∷ connected_to (codes "rst") (codes "rst") ∷ connections
 
--- One step: the registers are the ports on the other side, and the token is not reset.
+-- the block of a register that takes the number of an atom in the cycles in which a net is 1, and keeps its number in the others
+abbrev pub set_where : Name → Name → Atom → List Step
+set_where x set next = If set ∷ NonblockingAssign x next ∷ End ∷ []
+
+-- One step: the registers are the ports on the other side. The token is not reset; it is taken where one is put in, so that no synthesizer
+-- makes a shift register of a row of steps.
 abbrev pub step_elements : ℕ → List Element
 step_elements bits =
     Input 1 (codes "put") ∷ Input bits (codes "din") ∷ Input 1 (codes "rdy_early")
     ∷ Register 1 (codes "full") ∷ Register bits (codes "token") ∷ Register 1 (codes "room")
     ∷ Output 1 (codes "put_late") (of_net (codes "full")) ∷ Output bits (codes "din_late") (of_net (codes "token")) ∷ Output 1 (codes "rdy") (of_net (codes "room"))
-    ∷ Block (reset_or (codes "full") (Literal 1 0) (Net (codes "put"))) ∷ Block (copied (codes "token") (Net (codes "din"))) ∷ Block
+    ∷ Block (reset_or (codes "full") (Literal 1 0) (Net (codes "put"))) ∷ Block (set_where (codes "token") (codes "put") (Net (codes "din"))) ∷ Block
     (reset_or (codes "room") (Literal 1 0) (Net (codes "rdy_early"))) ∷ []
 
 -- the nets of an instance of a relay

@@ -19,11 +19,11 @@ use Rattle.hw_build.specs.Fits.{IsAmong}
 use Rattle.hw_build.proofs.Parts.{has_each, of_each}
 use Rattle.hw_build.proofs.Picks.{any_set, any_clear, pick_chosen}
 use Rattle.task_fsm.specs.Machine.{StateForm, SetAt, CellAt, TestAt, ReadAt, WriteAt, PeekAt, EotAt, OpenAt, CloseAt, LoadAt, StoreAt, ClearAt, EndAt, TrapAt}
-use Rattle.hw_lines.specs.Nets.{Net, State, At, Go, Inside, Into, ReadInside, ReadOn, Datum, Has as HasNet, Eot as EotNet, Ack, name, Choice, ToState, ToEnd, Set, NextValue, Stores, WriteIndex, WriteData, Reads, ArrayIndex, Puts, Token, Takes, Address, StoreEnable, Data, front}
+use Rattle.hw_lines.specs.Nets.{Net, State, At, Go, Inside, Into, ReadInside, ReadOn, Datum, Has as HasNet, Eot as EotNet, Ack, name, Choice, ToState, ToEnd, Clear, Set, NextValue, Stores, WriteIndex, WriteData, Reads, ArrayIndex, Puts, Token, Takes, Address, StoreEnable, Data, front}
 use Rattle.hw_lines.specs.Shape.{Shape, state_count, form_at}
 use Rattle.hw_lines.specs.Wires.{ArrayRead}
 use Rattle.hw_lines.specs.States.{net, number_of, reads_at, awaited, needs_go, go_of, more_wires}
-use Rattle.hw_lines.specs.Effects.{entry, at, sets, places, contents, spot_of, tokens, takings, askings, savings, endings, effect, entries}
+use Rattle.hw_lines.specs.Effects.{entry, at, first_value, gives, is_same_number, with_number, without_number, places, contents, spot_of, tokens, takings, askings, savings, endings, effect, entries}
 use Rattle.hw_lines.specs.Texts.{asked_of, read_index, most, read_numbers, task_elements}
 use Rattle.hw_lines.proofs.Members.{all, decode_in, go_in, more_in, asked_in}
 
@@ -45,6 +45,23 @@ got_low [] i x e = cc
 got_low (y ∷ ys) zero x e = omega arith
 got_low (y ∷ ys) (suc i) x e = let r = got_low ys i x e in omega (arith, r)
 
+-- what has a number as its value, and what has not, was among the entries
+pub with_in : (a : Atom) (es : List Entry) (d : Entry) → Has (with_number a es) d → Has es d
+with_in a [] d h = h
+with_in a (e ∷ es) d h = here (is_same_number e.value a) (λ k. with_in a es d k) h where
+  here : (b : Bool) → (Has (with_number a es) d → Has es d) → Has (cond b (e ∷ with_number a es) (with_number a es)) d → Has (e ∷ es) d
+  here true more (inl s) = inl s
+  here true more (inr k) = inr (more k)
+  here false more k = inr (more k)
+
+pub without_in : (a : Atom) (es : List Entry) (d : Entry) → Has (without_number a es) d → Has es d
+without_in a [] d h = h
+without_in a (e ∷ es) d h = here (is_same_number e.value a) (λ k. without_in a es d k) h where
+  here : (b : Bool) → (Has (without_number a es) d → Has es d) → Has (cond b (without_number a es) (e ∷ without_number a es)) d → Has (e ∷ es) d
+  here true more k = inr (more k)
+  here false more (inl s) = inl s
+  here false more (inr k) = inr (more k)
+
 module _ (S : Shape) (k : ℕ) (low : k < state_count S) where
   go_there : (f : StateForm) → form_at S k ≡ f → (w : Net) → awaited f ≡ Some w → needs_go f ≡ true → Has (all S) (Wire 1 (name (Go k)) (Binary (net (At k)) And (net w)))
   go_there f is w e l =
@@ -52,8 +69,8 @@ module _ (S : Shape) (k : ℕ) (low : k < state_count S) where
       ap (λ g. go_of k (awaited g) (needs_go g)) is ∙ ap (λ o. go_of k o (needs_go f)) e ∙ ap (go_of k (Some w)) l in
       go_in S k low (Wire 1 (name (Go k)) (Binary (net (At k)) And (net w))) (subst (λ es. Has es (Wire 1 (name (Go k)) (Binary (net (At k)) And (net w)))) (sym same) (inl refl))
 
-  into_there : (f : StateForm) → form_at S k ≡ f → Has (more_wires S k f) (Wire 1 (name (Into k)) (Binary (net (At k)) And (net (Inside k)))) → Has (all S) (Wire 1 (name (Into k)) (Binary (net (At k)) And (net (Inside k))))
-  into_there f is h = more_in S k low (Wire 1 (name (Into k)) (Binary (net (At k)) And (net (Inside k)))) (subst (λ g. Has (more_wires S k g) (Wire 1 (name (Into k)) (Binary (net (At k)) And (net (Inside k))))) (sym is) h)
+  into_there : Has (more_wires S k (form_at S k)) (Wire 1 (name (Into k)) (Binary (net (At k)) And (net (Inside k)))) → Has (all S) (Wire 1 (name (Into k)) (Binary (net (At k)) And (net (Inside k))))
+  into_there h = more_in S k low (Wire 1 (name (Into k)) (Binary (net (At k)) And (net (Inside k)))) h
 
   read_there : (p : ℕ) (r : ArrayRead) → slice_get (reads_at S k) p ≡ Some r → Has (all S) (Wire 1 (name (ReadOn k p)) (Binary (net (At k)) And (net (ReadInside k p))))
   read_there p r is =
@@ -77,48 +94,46 @@ module _ (S : Shape) (k : ℕ) (low : k < state_count S) where
   by_go : (f : StateForm) → form_at S k ≡ f → (w : Net) → awaited f ≡ Some w → needs_go f ≡ true → (a : Atom) → Own (entry (Go k) a)
   by_go f is w e l a = of_entry (Go k) a (Gated (name (Go k)) w (go_there f is w e l))
 
-  by_into : (f : StateForm) → form_at S k ≡ f → Has (more_wires S k f) (Wire 1 (name (Into k)) (Binary (net (At k)) And (net (Inside k)))) → (a : Atom) → Own (entry (Into k) a)
-  by_into f is h a = of_entry (Into k) a (Gated (name (Into k)) (Inside k) (into_there f is h))
+  own_gives : (r : ℕ) (f : StateForm) → form_at S k ≡ f → Own (gives S r k f)
+  own_gives r (SetAt x e next) is d i = of_at x r _ (of_entry (At k) _ Decoded) d i
+  own_gives r (CellAt b j e next) is d i = absurd i
+  own_gives r (TestAt e y n) is d i = absurd i
+  own_gives r (ReadAt s (Some x) next) is d i = of_at x r _ (by_go (ReadAt s (Some x) next) is (Datum s) refl refl _) d i
+  own_gives r (ReadAt s None next) is d i = absurd i
+  own_gives r (WriteAt s e next) is d i = absurd i
+  own_gives r (PeekAt s (Some x) next) is d i = of_at x r _ (by_go (PeekAt s (Some x) next) is (Datum s) refl refl _) d i
+  own_gives r (PeekAt s None next) is d i = absurd i
+  own_gives r (EotAt s (Some x) next) is d i = of_at x r _ (by_go (EotAt s (Some x) next) is (HasNet s) refl refl _) d i
+  own_gives r (EotAt s None next) is d i = absurd i
+  own_gives r (OpenAt s next) is d i = absurd i
+  own_gives r (CloseAt s next) is d i = absurd i
+  own_gives r (LoadAt m j (Some x) next) is d i = of_at x r _ (by_go (LoadAt m j (Some x) next) is (Ack m) refl refl _) d i
+  own_gives r (LoadAt m j None next) is d i = absurd i
+  own_gives r (StoreAt m j e next) is d i = absurd i
+  own_gives r (ClearAt b c next) is d i = of_at c r _ (of_entry (At k) _ Decoded) d i
+  own_gives r EndAt is d i = absurd i
+  own_gives r TrapAt is d i = absurd i
 
-  own_sets : (r : ℕ) (f : StateForm) → form_at S k ≡ f → Own (sets S r k f)
-  own_sets r (SetAt x e next) is d i = of_at x r _ (of_entry (At k) _ Decoded) d i
-  own_sets r (CellAt b j e next) is d i = absurd i
-  own_sets r (TestAt e y n) is d i = absurd i
-  own_sets r (ReadAt s (Some x) next) is d i = of_at x r _ (by_go (ReadAt s (Some x) next) is (Datum s) refl refl _) d i
-  own_sets r (ReadAt s None next) is d i = absurd i
-  own_sets r (WriteAt s e next) is d i = absurd i
-  own_sets r (PeekAt s (Some x) next) is d i = of_at x r _ (by_go (PeekAt s (Some x) next) is (Datum s) refl refl _) d i
-  own_sets r (PeekAt s None next) is d i = absurd i
-  own_sets r (EotAt s (Some x) next) is d i = of_at x r _ (by_go (EotAt s (Some x) next) is (HasNet s) refl refl _) d i
-  own_sets r (EotAt s None next) is d i = absurd i
-  own_sets r (OpenAt s next) is d i = absurd i
-  own_sets r (CloseAt s next) is d i = absurd i
-  own_sets r (LoadAt m j (Some x) next) is d i = of_at x r _ (by_go (LoadAt m j (Some x) next) is (Ack m) refl refl _) d i
-  own_sets r (LoadAt m j None next) is d i = absurd i
-  own_sets r (StoreAt m j e next) is d i = absurd i
-  own_sets r (ClearAt b c next) is d i = of_at c r _ (of_entry (At k) _ Decoded) d i
-  own_sets r EndAt is d i = absurd i
-  own_sets r TrapAt is d i = absurd i
-
-  own_places : (a : ℕ) (f : StateForm) → form_at S k ≡ f → Own (places S a k f)
-  own_places a (SetAt x e next) is d i = absurd i
-  own_places a (CellAt b j e next) is d i = of_at b a _ (by_into (CellAt b j e next) is (inr (inl refl)) _) d i
-  own_places a (TestAt e y n) is d i = absurd i
-  own_places a (ReadAt s into next) is d i = absurd i
-  own_places a (WriteAt s e next) is d i = absurd i
-  own_places a (PeekAt s into next) is d i = absurd i
-  own_places a (EotAt s into next) is d i = absurd i
-  own_places a (OpenAt s next) is d i = absurd i
-  own_places a (CloseAt s next) is d i = absurd i
-  own_places a (LoadAt m j into next) is d i = absurd i
-  own_places a (StoreAt m j e next) is d i = absurd i
-  own_places a (ClearAt b c next) is d i = of_at b a _ (by_into (ClearAt b c next) is (inr (inl refl)) _) d i
-  own_places a EndAt is d i = absurd i
-  own_places a TrapAt is d i = absurd i
+  -- a condition that rests on the wires of a state that writes a cell
+  own_places : (x : Net) (a : ℕ) (f : StateForm) → (Has (more_wires S k f) (Wire 1 (name (Into k)) (Binary (net (At k)) And (net (Inside k)))) → IsCondition S k (name x)) → Own (places S x a k f)
+  own_places x a (SetAt y e next) c d i = absurd i
+  own_places x a (CellAt b j e next) c d i = of_at b a _ (of_entry x _ (c (inr (inl refl)))) d i
+  own_places x a (TestAt e y n) c d i = absurd i
+  own_places x a (ReadAt s into next) c d i = absurd i
+  own_places x a (WriteAt s e next) c d i = absurd i
+  own_places x a (PeekAt s into next) c d i = absurd i
+  own_places x a (EotAt s into next) c d i = absurd i
+  own_places x a (OpenAt s next) c d i = absurd i
+  own_places x a (CloseAt s next) c d i = absurd i
+  own_places x a (LoadAt m j into next) c d i = absurd i
+  own_places x a (StoreAt m j e next) c d i = absurd i
+  own_places x a (ClearAt b r next) c d i = of_at b a _ (of_entry x _ (c (inr (inl refl)))) d i
+  own_places x a EndAt c d i = absurd i
+  own_places x a TrapAt c d i = absurd i
 
   own_contents : (a : ℕ) (f : StateForm) → form_at S k ≡ f → Own (contents S a k f)
   own_contents a (SetAt x e next) is d i = absurd i
-  own_contents a (CellAt b j e next) is d i = of_at b a _ (by_into (CellAt b j e next) is (inr (inl refl)) _) d i
+  own_contents a (CellAt b j e next) is d i = of_at b a _ (of_entry (At k) _ Decoded) d i
   own_contents a (TestAt e y n) is d i = absurd i
   own_contents a (ReadAt s into next) is d i = absurd i
   own_contents a (WriteAt s e next) is d i = absurd i
@@ -128,13 +143,13 @@ module _ (S : Shape) (k : ℕ) (low : k < state_count S) where
   own_contents a (CloseAt s next) is d i = absurd i
   own_contents a (LoadAt m j into next) is d i = absurd i
   own_contents a (StoreAt m j e next) is d i = absurd i
-  own_contents a (ClearAt b c next) is d i = of_at b a _ (by_into (ClearAt b c next) is (inr (inl refl)) _) d i
+  own_contents a (ClearAt b c next) is d i = of_at b a _ (of_entry (At k) _ Decoded) d i
   own_contents a EndAt is d i = absurd i
   own_contents a TrapAt is d i = absurd i
 
-  own_spot : (p a : ℕ) (o : Option ArrayRead) → slice_get (reads_at S k) p ≡ o → Own (spot_of S p a k o)
-  own_spot p a None is d i = absurd i
-  own_spot p a (Some r) is d i = of_at r.array a _ (of_entry (ReadOn k p) _ (Gated (name (ReadOn k p)) (ReadInside k p) (read_there p r is))) d i
+  own_spot : (x : Net) (p a : ℕ) (o : Option ArrayRead) → ((r : ArrayRead) → o ≡ Some r → IsCondition S k (name x)) → Own (spot_of S x p a k o)
+  own_spot x p a None c d i = absurd i
+  own_spot x p a (Some r) c d i = of_at r.array a _ (of_entry x _ (c r refl)) d i
 
   own_tokens : (t : ℕ) (f : StateForm) → form_at S k ≡ f → Own (tokens S t k f)
   own_tokens t (SetAt x e next) is d i = absurd i
@@ -220,13 +235,14 @@ module _ (S : Shape) (k : ℕ) (low : k < state_count S) where
   pub own : (c : Choice) → Own (effect S c k)
   own ToState d i = of_entry (At k) _ Decoded d i
   own ToEnd d i = own_endings (form_at S k) refl d i
-  own (Set r) d i = own_sets r (form_at S k) refl d i
-  own (NextValue r) d i = own_sets r (form_at S k) refl d i
-  own (Stores a) d i = own_places a (form_at S k) refl d i
-  own (WriteIndex a) d i = own_places a (form_at S k) refl d i
+  own (Clear r) d i = own_gives r (form_at S k) refl d (with_in (first_value S r) (gives S r k (form_at S k)) d i)
+  own (Set r) d i = own_gives r (form_at S k) refl d (without_in (first_value S r) (gives S r k (form_at S k)) d i)
+  own (NextValue r) d i = own_gives r (form_at S k) refl d (without_in (first_value S r) (gives S r k (form_at S k)) d i)
+  own (Stores a) d i = own_places (Into k) a (form_at S k) (λ h. Gated (name (Into k)) (Inside k) (into_there h)) d i
+  own (WriteIndex a) d i = own_places (At k) a (form_at S k) (λ h. Decoded) d i
   own (WriteData a) d i = own_contents a (form_at S k) refl d i
-  own (Reads p a) d i = own_spot p a (slice_get (reads_at S k) p) refl d i
-  own (ArrayIndex p a) d i = own_spot p a (slice_get (reads_at S k) p) refl d i
+  own (Reads p a) d i = own_spot (ReadOn k p) p a (slice_get (reads_at S k) p) (λ r is. Gated (name (ReadOn k p)) (ReadInside k p) (read_there p r is)) d i
+  own (ArrayIndex p a) d i = own_spot (At k) p a (slice_get (reads_at S k) p) (λ r is. Decoded) d i
   own (Puts s) d i = own_tokens s (form_at S k) refl d i
   own (Token s) d i = own_tokens s (form_at S k) refl d i
   own (Takes s) d i = own_takings s (form_at S k) refl d i
@@ -265,7 +281,7 @@ module _ (S : Shape) (title : Name) (run : ℕ → Cycle) (f : Follows (built ti
     bit true = omega arith
     bit false = omega arith
 
-  conditions_low : (n k : ℕ) → k < state_count S → (x : Name) → IsCondition S k x → number x n < 2
+  pub conditions_low : (n k : ℕ) → k < state_count S → (x : Name) → IsCondition S k x → number x n < 2
   conditions_low n k h x Decoded = at_low n k h
   conditions_low n k h x (Gated z y there) = subst (λ v. v < 2) (sym (gated x k n y there)) (bit_low (number (name (At k)) n) (number (name y) n) (at_low n k h))
 

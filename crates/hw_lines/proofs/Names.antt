@@ -9,7 +9,7 @@ use Rattle.vlog_tree.specs.Table.{Name}
 use Rattle.vlog_module_laws.proofs.Lists.{both_true}
 use Rattle.hw_build.specs.Trees.{numbered}
 use Rattle.hw_build.proofs.Forms.{all_append, yes_and}
-use Rattle.hw_lines.specs.Nets.{Choice, Net, choice_word, choice_numbers, word, numbers, spelled, name, ToState, ToEnd, Set, NextValue, Stores, WriteIndex, WriteData, Reads, ArrayIndex, Puts, Token, Takes, Address, StoreEnable, Data, State, Ended, Done, Scalar, Variable, Array, Has, Dout, Taken, Din, Wr, Rdy, Ack, Rdata, Addr, Wdata, We, Plain, Datum, Eot, At, Go, Inside, Into, Packed, Next, Value, Index, ReadIndex, ReadInside, ReadOn, Raw, Answer, Node}
+use Rattle.hw_lines.specs.Nets.{Choice, Net, choice_word, choice_numbers, word, numbers, spelled, name, ToState, ToEnd, Clear, Set, NextValue, Stores, WriteIndex, WriteData, Reads, ArrayIndex, Puts, Token, Takes, Address, StoreEnable, Data, State, Ended, Done, Scalar, Variable, Array, Has, Dout, Taken, Din, Wr, Rdy, Ack, Rdata, Addr, Wdata, We, Plain, Datum, Eot, At, Go, Inside, Into, Packed, Reset, Next, Value, Index, ReadIndex, ReadInside, ReadOn, Raw, Answer, Node}
 use Rattle.hw_lines.specs.Names.{AreSmall, NamesTellNets}
 
 -- below `_`, as digits and the letters of words are
@@ -75,6 +75,7 @@ same_spelled w u ns ms h k a b e =
 choice_unmarked : (c : Choice) → list_all no_mark (choice_word c) ≡ true
 choice_unmarked ToState = refl
 choice_unmarked ToEnd = refl
+choice_unmarked (Clear a) = refl
 choice_unmarked (Set a) = refl
 choice_unmarked (NextValue a) = refl
 choice_unmarked (Stores a) = refl
@@ -115,6 +116,7 @@ unmarked (Go a) = refl
 unmarked (Inside a) = refl
 unmarked (Into a) = refl
 unmarked (Packed a) = refl
+unmarked (Reset a) = refl
 unmarked (Next a) = refl
 unmarked (Value a b) = refl
 unmarked (Index a b) = refl
@@ -156,6 +158,7 @@ back w ns =
     cond (bytes_eq w (codes "inside")) (Inside (nth ns 0)) (
     cond (bytes_eq w (codes "into")) (Into (nth ns 0)) (
     cond (bytes_eq w (codes "packed")) (Packed (nth ns 0)) (
+    cond (bytes_eq w (codes "reset")) (Reset (nth ns 0)) (
     cond (bytes_eq w (codes "next")) (Next (nth ns 0)) (
     cond (bytes_eq w (codes "e")) (Value (nth ns 0) (nth ns 1)) (
     cond (bytes_eq w (codes "i")) (Index (nth ns 0) (nth ns 1)) (
@@ -166,6 +169,7 @@ back w ns =
     cond (bytes_eq w (codes "q")) (Answer (nth ns 0) (nth ns 1)) (
     cond (bytes_eq w (codes "to")) (Node ToState (nth ns 0)) (
     cond (bytes_eq w (codes "last")) (Node ToEnd (nth ns 0)) (
+    cond (bytes_eq w (codes "zero")) (Node (Clear (nth ns 0)) (nth ns 1)) (
     cond (bytes_eq w (codes "set")) (Node (Set (nth ns 0)) (nth ns 1)) (
     cond (bytes_eq w (codes "in")) (Node (NextValue (nth ns 0)) (nth ns 1)) (
     cond (bytes_eq w (codes "store")) (Node (Stores (nth ns 0)) (nth ns 1)) (
@@ -179,11 +183,12 @@ back w ns =
     cond (bytes_eq w (codes "ask")) (Node (Address (nth ns 0)) (nth ns 1)) (
     cond (bytes_eq w (codes "save")) (Node (StoreEnable (nth ns 0)) (nth ns 1)) (
     cond (bytes_eq w (codes "data")) (Node (Data (nth ns 0)) (nth ns 1)) (
-    State))))))))))))))))))))))))))))))))))))))))))))))))
+    State))))))))))))))))))))))))))))))))))))))))))))))))))
 
 choice_back : (c : Choice) (j : ℕ) → back (choice_word c) (choice_numbers c ++ j ∷ []) ≡ Node c j
 choice_back ToState j = refl
 choice_back ToEnd j = refl
+choice_back (Clear a) j = refl
 choice_back (Set a) j = refl
 choice_back (NextValue a) j = refl
 choice_back (Stores a) j = refl
@@ -224,6 +229,7 @@ back_is (Go a) = refl
 back_is (Inside a) = refl
 back_is (Into a) = refl
 back_is (Packed a) = refl
+back_is (Reset a) = refl
 back_is (Next a) = refl
 back_is (Value a b) = refl
 back_is (Index a b) = refl

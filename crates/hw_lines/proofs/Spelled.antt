@@ -9,7 +9,7 @@ use Rattle.vlog_tree.specs.Table.{Name}
 use Rattle.vlog_module_laws.proofs.Labelled.{early_name}
 use Rattle.vlog_module_laws.proofs.Lists.{both_true}
 use Rattle.hw_build.proofs.Forms.{all_append, yes_and}
-use Rattle.hw_lines.specs.Nets.{Choice, Net, choice_word, choice_numbers, word, numbers, spelled, name, front, ToState, ToEnd, Set, NextValue, Stores, WriteIndex, WriteData, Reads, ArrayIndex, Puts, Token, Takes, Address, StoreEnable, Data, State, Ended, Done, Scalar, Variable, Array, Has, Dout, Taken, Din, Wr, Rdy, Ack, Rdata, Addr, Wdata, We, Plain, Datum, Eot, At, Go, Inside, Into, Packed, Next, Value, Index, ReadIndex, ReadInside, ReadOn, Raw, Answer, Node}
+use Rattle.hw_lines.specs.Nets.{Choice, Net, choice_word, choice_numbers, word, numbers, spelled, name, front, ToState, ToEnd, Clear, Set, NextValue, Stores, WriteIndex, WriteData, Reads, ArrayIndex, Puts, Token, Takes, Address, StoreEnable, Data, State, Ended, Done, Scalar, Variable, Array, Has, Dout, Taken, Din, Wr, Rdy, Ack, Rdata, Addr, Wdata, We, Plain, Datum, Eot, At, Go, Inside, Into, Packed, Reset, Next, Value, Index, ReadIndex, ReadInside, ReadOn, Raw, Answer, Node}
 use Rattle.hw_lines.specs.Names.{AreSmall, NetsHaveNames, NodesAreNumbered}
 use Rattle.hw_lines.proofs.Names.{tail_of, spelled_tail}
 
@@ -21,6 +21,7 @@ pub nodes_numbered : NodesAreNumbered
 unfolding name front
 nodes_numbered ToState j = refl
 nodes_numbered ToEnd j = refl
+nodes_numbered (Clear a) j = refl
 nodes_numbered (Set a) j = refl
 nodes_numbered (NextValue a) j = refl
 nodes_numbered (Stores a) j = refl
@@ -74,6 +75,7 @@ choice_form : (c : Choice) → has_name_form (choice_word c) ≡ true
 unfolding starts_name goes_on
 choice_form ToState = refl
 choice_form ToEnd = refl
+choice_form (Clear a) = refl
 choice_form (Set a) = refl
 choice_form (NextValue a) = refl
 choice_form (Stores a) = refl
@@ -91,6 +93,7 @@ choice_form (Data a) = refl
 choice_short : (c : Choice) → length (choice_word c) < 10
 choice_short ToState = omega arith
 choice_short ToEnd = omega arith
+choice_short (Clear a) = omega arith
 choice_short (Set a) = omega arith
 choice_short (NextValue a) = omega arith
 choice_short (Stores a) = omega arith
@@ -132,6 +135,7 @@ word_form (Go a) = refl
 word_form (Inside a) = refl
 word_form (Into a) = refl
 word_form (Packed a) = refl
+word_form (Reset a) = refl
 word_form (Next a) = refl
 word_form (Value a b) = refl
 word_form (Index a b) = refl
@@ -168,6 +172,7 @@ word_short (Go a) = omega arith
 word_short (Inside a) = omega arith
 word_short (Into a) = omega arith
 word_short (Packed a) = omega arith
+word_short (Reset a) = omega arith
 word_short (Next a) = omega arith
 word_short (Value a b) = omega arith
 word_short (Index a b) = omega arith
@@ -181,6 +186,7 @@ word_short (Node c j) = choice_short c
 node_named : (c : Choice) (j : ℕ) → AreSmall (choice_numbers c ++ j ∷ []) → is_name (spelled (choice_word c) (choice_numbers c ++ j ∷ [])) ≡ true
 node_named ToState j h = numbered_name (choice_word ToState) j ([]) (choice_short ToState) (choice_form ToState) h
 node_named ToEnd j h = numbered_name (choice_word ToEnd) j ([]) (choice_short ToEnd) (choice_form ToEnd) h
+node_named (Clear a) j h = numbered_name (choice_word (Clear a)) a (j ∷ []) (choice_short (Clear a)) (choice_form (Clear a)) h
 node_named (Set a) j h = numbered_name (choice_word (Set a)) a (j ∷ []) (choice_short (Set a)) (choice_form (Set a)) h
 node_named (NextValue a) j h = numbered_name (choice_word (NextValue a)) a (j ∷ []) (choice_short (NextValue a)) (choice_form (NextValue a)) h
 node_named (Stores a) j h = numbered_name (choice_word (Stores a)) a (j ∷ []) (choice_short (Stores a)) (choice_form (Stores a)) h
@@ -222,6 +228,7 @@ nets_named (Go a) h = numbered_name (word (Go a)) a ([]) (word_short (Go a)) (wo
 nets_named (Inside a) h = numbered_name (word (Inside a)) a ([]) (word_short (Inside a)) (word_form (Inside a)) h
 nets_named (Into a) h = numbered_name (word (Into a)) a ([]) (word_short (Into a)) (word_form (Into a)) h
 nets_named (Packed a) h = numbered_name (word (Packed a)) a ([]) (word_short (Packed a)) (word_form (Packed a)) h
+nets_named (Reset a) h = numbered_name (word (Reset a)) a ([]) (word_short (Reset a)) (word_form (Reset a)) h
 nets_named (Next a) h = numbered_name (word (Next a)) a ([]) (word_short (Next a)) (word_form (Next a)) h
 nets_named (Value a b) h = numbered_name (word (Value a b)) a (b ∷ []) (word_short (Value a b)) (word_form (Value a b)) h
 nets_named (Index a b) h = numbered_name (word (Index a b)) a (b ∷ []) (word_short (Index a b)) (word_form (Index a b)) h

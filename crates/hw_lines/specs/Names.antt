@@ -11,7 +11,7 @@ AreSmall ns = AllByRecursion (λ n. n < 2 ^ 64) ns
 abbrev pub NamesTellNets : Type 0
 NamesTellNets = (x y : Net) → AreSmall (numbers x) → AreSmall (numbers y) → name x ≡ name y → x ≡ y
 
--- the names of the leaves and nodes of a choice are its prefix and their numbers
+-- the names of the nets of a choice are its prefix and their numbers
 abbrev pub NodesAreNumbered : Type 0
 NodesAreNumbered = (c : Choice) (j : ℕ) → name (Node c j) ≡ numbered (front c) j
 

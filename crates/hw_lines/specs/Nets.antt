@@ -3,7 +3,7 @@ use Rattle.std.specs.Prelude.{ℕ, List, [], ◌∷◌, ◌++◌, codes}
 use Rattle.vlog_tree.specs.Table.{Name}
 use Rattle.hw_build.specs.Trees.{numbered}
 pub use Rattle.hw_lines.specs.declared.nets.Choice.{Choice}
-pub use Rattle.hw_lines.specs.declared.nets.Choice.TheVariants.{ToState, ToEnd, Set, NextValue, Stores, WriteIndex, WriteData, Reads, ArrayIndex, Puts, Token, Takes, Address, StoreEnable, Data}
+pub use Rattle.hw_lines.specs.declared.nets.Choice.TheVariants.{ToState, ToEnd, Clear, Set, NextValue, Stores, WriteIndex, WriteData, Reads, ArrayIndex, Puts, Token, Takes, Address, StoreEnable, Data}
 pub use Rattle.hw_lines.specs.declared.nets.Net.{Net}
 pub use Rattle.hw_lines.specs.declared.nets.Net.TheVariants.{
   State,
@@ -31,6 +31,7 @@ pub use Rattle.hw_lines.specs.declared.nets.Net.TheVariants.{
   Inside,
   Into,
   Packed,
+  Reset,
   Next,
   Value,
   Index,
@@ -45,6 +46,7 @@ pub use Rattle.hw_lines.specs.declared.nets.Net.TheVariants.{
 abbrev pub choice_word : Choice → Name
 choice_word ToState = codes "to"
 choice_word ToEnd = codes "last"
+choice_word (Clear a) = codes "zero"
 choice_word (Set a) = codes "set"
 choice_word (NextValue a) = codes "in"
 choice_word (Stores a) = codes "store"
@@ -62,6 +64,7 @@ choice_word (Data a) = codes "data"
 abbrev pub choice_numbers : Choice → List ℕ
 choice_numbers ToState = []
 choice_numbers ToEnd = []
+choice_numbers (Clear a) = a ∷ []
 choice_numbers (Set a) = a ∷ []
 choice_numbers (NextValue a) = a ∷ []
 choice_numbers (Stores a) = a ∷ []
@@ -102,6 +105,7 @@ word (Go a) = codes "go"
 word (Inside a) = codes "inside"
 word (Into a) = codes "into"
 word (Packed a) = codes "packed"
+word (Reset a) = codes "reset"
 word (Next a) = codes "next"
 word (Value a b) = codes "e"
 word (Index a b) = codes "i"
@@ -138,6 +142,7 @@ numbers (Go a) = a ∷ []
 numbers (Inside a) = a ∷ []
 numbers (Into a) = a ∷ []
 numbers (Packed a) = a ∷ []
+numbers (Reset a) = a ∷ []
 numbers (Next a) = a ∷ []
 numbers (Value a b) = a ∷ b ∷ []
 numbers (Index a b) = a ∷ b ∷ []
@@ -155,7 +160,7 @@ spelled word (n ∷ ns) = spelled (numbered word n) ns
 unfoldable pub name : Net → Name
 name x = spelled (word x) (numbers x)
 
--- the prefix of the names of a choice's leaves and nodes
+-- the prefix of the names of a choice's nets
 unfoldable pub front : Choice → Name
 front c = spelled (choice_word c) (choice_numbers c)
 

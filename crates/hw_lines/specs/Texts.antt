@@ -5,26 +5,26 @@ use Rattle.tapa_base.specs.Kinds.{bits_of}
 use Rattle.tapa_syntax.specs.declared.program.End.{End}
 use Rattle.vlog_tree.specs.declared.tree.Atom.{Atom}
 use Rattle.vlog_tree.specs.declared.tree.Atom.TheVariants.{Net as NetAtom, Literal}
-use Rattle.vlog_tree.specs.declared.tree.BinaryOp.TheVariants.{And, Less}
+use Rattle.vlog_tree.specs.declared.tree.BinaryOp.TheVariants.{And, Or, Less}
 use Rattle.vlog_tree.specs.declared.tree.Value.{Value}
 use Rattle.vlog_tree.specs.declared.tree.Value.TheVariants.{Plain, Invert, Binary, Choose, Cell}
 use Rattle.vlog_tree.specs.declared.tree.Step.{Step}
 use Rattle.vlog_tree.specs.Form.{ModuleTree}
 use Rattle.vlog_tree.specs.Labels.{rst}
 use Rattle.vlog_tree.specs.Table.{Name}
-use Rattle.vlog_module_laws.specs.Forms.{set_block}
-use Rattle.hw_build.specs.Elements.{Element, Input, Output, Wire, Register, Memory, Block, built, reset_or, reset_or_set, stored}
+use Rattle.vlog_module_laws.specs.Forms.{reset_block, set_block}
+use Rattle.hw_build.specs.Elements.{Element, Input, Output, Wire, Register, Memory, Block, built, reset_or, stored}
 use Rattle.hw_build.specs.Scope.{each}
 use Rattle.hw_build.specs.Choices.{Entry, any_elements, pick_elements, choice}
 use Rattle.task_fsm.specs.declared.machine.Fsm.{Fsm}
 use Rattle.tapa_base.specs.declared.kind.Kind.{Kind}
-use Rattle.hw_lines.specs.Nets.{Net, State, Ended, Done, Scalar, Variable, Array, Has, Dout, Taken, Din, Wr, Rdy, Ack, Rdata, Addr, Wdata, We, Plain as PlainNet, Datum}
-use Rattle.hw_lines.specs.Nets.{Eot, At, ReadIndex, ReadInside, ReadOn, Raw, Answer, Choice, ToState, ToEnd, Set, NextValue, Stores, WriteIndex, WriteData, Reads, ArrayIndex, Puts, Token}
+use Rattle.hw_lines.specs.Nets.{Net, State, Ended, Done, Reset, Scalar, Variable, Array, Has, Dout, Taken, Din, Wr, Rdy, Ack, Rdata, Addr, Wdata, We, Plain as PlainNet, Datum}
+use Rattle.hw_lines.specs.Nets.{Eot, At, ReadIndex, ReadInside, ReadOn, Raw, Answer, Choice, ToState, ToEnd, Clear, Set, NextValue, Stores, WriteIndex, WriteData, Reads, ArrayIndex, Puts, Token}
 use Rattle.hw_lines.specs.Nets.{Takes, Address, StoreEnable, Data, name, front, read_front}
 use Rattle.hw_lines.specs.Shape.{Shape, shape_of, array_kind, array_cells, stream_kind, register_kind, memory_kind, index_bits, state_count, state_bits}
 use Rattle.hw_lines.specs.Wires.{ArrayRead, Compiled, compiled}
 use Rattle.hw_lines.specs.States.{net, reads_at, state_wires, decoded}
-use Rattle.hw_lines.specs.Effects.{eot_of, entries}
+use Rattle.hw_lines.specs.Effects.{eot_of, first_value, entries}
 
 abbrev pub by_end : List Element → List Element → Bool → List Element
 by_end written read b = if b then written else read
@@ -124,8 +124,13 @@ result S w c = result_of w (front c) (entries S c)
 abbrev pub root : Shape → Choice → Name
 root S c = choice (front c) (entries S c)
 
+-- whether a register gets its first value, where a state clears it
+abbrev pub reset_by : ℕ → List Entry → List Element
+reset_by r [] = []
+reset_by r (e ∷ es) = Wire 1 (name (Reset r)) (Binary (NetAtom rst) Or (NetAtom (choice (front (Clear r)) (e ∷ es)))) ∷ []
+
 abbrev pub variable_choices : Shape → ℕ → List Element
-variable_choices S r = any S (Set r) ++ pick S (bits_of (register_kind S r)) (NextValue r)
+variable_choices S r = any S (Clear r) ++ reset_by r (entries S (Clear r)) ++ any S (Set r) ++ pick S (bits_of (register_kind S r)) (NextValue r)
 
 abbrev pub array_choices : Shape → ℕ → List Element
 array_choices S a = any S (Stores a) ++ pick S (index_bits S a) (WriteIndex a) ++ pick S (bits_of (array_kind S a)) (WriteData a)
@@ -157,28 +162,26 @@ outputs S = (Output 1 (name Done) (Plain (net Ended)) ∷ []) ++ each (stream_ou
 
 -- ---- blocks
 
--- the last scalar parameter of this register, if there is one, and else 0
-abbrev pub first_by : Shape → ℕ → ℕ → Atom
-first_by S r zero = Literal (bits_of (register_kind S r)) 0
-first_by S r (suc i) = if slice_index S.scalars i == r then net (Scalar i) else first_by S r i
-
-abbrev pub first_value : Shape → ℕ → Atom
-first_value S r = first_by S r (length S.scalars)
-
 -- a register that nothing sets keeps its first value
-abbrev pub register_block : Name → Atom → List Entry → Name → Atom → List Step
-register_block x first [] set next = set_block rst x first
-register_block x first (e ∷ es) set next = reset_or_set x first set next
+abbrev pub register_block : Name → Name → Atom → List Entry → Name → Atom → List Step
+register_block reset x first [] set next = set_block reset x first
+register_block reset x first (e ∷ es) set next = reset_block reset set x first next
+
+-- the net at which a register gets its first value
+abbrev pub reset_of : ℕ → List Entry → Name
+reset_of r [] = rst
+reset_of r (e ∷ es) = name (Reset r)
 
 abbrev pub variable_block : Shape → ℕ → List Element
-variable_block S r = Block (register_block (name (Variable r)) (first_value S r) (entries S (Set r)) (root S (Set r)) (NetAtom (root S (NextValue r)))) ∷ []
+variable_block S r =
+    Block (register_block (reset_of r (entries S (Clear r))) (name (Variable r)) (first_value S r) (entries S (Set r)) (root S (Set r)) (NetAtom (root S (NextValue r)))) ∷ []
 
 abbrev pub array_block : Shape → ℕ → List Element
 array_block S a = unless_none (entries S (Stores a)) (Block (stored (name (Array a)) (root S (Stores a)) (root S (WriteIndex a)) (NetAtom (root S (WriteData a)))) ∷ [])
 
 abbrev pub blocks : Shape → List Element
 blocks S =
-    (Block (reset_or (name State) (Literal (state_bits S) 0) (NetAtom (root S ToState))) ∷ Block (register_block (name Ended) (Literal 1 0) (entries S ToEnd) (root S ToEnd) (Literal 1 1)) ∷ [])
+    (Block (reset_or (name State) (Literal (state_bits S) 0) (NetAtom (root S ToState))) ∷ Block (register_block rst (name Ended) (Literal 1 0) (entries S ToEnd) (root S ToEnd) (Literal 1 1)) ∷ [])
     ++ each (variable_block S) (length S.registers) ++ each (array_block S) (length S.arrays)
 
 -- ---- the module

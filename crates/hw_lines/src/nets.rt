@@ -1,13 +1,15 @@
 // The nets of a task's module.
 
-/// What is chosen among the states. Each choice is a tree of nets.
+/// What is chosen among the states. Each choice is a row of nets.
 #[derive(Clone, Copy)]
 pub enum Choice {
     /// The next state.
     ToState,
     /// Whether End is made.
     ToEnd,
-    /// Whether a register gets a value.
+    /// Whether a register gets its first value again.
+    Clear(u32),
+    /// Whether a register gets another value.
     Set(u32),
     /// The value that a register gets.
     NextValue(u32),
@@ -88,6 +90,8 @@ pub enum Net {
     Into(u32),
     /// The token of a datum that a state writes.
     Packed(u32),
+    /// Whether a register gets its first value: at reset, or by a state.
+    Reset(u32),
     /// Where a state leads.
     Next(u32),
     /// The operators of a state's value, in order.
@@ -104,6 +108,6 @@ pub enum Net {
     Raw(u32, u32),
     /// What a state's read gives: the cell, or 0 past the end.
     Answer(u32, u32),
-    /// A leaf or a node of a choice.
+    /// A net of a choice, by its number in the row.
     Node(Choice, u32),
 }

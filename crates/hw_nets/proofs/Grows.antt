@@ -15,6 +15,9 @@ both d e f xs ys p q = q ∙ ap (λ m. with_all m ys) p ∙ sym (all_append d xs
 pub each_next : {A : Type 0} (f : ℕ → List A) (n : ℕ) → each f (n + 1) ≡ each f n ++ f n
 each_next f n = ap (each f) (add-one n)
 
+pub each_step : (d : ModuleTree) (f : ℕ → List Element) (n : ℕ) → with_all d (each f (n + 1)) ≡ with_all (with_all d (each f n)) (f n)
+each_step d f n = ap (with_all d) (each_next f n) ∙ all_append d (each f n) (f n)
+
 -- one part more
 pub each_more : (d e g : ModuleTree) (f : ℕ → List Element) (n : ℕ) → e ≡ with_all d (each f n) → g ≡ with_all e (f n) → g ≡ with_all d (each f (n + 1))
 each_more d e g f n p q = both d e g (each f n) (f n) p q ∙ sym (ap (with_all d) (each_next f n))

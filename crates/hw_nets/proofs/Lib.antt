@@ -1,3 +1,3 @@
 pub mod Grows
 pub mod Shapes
-pub mod Leaves
+pub mod Rows

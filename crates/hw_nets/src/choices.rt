@@ -1,64 +1,59 @@
-// Choices among the states: trees of ors over gated values.
+// Choices among the states: rows of nets, of which the last has the result.
 
 ghost use Rattle.std.specs.Prelude.{◌≡◌, ◌-◌, IfOk, length};
-ghost use Rattle.vlog_tree.specs.declared.tree.Atom.TheVariants.{Net as NetAtom};
-ghost use Rattle.vlog_tree.specs.declared.tree.Value.TheVariants.{Plain};
 ghost use Rattle.hw_build.specs.Elements.{Wire, with, with_all};
-ghost use Rattle.hw_build.specs.Trees.{gated, numbered as numbered_lem, tree_nodes};
-ghost use Rattle.hw_build.specs.Choices.{any_elements, any_leaves, choice as choice_lem, pick_elements, pick_leaves};
+ghost use Rattle.hw_build.specs.Trees.{numbered as numbered_lem};
+ghost use Rattle.hw_build.specs.Choices.{any_driver as any_driver_lem, any_elements, choice as choice_lem, pick_driver as pick_driver_lem, pick_elements};
 ghost use Rattle.hw_lines.specs.Nets.{front as front_lem};
 ghost use Rattle.hw_lines.specs.Texts.{result_of as result_lem};
-ghost use Rattle.hw_nets.specs.Entries.{entry_forms};
+ghost use Rattle.hw_nets.specs.Entries.{entry_form, entry_forms};
 
-use crate::atoms::copy;
+use crate::atoms::{binary, choose, copy, wire};
 use crate::entries::Entry;
 use crate::names::front;
 use hw_build::{Draft, numbered};
 use hw_lines::Choice;
 use std::alloc::{AllocError, Global};
-use tapa_base::{Text, narrow, plus};
-use vlog_tree::{Atom, Value};
+use tapa_base::{Text, narrow};
+use vlog_tree::{Atom, BinaryOp, Value};
 
-// A tree over `leaves` leaves.
-fn add_tree(
-    alloc: Global,
-    draft: &mut Draft,
-    width: u32,
-    front: &Text,
-    leaves: u32,
-) -> Result<(), AllocError>
-    ensures { IfOk result (λ u. draft.new ≡ with_all draft.old (tree_nodes width front.now leaves (leaves - 1))) }
+// Whether the condition of an entry or of one before it holds.
+#[tactic(auto, using(crate::proofs::Rows::first_any, crate::proofs::Rows::later_any))]
+fn any_driver(alloc: Global, front: &Text, j: u32, entry: &Entry) -> Result<Value, AllocError>
+    ensures { IfOk result (λ v. v ≡ any_driver_lem front.now j (entry_form entry.now)) }
 {
-    if leaves >= 2147483648 {
-        return Err(AllocError);
+    let condition = Atom::Net(entry.condition.copy(alloc)?);
+    if j == 0 {
+        return Ok(Value::Plain(condition));
     }
-    draft.or_tree(alloc, width, front.bytes(), leaves)
+    let before = wire(alloc, front, j - 1)?;
+    Ok(binary(before, BinaryOp::Or, condition))
 }
 
-fn add_condition(
+fn add_any_net(
     alloc: Global,
     draft: &mut Draft,
     front: &Text,
     j: u32,
-    condition: &Text,
+    entry: &Entry,
 ) -> Result<(), AllocError>
-    ensures { IfOk result (λ u. draft.new ≡ with draft.old (Wire 1 (numbered_lem front.now j) (Plain (NetAtom condition.now)))) }
+    ensures { IfOk result (λ u. draft.new ≡ with draft.old (Wire 1 (numbered_lem front.now j) (any_driver_lem front.now j (entry_form entry.now)))) }
 {
     let name = numbered(alloc, front.bytes(), j)?;
-    let value = Value::Plain(Atom::Net(condition.copy(alloc)?));
-    draft.wire(alloc, 1, name.bytes(), value)
+    let driver = any_driver(alloc, front, j, entry)?;
+    draft.wire(alloc, 1, name.bytes(), driver)
 }
 
-fn add_conditions(
+fn add_any_row(
     alloc: Global,
     draft: &mut Draft,
     front: &Text,
     entries: &[Entry],
 ) -> Result<(), AllocError>
-    ensures { IfOk result (λ u. draft.new ≡ with_all draft.old (any_leaves front.now 0 (entry_forms entries.now))) }
+    ensures { IfOk result (λ u. draft.new ≡ with_all draft.old (any_elements front.now (entry_forms entries.now))) }
 {
     for (j, entry) in entries.iter().enumerate() {
-        add_condition(alloc, draft, front, narrow(j)?, &entry.condition)?;
+        add_any_net(alloc, draft, front, narrow(j)?, entry)?;
     }
     Ok(())
 }
@@ -73,64 +68,52 @@ pub fn add_any(
     ensures { IfOk result (λ u. draft.new ≡ with_all draft.old (any_elements (front_lem choice) (entry_forms entries.now))) }
 {
     let front = front(alloc, choice)?;
-    let leaves = narrow(entries.len())?;
-    add_conditions(alloc, draft, &front, entries)?;
-    add_tree(alloc, draft, 1, &front, leaves)?;
+    add_any_row(alloc, draft, &front, entries)?;
     Ok(())
 }
 
-fn add_gate(
+// The value of an entry where its condition holds, and that of the net before it otherwise.
+#[tactic(auto, using(crate::proofs::Rows::first_pick, crate::proofs::Rows::later_pick))]
+fn pick_driver(alloc: Global, front: &Text, j: u32, entry: &Entry) -> Result<Value, AllocError>
+    ensures { IfOk result (λ v. v ≡ pick_driver_lem front.now j (entry_form entry.now)) }
+{
+    let value = copy(alloc, &entry.value)?;
+    if j == 0 {
+        return Ok(Value::Plain(value));
+    }
+    let condition = Atom::Net(entry.condition.copy(alloc)?);
+    let before = wire(alloc, front, j - 1)?;
+    Ok(choose(condition, value, before))
+}
+
+fn add_pick_net(
     alloc: Global,
     draft: &mut Draft,
     width: u32,
     front: &Text,
     j: u32,
-    condition: &Text,
-    value: &Atom,
+    entry: &Entry,
 ) -> Result<(), AllocError>
-    ensures { IfOk result (λ u. draft.new ≡ with draft.old (gated width (numbered_lem front.now j) condition.now value.now)) }
+    ensures { IfOk result (λ u. draft.new ≡ with draft.old (Wire width (numbered_lem front.now j) (pick_driver_lem front.now j (entry_form entry.now)))) }
 {
     let name = numbered(alloc, front.bytes(), j)?;
-    let value = copy(alloc, value)?;
-    draft.gate(alloc, width, name.bytes(), condition.bytes(), value)
+    let driver = pick_driver(alloc, front, j, entry)?;
+    draft.wire(alloc, width, name.bytes(), driver)
 }
 
-fn add_gates(
+fn add_pick_row(
     alloc: Global,
     draft: &mut Draft,
     width: u32,
     front: &Text,
     entries: &[Entry],
 ) -> Result<(), AllocError>
-    ensures { IfOk result (λ u. draft.new ≡ with_all draft.old (pick_leaves width front.now 0 (entry_forms entries.now))) }
+    ensures { IfOk result (λ u. draft.new ≡ with_all draft.old (pick_elements width front.now (entry_forms entries.now))) }
 {
     for (j, entry) in entries.iter().enumerate() {
-        add_gate(
-            alloc,
-            draft,
-            width,
-            front,
-            narrow(j)?,
-            &entry.condition,
-            &entry.value,
-        )?;
+        add_pick_net(alloc, draft, width, front, narrow(j)?, entry)?;
     }
     Ok(())
-}
-
-// An only value needs no gate.
-fn add_only(
-    alloc: Global,
-    draft: &mut Draft,
-    width: u32,
-    front: &Text,
-    value: &Atom,
-) -> Result<(), AllocError>
-    ensures { IfOk result (λ u. draft.new ≡ with draft.old (Wire width (numbered_lem front.now 0) (Plain value.now))) }
-{
-    let name = numbered(alloc, front.bytes(), 0)?;
-    let value = Value::Plain(copy(alloc, value)?);
-    draft.wire(alloc, width, name.bytes(), value)
 }
 
 /// Adds the value whose condition holds.
@@ -144,15 +127,7 @@ pub fn add_pick(
     ensures { IfOk result (λ u. draft.new ≡ with_all draft.old (pick_elements width (front_lem choice) (entry_forms entries.now))) }
 {
     let front = front(alloc, choice)?;
-    let leaves = narrow(entries.len())?;
-    if leaves == 0 {
-        return Ok(());
-    }
-    if leaves == 1 {
-        return add_only(alloc, draft, width, &front, &entries[0].value);
-    }
-    add_gates(alloc, draft, width, &front, entries)?;
-    add_tree(alloc, draft, width, &front, leaves)?;
+    add_pick_row(alloc, draft, width, &front, entries)?;
     Ok(())
 }
 
@@ -161,13 +136,12 @@ pub fn root(alloc: Global, choice: Choice, entries: &[Entry]) -> Result<Text, Al
     ensures { IfOk result (λ t. t ≡ choice_lem (front_lem choice) (entry_forms entries.now)) }
 {
     let front = front(alloc, choice)?;
-    let leaves = narrow(entries.len())?;
-    let twice = plus(leaves, leaves)?;
-    numbered(alloc, front.bytes(), twice.saturating_sub(2))
+    let count = narrow(entries.len())?;
+    numbered(alloc, front.bytes(), count.saturating_sub(1))
 }
 
 /// The result of a choice, and 0 where there is nothing to choose.
-#[tactic(auto, using(crate::proofs::Leaves::no_result, crate::proofs::Leaves::some_result))]
+#[tactic(auto, using(crate::proofs::Rows::no_result, crate::proofs::Rows::some_result))]
 pub fn result_of(
     alloc: Global,
     width: u32,

@@ -1,5 +1,5 @@
 //! The nets of a task's module: their names, the atoms and operators that drive them, what a machine's shape gives them, and choices
-//! among entries, each a value and the net that says when it is meant, as trees of ors over gates.
+//! among entries, each a value and the net that says when it is meant, as rows of nets.
 #![tactic(auto)]
 
 mod atoms;

@@ -33,7 +33,7 @@ fn three_numbers(
     numbered(alloc, front.bytes(), third)
 }
 
-/// The prefix of the names of a choice's leaves and nodes.
+/// The prefix of the names of a choice's nets.
 #[tactic(auto, unfolding(hw_lines::specs::Nets::front))]
 pub fn front(alloc: Global, choice: Choice) -> Result<Text, AllocError>
     ensures { IfOk result (λ t. t ≡ front_lem choice) }
@@ -41,6 +41,7 @@ pub fn front(alloc: Global, choice: Choice) -> Result<Text, AllocError>
     match choice {
         Choice::ToState => text(alloc, b"to"),
         Choice::ToEnd => text(alloc, b"last"),
+        Choice::Clear(a) => numbered(alloc, b"zero", a),
         Choice::Set(a) => numbered(alloc, b"set", a),
         Choice::NextValue(a) => numbered(alloc, b"in", a),
         Choice::Stores(a) => numbered(alloc, b"store", a),
@@ -57,7 +58,7 @@ pub fn front(alloc: Global, choice: Choice) -> Result<Text, AllocError>
     }
 }
 
-// A leaf or a node of a choice.
+// A net of a choice, by its number in the row.
 #[tactic(auto, using(hw_lines::proofs::Spelled::nodes_numbered))]
 fn node_name(alloc: Global, choice: Choice, node: u32) -> Result<Text, AllocError>
     ensures { IfOk result (λ t. t ≡ name_lem (Node choice node)) }
@@ -97,6 +98,7 @@ pub fn name(alloc: Global, net: Net) -> Result<Text, AllocError>
         Net::Inside(a) => numbered(alloc, b"inside", a),
         Net::Into(a) => numbered(alloc, b"into", a),
         Net::Packed(a) => numbered(alloc, b"packed", a),
+        Net::Reset(a) => numbered(alloc, b"reset", a),
         Net::Next(a) => numbered(alloc, b"next", a),
         Net::Value(a, b) => two_numbers(alloc, b"e", a, b),
         Net::Index(a, b) => two_numbers(alloc, b"i", a, b),

@@ -10,6 +10,7 @@ pub mod Kahn
 pub mod Joined
 pub mod Timed
 pub mod Pace
+pub mod Prompt
 pub mod Cells
 pub mod Linked
 pub mod Ports

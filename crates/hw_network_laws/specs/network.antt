@@ -2,7 +2,6 @@ pub mod Channel
 pub mod Clocked
 pub mod Joined
 pub mod Timed
-pub mod Pace
 pub mod Cells
 pub mod Ports
 pub mod Parts

@@ -3,6 +3,7 @@
 
 mod blocks;
 mod outputs;
+mod parts;
 
 pub use blocks::add_blocks;
 pub use outputs::{add_choices, add_outputs};

@@ -1,3 +1,4 @@
 pub mod ReadCounts
 pub mod FirstStates
 pub mod StateWires
+pub mod Firsts

@@ -5,14 +5,16 @@ ghost use Rattle.task_fsm.specs.Machine.{form_of};
 ghost use Rattle.hw_lines.specs.declared.nets.Net.TheVariants.{At};
 ghost use Rattle.hw_lines.specs.Shape.{form_at, state_count};
 ghost use Rattle.hw_lines.specs.Effects.{askings, at, contents, datum_of as datum_of_lem, effect as effect_lem, end_token, endings, entries as entries_lem, entry, eot_of};
-ghost use Rattle.hw_lines.specs.Effects.{into_register, places, savings, sets, takings, tokens};
+ghost use Rattle.hw_lines.specs.Effects.{places, savings, takings, tokens};
 ghost use Rattle.hw_lines.specs.States.{next_atom};
 ghost use Rattle.hw_nets.specs.Entries.{entries_in, entry_forms};
-ghost use Rattle.hw_states.specs.ByState.{IsByState};
-ghost use Rattle.hw_states.specs.Operands.{AreOperands, IsOperands};
+ghost use Rattle.hw_states.specs.ByState.{IsByState, first_of as first_of_lem};
+ghost use Rattle.hw_states.specs.Operands.{IsOperands};
 ghost use Rattle.hw_nets.specs.Shapes.{form};
 
-use crate::operands::{Operands, operands_of};
+use crate::machine::Machine;
+use crate::operands::Operands;
+use crate::registers::{clears, first_of, sets};
 use crate::states::number_of;
 use hw_lines::{Choice, Net};
 use hw_nets::{Entry, Shape, add_found, copy, entry_of, literal, low_bits, name, net, power};
@@ -20,8 +22,8 @@ use std::alloc::{AllocError, Global};
 use task_fsm::State;
 use vlog_tree::Atom;
 
-// The datum of a token.
-fn datum_of(alloc: Global, shape: &Shape, stream: u32) -> Result<Atom, AllocError>
+/// The datum of a token.
+pub(crate) fn datum_of(alloc: Global, shape: &Shape, stream: u32) -> Result<Atom, AllocError>
     ensures { IfOk result (λ a. a ≡ datum_of_lem (form shape.now) stream) }
 {
     Ok(Atom::Part {
@@ -51,8 +53,8 @@ fn end_of(shape: &Shape, stream: u32) -> Atom
     literal(shape.token_bits(stream), power(datum))
 }
 
-// An entry for one thing of its sort alone.
-fn entry_at(
+/// An entry for one thing of its sort alone.
+pub(crate) fn entry_at(
     alloc: Global,
     x: u32,
     y: u32,
@@ -68,83 +70,28 @@ fn entry_at(
     }
 }
 
-fn entry_into(
-    alloc: Global,
-    into: Option<u32>,
-    r: u32,
-    condition: Net,
-    value: Atom,
-) -> Result<Option<Entry>, AllocError>
-    ensures { IfOk result (λ o. entries_in o ≡ into_register into r (entry condition value)) }
-{
-    match into {
-        None => Ok(None),
-        Some(x) => entry_at(alloc, x, r, condition, value),
-    }
-}
-
-// Register r.
-fn sets(
-    alloc: Global,
-    shape: &Shape,
-    r: u32,
-    k: u32,
-    state: &State,
-    operands: &Operands,
-) -> Result<Option<Entry>, AllocError>
-    requires { IsOperands (form shape.now) k operands.now }
-    ensures { IfOk result (λ o. entries_in o ≡ sets (form shape.now) r k (form_of state.now)) }
-{
-    match state {
-        State::Set { reg, .. } => {
-            let value = copy(alloc, &operands.value)?;
-            entry_at(alloc, *reg, r, Net::At(k), value)
-        }
-        State::Read { stream, into, .. } => {
-            let value = datum_of(alloc, shape, *stream)?;
-            entry_into(alloc, *into, r, Net::Go(k), value)
-        }
-        State::Peek { stream, into, .. } => {
-            let value = datum_of(alloc, shape, *stream)?;
-            entry_into(alloc, *into, r, Net::Go(k), value)
-        }
-        State::Eot { stream, into, .. } => {
-            let value = end_of_transaction(alloc, shape, *stream)?;
-            entry_into(alloc, *into, r, Net::Go(k), value)
-        }
-        State::Load { memory, into, .. } => {
-            let value = net(alloc, Net::Rdata(*memory))?;
-            entry_into(alloc, *into, r, Net::Go(k), value)
-        }
-        State::Clear { count, .. } => {
-            let value = net(alloc, Net::Value(k, 2))?;
-            entry_at(alloc, *count, r, Net::At(k), value)
-        }
-        _ => Ok(None),
-    }
-}
-
-// Where array a is written.
+// Where array a is written, under the condition of a net.
 fn places(
     alloc: Global,
     shape: &Shape,
+    condition: Net,
     a: u32,
     k: u32,
     state: &State,
     operands: &Operands,
 ) -> Result<Option<Entry>, AllocError>
     requires { IsOperands (form shape.now) k operands.now }
-    ensures { IfOk result (λ o. entries_in o ≡ places (form shape.now) a k (form_of state.now)) }
+    ensures { IfOk result (λ o. entries_in o ≡ places (form shape.now) condition a k (form_of state.now)) }
 {
     match state {
         State::Cell { array, .. } => {
             let place = low_bits(alloc, shape.index_bits(a), &operands.index)?;
-            entry_at(alloc, *array, a, Net::Into(k), place)
+            entry_at(alloc, *array, a, condition, place)
         }
         State::Clear { array, count, .. } => {
             let counter = net(alloc, Net::Variable(*count))?;
             let place = low_bits(alloc, shape.index_bits(a), &counter)?;
-            entry_at(alloc, *array, a, Net::Into(k), place)
+            entry_at(alloc, *array, a, condition, place)
         }
         _ => Ok(None),
     }
@@ -165,11 +112,11 @@ fn contents(
     match state {
         State::Cell { array, .. } => {
             let value = copy(alloc, &operands.value)?;
-            entry_at(alloc, *array, a, Net::Into(k), value)
+            entry_at(alloc, *array, a, Net::At(k), value)
         }
         State::Clear { array, .. } => {
             let zero = literal(shape.array_kind(a).bits(), 0);
-            entry_at(alloc, *array, a, Net::Into(k), zero)
+            entry_at(alloc, *array, a, Net::At(k), zero)
         }
         _ => Ok(None),
     }
@@ -293,11 +240,13 @@ fn effect(
     alloc: Global,
     shape: &Shape,
     choice: Choice,
+    first: &Atom,
     k: u32,
     state: &State,
     operands: &Operands,
 ) -> Result<Option<Entry>, AllocError>
     requires by_state { IsByState choice }
+    requires first { first.now ≡ first_of_lem (form shape.now) choice }
     requires form { form_of state.now ≡ form_at (form shape.now) k }
     requires operands { IsOperands (form shape.now) k operands.now }
     ensures { IfOk result (λ o. entries_in o ≡ effect_lem (form shape.now) choice k) }
@@ -305,10 +254,11 @@ fn effect(
     match choice {
         Choice::ToState => leading(alloc, shape, k, state),
         Choice::ToEnd => endings(alloc, k, state),
-        Choice::Set(r) => sets(alloc, shape, r, k, state, operands),
-        Choice::NextValue(r) => sets(alloc, shape, r, k, state, operands),
-        Choice::Stores(a) => places(alloc, shape, a, k, state, operands),
-        Choice::WriteIndex(a) => places(alloc, shape, a, k, state, operands),
+        Choice::Clear(r) => clears(alloc, shape, first, r, k, state, operands),
+        Choice::Set(r) => sets(alloc, shape, first, r, k, state, operands),
+        Choice::NextValue(r) => sets(alloc, shape, first, r, k, state, operands),
+        Choice::Stores(a) => places(alloc, shape, Net::Into(k), a, k, state, operands),
+        Choice::WriteIndex(a) => places(alloc, shape, Net::At(k), a, k, state, operands),
         Choice::WriteData(a) => contents(alloc, shape, a, k, state, operands),
         Choice::Reads(_, _) => Ok(None),
         Choice::ArrayIndex(_, _) => Ok(None),
@@ -324,38 +274,38 @@ fn effect(
 // Adds what a state gives a choice.
 fn add_effect(
     alloc: Global,
-    shape: &Shape,
+    machine: &Machine,
     choice: Choice,
+    first: &Atom,
     k: u32,
-    operands: &[Operands],
     found: &mut Vec<Entry>,
 ) -> Result<(), AllocError>
     requires by_state { IsByState choice }
-    requires below { k < state_count (form shape.now) }
-    requires operands { AreOperands (form shape.now) operands.now (state_count (form shape.now)) }
-    ensures { IfOk result (λ u. entry_forms found.new.items ≡ entry_forms found.old.items ++ effect_lem (form shape.now) choice k) }
+    requires first { first.now ≡ first_of_lem (form machine.now.shape) choice }
+    requires below { k < state_count (form machine.now.shape) }
+    ensures { IfOk result (λ u. entry_forms found.new.items ≡ entry_forms found.old.items ++ effect_lem (form machine.now.shape) choice k) }
 {
+    let shape = &machine.shape;
     let state = shape.state(k);
-    let atoms = operands_of(shape, operands, k);
-    let entry = effect(alloc, shape, choice, k, state, atoms)?;
+    let atoms = machine.operands_of(k);
+    let entry = effect(alloc, shape, choice, first, k, state, atoms)?;
     add_found(found, entry)
 }
 
 /// What all states give a choice.
 pub fn entries_of(
     alloc: Global,
-    shape: &Shape,
+    machine: &Machine,
     choice: Choice,
-    operands: &[Operands],
 ) -> Result<Vec<Entry>, AllocError>
-    requires by_state { IsByState choice }
-    requires operands { AreOperands (form shape.now) operands.now (state_count (form shape.now)) }
-    ensures { IfOk result (λ v. entry_forms v.items ≡ entries_lem (form shape.now) choice) }
+    requires { IsByState choice }
+    ensures { IfOk result (λ v. entry_forms v.items ≡ entries_lem (form machine.now.shape) choice) }
 {
     let mut found = Vec::new(alloc);
-    let count = shape.state_count()?;
+    let first = first_of(alloc, &machine.shape, choice)?;
+    let count = machine.shape.state_count()?;
     for k in 0..count {
-        add_effect(alloc, shape, choice, k, operands, &mut found)?;
+        add_effect(alloc, machine, choice, &first, k, &mut found)?;
     }
     Ok(found)
 }

@@ -3,11 +3,15 @@
 #![tactic(auto)]
 
 mod effects;
+mod machine;
 mod operands;
 mod parts;
+mod registers;
 mod states;
 
 pub use effects::{end_of_transaction, entries_of};
+pub use machine::Machine;
 pub use operands::{Operands, add_states};
 pub use parts::{reads_at, reads_count};
+pub use registers::first_value;
 pub use states::{add_decodes, add_wire};

@@ -37,12 +37,3 @@ pub fn add_states(
     }
     Ok(operands)
 }
-
-/// Those of one state.
-pub fn operands_of<'a>(shape: &Shape, operands: &'a [Operands], k: u32) -> &'a Operands
-    requires all { AreOperands (form shape.now) operands.now (state_count (form shape.now)) }
-    requires below { k < state_count (form shape.now) }
-    ensures { IsOperands (form shape.now) k result.now }
-{
-    &operands[k as usize]
-}

@@ -337,6 +337,7 @@ fn add_decode(alloc: Global, draft: &mut Draft, shape: &Shape, k: u32) -> Result
 }
 
 /// Adds the decodes of all states.
+#[tactic(auto, using(hw_nets::proofs::Grows::each_step))]
 pub fn add_decodes(alloc: Global, draft: &mut Draft, shape: &Shape) -> Result<(), AllocError>
     ensures { IfOk result (λ u. draft.new ≡ with_all draft.old (each (decoded (form shape.now)) (state_count (form shape.now)))) }
 {

@@ -11,21 +11,21 @@ use Rattle.vlog_tree.specs.Form.{ModuleTree}
 use Rattle.hw_build.specs.Elements.{Element, Wire, with_all}
 use Rattle.hw_build.specs.Scope.{each}
 use Rattle.hw_build.specs.Choices.{Entry as EntryForm, any_elements, pick_elements, choice}
+use Rattle.hw_lines.specs.declared.nets.Choice.{Choice}
 use Rattle.hw_lines.specs.declared.nets.Choice.TheVariants.{Reads, ArrayIndex}
-use Rattle.hw_lines.specs.declared.nets.Net.TheVariants.{Array, Raw, Answer, ReadOn}
+use Rattle.hw_lines.specs.declared.nets.Net.TheVariants.{Array, At, Raw, Answer, ReadOn}
 use Rattle.hw_lines.specs.Nets.{front, name}
-use Rattle.hw_lines.specs.Drivers.{low_bits}
 use Rattle.hw_lines.specs.Shape.{Shape, array_kind, index_bits}
 use Rattle.hw_lines.specs.States.{net, reads_at}
 use Rattle.hw_lines.specs.Wires.{ArrayRead as ReadForm}
-use Rattle.hw_lines.specs.Effects.{at, entry, effect, entries, spot_of}
+use Rattle.hw_lines.specs.Effects.{effect, entries, spot_of}
 use Rattle.hw_lines.specs.Texts.{asked, asked_of, read_index, answered, most}
 use Rattle.hw_nets.proofs.Grows.{both, each_next}
 use Rattle.hw_expressions.specs.declared.reads.ArrayRead.{ArrayRead}
 use Rattle.hw_expressions.specs.Reads.{read_form, read_forms}
 use Rattle.hw_states.proofs.FirstStates.{each_at, each_length}
 use Rattle.hw_task.specs.declared.reads.Asked.{Asked}
-use Rattle.hw_task.specs.Asked.{asked_form, asked_at, AreAsked}
+use Rattle.hw_task.specs.Asked.{asked_form, asked_at, AreAsked, IsOfReads, read_number, spot_given}
 
 -- a read by its number
 get_forms : (xs : List ArrayRead) (p : ℕ) → slice_get (read_forms xs) p ≡ option_map read_form (slice_get xs p)
@@ -91,43 +91,51 @@ asked_here S p n k xs x h l e =
     let c : length xs ≡ n = asked_count S p n xs h in
     ap asked_form e ∙ sym (get_or-map asked_form xs k x (asked_form x) (omega (arith, c, l))) ∙ ap (λ zs. get_or zs k (asked_form x)) h.forms ∙ each_at (asked_at S p) n k (asked_form x) l
 
--- their entries for an array
-by_asked : (S : Shape) (p a k : ℕ) → Option (ℕ × Atom) → List EntryForm
-by_asked S p a k None = []
-by_asked S p a k (Some q) = at q.0 a (entry (ReadOn k p) (low_bits (index_bits S a) q.1))
+-- what they give a choice
+by_asked : (S : Shape) (c : Choice) (k : ℕ) → Option (ℕ × Atom) → List EntryForm
+by_asked S c k None = []
+by_asked S c k (Some q) = spot_given S c k q
 
-entry_is : (S : Shape) (p a k : ℕ) (o : Option ReadForm) → by_asked S p a k (by_read S p k o) ≡ spot_of S p a k o
+read_given : (S : Shape) (p a k : ℕ) (o : Option ReadForm) → by_asked S (Reads p a) k (by_read S p k o) ≡ spot_of S (ReadOn k p) p a k o
 unfolding by_asked by_read
-entry_is S p a k None = refl
-entry_is S p a k (Some r) = refl
+read_given S p a k None = refl
+read_given S p a k (Some r) = refl
 
-entry_here : (S : Shape) (p a k : ℕ) (o : Option (ℕ × Atom)) → o ≡ asked_at S p k → by_asked S p a k o ≡ effect S (Reads p a) k
+place_given : (S : Shape) (p a k : ℕ) (o : Option ReadForm) → by_asked S (ArrayIndex p a) k (by_read S p k o) ≡ spot_of S (At k) p a k o
+unfolding by_asked by_read
+place_given S p a k None = refl
+place_given S p a k (Some r) = refl
+
+given_here : (S : Shape) (c : Choice) (k : ℕ) → IsOfReads c → (o : Option (ℕ × Atom)) → o ≡ asked_at S (read_number c) k → by_asked S c k o ≡ effect S c k
 unfolding by_read
-entry_here S p a k o e = ap (by_asked S p a k) e ∙ entry_is S p a k (slice_get (reads_at S k) p)
+given_here S (Reads p a) k h o e = ap (by_asked S (Reads p a) k) e ∙ read_given S p a k (slice_get (reads_at S k) p)
+given_here S (ArrayIndex p a) k h o e = ap (by_asked S (ArrayIndex p a) k) e ∙ place_given S p a k (slice_get (reads_at S k) p)
+given_here S _ k h o e = absurd h
 
-pub no_entry : (S : Shape) (p a k : ℕ) (x : Option Asked) → asked_form x ≡ asked_at S p k → x ≡ None → [] ≡ effect S (Reads p a) k
+pub no_entry : (S : Shape) (c : Choice) (k : ℕ) (x : Option Asked) → IsOfReads c → asked_form x ≡ asked_at S (read_number c) k → x ≡ None → [] ≡ effect S c k
 unfolding by_asked
-no_entry S p a k x e n = entry_here S p a k None (sym (ap asked_form n) ∙ e)
+no_entry S c k x h e n = given_here S c k h None (sym (ap asked_form n) ∙ e)
 
-pub an_entry : (S : Shape) (p a k : ℕ) (x : Option Asked) (y : Asked) → asked_form x ≡ asked_at S p k → x ≡ Some y → at y.array a (entry (ReadOn k p) (low_bits (index_bits S a) y.index)) ≡ effect S (Reads p a) k
+pub an_entry : (S : Shape) (c : Choice) (k : ℕ) (x : Option Asked) (y : Asked) → IsOfReads c → asked_form x ≡ asked_at S (read_number c) k → x ≡ Some y → spot_given S c k (y.array, y.index) ≡ effect S c k
 unfolding by_asked
-an_entry S p a k x y e n = entry_here S p a k (Some (y.array, y.index)) (sym (ap asked_form n) ∙ e)
+an_entry S c k x y h e n = given_here S c k h (Some (y.array, y.index)) (sym (ap asked_form n) ∙ e)
 
 -- the port
-pub answered_grows : (S : Shape) (p a : ℕ) (F : List EntryForm) (c d e f : ModuleTree) → F ≡ entries S (Reads p a) → d ≡ with_all c (any_elements (front (Reads p a)) F)
-    → e ≡ with_all d (pick_elements (index_bits S a) (front (ArrayIndex p a)) F)
-    → f ≡ with_all e (Wire (bits_of (array_kind S a)) (name (Raw p a)) (Cell (name (Array a)) (choice (front (ArrayIndex p a)) F))
+pub answered_grows : (S : Shape) (p a : ℕ) (F P : List EntryForm) (c d e f : ModuleTree) → F ≡ entries S (Reads p a) → P ≡ entries S (ArrayIndex p a) → d ≡ with_all c (any_elements (front (Reads p a)) F)
+    → e ≡ with_all d (pick_elements (index_bits S a) (front (ArrayIndex p a)) P)
+    → f ≡ with_all e (Wire (bits_of (array_kind S a)) (name (Raw p a)) (Cell (name (Array a)) (choice (front (ArrayIndex p a)) P))
     ∷ Wire (bits_of (array_kind S a)) (name (Answer p a)) (Choose (Net (choice (front (Reads p a)) F)) (net (Raw p a)) (Literal (bits_of (array_kind S a)) 0)) ∷ [])
     → f ≡ with_all c (answered S p a)
-answered_grows S p a F c d e f is x y z =
+answered_grows S p a F P c d e f is at x y z =
     let G : List EntryForm = entries S (Reads p a) in
-    let cells : List EntryForm → List Element =
-    λ (E : List EntryForm). Wire (bits_of (array_kind S a)) (name (Raw p a)) (Cell (name (Array a)) (choice (front (ArrayIndex p a)) E))
+    let H : List EntryForm = entries S (ArrayIndex p a) in
+    let cells : List EntryForm → List EntryForm → List Element =
+    λ (E I : List EntryForm). Wire (bits_of (array_kind S a)) (name (Raw p a)) (Cell (name (Array a)) (choice (front (ArrayIndex p a)) I))
     ∷ Wire (bits_of (array_kind S a)) (name (Answer p a)) (Choose (Net (choice (front (Reads p a)) E)) (net (Raw p a)) (Literal (bits_of (array_kind S a)) 0)) ∷ [] in
-    both c e f (any_elements (front (Reads p a)) G ++ pick_elements (index_bits S a) (front (ArrayIndex p a)) G) (cells G)
-    (both c d e (any_elements (front (Reads p a)) G) (pick_elements (index_bits S a) (front (ArrayIndex p a)) G) (x ∙ ap (λ E. with_all c (any_elements (front (Reads p a)) E)) is)
-    (y ∙ ap (λ E. with_all d (pick_elements (index_bits S a) (front (ArrayIndex p a)) E)) is))
-    (z ∙ ap (λ E. with_all e (cells E)) is)
+    both c e f (any_elements (front (Reads p a)) G ++ pick_elements (index_bits S a) (front (ArrayIndex p a)) H) (cells G H)
+    (both c d e (any_elements (front (Reads p a)) G) (pick_elements (index_bits S a) (front (ArrayIndex p a)) H) (x ∙ ap (λ E. with_all c (any_elements (front (Reads p a)) E)) is)
+    (y ∙ ap (λ E. with_all d (pick_elements (index_bits S a) (front (ArrayIndex p a)) E)) at))
+    (z ∙ ap (λ E. with_all e (cells E P)) is ∙ ap (λ E. with_all e (cells G E)) at)
 
 -- the most reads so far
 pub most_more : (f : ℕ → ℕ) (k : ℕ) → most f (k + 1) ≡ max (most f k) (f k)

@@ -12,7 +12,7 @@ use crate::reads::add_all_reads;
 use hw_build::Draft;
 use hw_nets::Shape;
 use hw_outputs::{add_blocks, add_choices, add_outputs};
-use hw_states::{add_decodes, add_states};
+use hw_states::{Machine, add_decodes, add_states};
 use std::alloc::{AllocError, Global};
 use tapa_base::{Kind, OutOfMemory, Text, narrow};
 use tapa_syntax::End;
@@ -37,9 +37,13 @@ fn add_elements(alloc: Global, draft: &mut Draft, shape: &Shape) -> Result<(), A
     add_offers(alloc, draft, shape)?;
     add_all_reads(alloc, draft, shape)?;
     let operands = add_states(alloc, draft, shape)?;
-    add_choices(alloc, draft, shape, &operands)?;
-    add_outputs(alloc, draft, shape, &operands)?;
-    add_blocks(alloc, draft, shape, &operands)?;
+    let machine = Machine {
+        shape: *shape,
+        operands: &operands,
+    };
+    add_choices(alloc, draft, &machine)?;
+    add_outputs(alloc, draft, &machine)?;
+    add_blocks(alloc, draft, &machine)?;
     Ok(())
 }
 

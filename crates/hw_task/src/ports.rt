@@ -37,6 +37,7 @@ fn add_scalar(alloc: Global, draft: &mut Draft, shape: &Shape, i: u32) -> Result
     add_input(alloc, draft, kind.bits(), Net::Scalar(i))
 }
 
+#[tactic(auto, using(hw_nets::proofs::Grows::each_step))]
 fn add_scalars(alloc: Global, draft: &mut Draft, shape: &Shape) -> Result<(), AllocError>
     ensures { IfOk result (λ u. draft.new ≡ with_all draft.old (each (scalar_port (form shape.now)) (length (form shape.now).scalars))) }
 {
@@ -63,6 +64,7 @@ fn add_stream_inputs(
     }
 }
 
+#[tactic(auto, using(hw_nets::proofs::Grows::each_step))]
 fn add_streams(alloc: Global, draft: &mut Draft, shape: &Shape) -> Result<(), AllocError>
     ensures { IfOk result (λ u. draft.new ≡ with_all draft.old (each (stream_inputs (form shape.now)) (length (form shape.now).streams))) }
 {
@@ -85,6 +87,7 @@ fn add_memory_inputs(
     add_input(alloc, draft, shape.memory_kind(m).bits(), Net::Rdata(m))
 }
 
+#[tactic(auto, using(hw_nets::proofs::Grows::each_step))]
 fn add_memories(alloc: Global, draft: &mut Draft, shape: &Shape) -> Result<(), AllocError>
     ensures { IfOk result (λ u. draft.new ≡ with_all draft.old (each (memory_inputs (form shape.now)) (length (form shape.now).memories))) }
 {
@@ -117,6 +120,7 @@ fn add_variable(alloc: Global, draft: &mut Draft, shape: &Shape, r: u32) -> Resu
     )
 }
 
+#[tactic(auto, using(hw_nets::proofs::Grows::each_step))]
 fn add_variables(alloc: Global, draft: &mut Draft, shape: &Shape) -> Result<(), AllocError>
     ensures { IfOk result (λ u. draft.new ≡ with_all draft.old (each (variable (form shape.now)) (length (form shape.now).registers))) }
 {
@@ -135,6 +139,7 @@ fn add_array(alloc: Global, draft: &mut Draft, shape: &Shape, a: u32) -> Result<
     draft.memory(alloc, width, name.bytes(), shape.array_cells(a))
 }
 
+#[tactic(auto, using(hw_nets::proofs::Grows::each_step))]
 fn add_arrays(alloc: Global, draft: &mut Draft, shape: &Shape) -> Result<(), AllocError>
     ensures { IfOk result (λ u. draft.new ≡ with_all draft.old (each (array (form shape.now)) (length (form shape.now).arrays))) }
 {
@@ -189,6 +194,7 @@ fn add_offered(alloc: Global, draft: &mut Draft, shape: &Shape, s: u32) -> Resul
 }
 
 /// Adds the nets at the reader's ends of streams.
+#[tactic(auto, using(hw_nets::proofs::Grows::each_step))]
 pub(crate) fn add_offers(alloc: Global, draft: &mut Draft, shape: &Shape) -> Result<(), AllocError>
     ensures { IfOk result (λ u. draft.new ≡ with_all draft.old (each (offered (form shape.now)) (length (form shape.now).streams))) }
 {

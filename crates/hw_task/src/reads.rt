@@ -18,7 +18,7 @@ ghost use Rattle.hw_lines.specs.Effects.{at, effect, entries as entries_lem, ent
 ghost use Rattle.hw_lines.specs.Texts.{answered, asked, asked_of, read_index, read_numbers, reads_of};
 ghost use Rattle.hw_nets.specs.Entries.{entries_in, entry_forms};
 ghost use Rattle.hw_expressions.specs.Reads.{read_form};
-ghost use Rattle.hw_task.specs.Asked.{AreAsked, asked_at, asked_form, port_of};
+ghost use Rattle.hw_task.specs.Asked.{AreAsked, IsOfReads, asked_at, asked_form, port_of, read_number, spot_given};
 ghost use Rattle.hw_nets.specs.Shapes.{form};
 
 use hw_build::Draft;
@@ -124,58 +124,74 @@ fn add_all_asked(
     Ok(all)
 }
 
-// The entry of what is asked for, if it is of array a.
-fn spot_of(
+// The entry of what is asked for under the condition of a net, if it is of array a.
+fn spot_in(
     alloc: Global,
     shape: &Shape,
-    p: u32,
+    condition: Net,
     a: u32,
-    k: u32,
     asked: &Asked,
 ) -> Result<Option<Entry>, AllocError>
-    ensures { IfOk result (λ o. entries_in o ≡ at asked.now.array a (entry (ReadOn k p) (low_bits_lem (index_bits_lem (form shape.now) a) asked.now.index))) }
+    ensures { IfOk result (λ o. entries_in o ≡ at asked.now.array a (entry condition (low_bits_lem (index_bits_lem (form shape.now) a) asked.now.index))) }
 {
     if asked.array == a {
         let value = low_bits(alloc, shape.index_bits(a), &asked.index)?;
-        entry_of(alloc, Net::ReadOn(k, p), value)
+        entry_of(alloc, condition, value)
     } else {
         Ok(None)
+    }
+}
+
+// What is asked for gives this to a choice: a place in state k, and a cell that is read where the place is one of the array's.
+fn spot_of(
+    alloc: Global,
+    shape: &Shape,
+    choice: Choice,
+    k: u32,
+    asked: &Asked,
+) -> Result<Option<Entry>, AllocError>
+    ensures { IfOk result (λ o. entries_in o ≡ spot_given (form shape.now) choice k (asked.now.array, asked.now.index)) }
+{
+    match choice {
+        Choice::Reads(p, a) => spot_in(alloc, shape, Net::ReadOn(k, p), a, asked),
+        Choice::ArrayIndex(_, a) => spot_in(alloc, shape, Net::At(k), a, asked),
+        _ => Ok(None),
     }
 }
 
 fn spot_at(
     alloc: Global,
     shape: &Shape,
-    p: u32,
-    a: u32,
+    choice: Choice,
     k: u32,
     asked: &[Option<Asked>],
 ) -> Result<Option<Entry>, AllocError>
+    requires of_reads { IsOfReads choice }
     requires below { k < state_count (form shape.now) }
-    requires asked { AreAsked (form shape.now) p asked.now (state_count (form shape.now)) }
-    ensures { IfOk result (λ o. entries_in o ≡ effect (form shape.now) (Reads p a) k) }
+    requires asked { AreAsked (form shape.now) (read_number choice) asked.now (state_count (form shape.now)) }
+    ensures { IfOk result (λ o. entries_in o ≡ effect (form shape.now) choice k) }
 {
     match &asked[k as usize] {
         None => Ok(None),
-        Some(asked) => spot_of(alloc, shape, p, a, k, asked),
+        Some(asked) => spot_of(alloc, shape, choice, k, asked),
     }
 }
 
-// The entries of the reads with one number of one array.
+// What the reads with one number give a choice, in all states.
 fn spots(
     alloc: Global,
     shape: &Shape,
-    p: u32,
-    a: u32,
+    choice: Choice,
     asked: &[Option<Asked>],
 ) -> Result<Vec<Entry>, AllocError>
-    requires { AreAsked (form shape.now) p asked.now (state_count (form shape.now)) }
-    ensures { IfOk result (λ v. entry_forms v.items ≡ entries_lem (form shape.now) (Reads p a)) }
+    requires of_reads { IsOfReads choice }
+    requires asked { AreAsked (form shape.now) (read_number choice) asked.now (state_count (form shape.now)) }
+    ensures { IfOk result (λ v. entry_forms v.items ≡ entries_lem (form shape.now) choice) }
 {
     let mut found = Vec::new(alloc);
     let count = shape.state_count()?;
     for k in 0..count {
-        let entry = spot_at(alloc, shape, p, a, k, asked)?;
+        let entry = spot_at(alloc, shape, choice, k, asked)?;
         add_found(&mut found, entry)?;
     }
     Ok(found)
@@ -189,17 +205,18 @@ fn add_cell(
     p: u32,
     a: u32,
     found: &[Entry],
+    spots: &[Entry],
 ) -> Result<(), AllocError>
     ensures { IfOk result (λ u. draft.new ≡ with_all draft.old
         (Wire (bits_of (array_kind_lem (form shape.now) a)) (name_lem (Raw p a))
-        (CellValue (name_lem (Array a)) (choice_lem (front_lem (ArrayIndex p a)) (entry_forms found.now))) ∷ Wire (bits_of (array_kind_lem (form shape.now) a))
+        (CellValue (name_lem (Array a)) (choice_lem (front_lem (ArrayIndex p a)) (entry_forms spots.now))) ∷ Wire (bits_of (array_kind_lem (form shape.now) a))
         (name_lem (Answer p a)) (Choose (NetAtom (choice_lem (front_lem (Reads p a)) (entry_forms found.now))) (net_lem (Raw p a))
         (Literal (bits_of (array_kind_lem (form shape.now) a)) 0)) ∷ [])) }
 {
     let width = shape.array_kind(a).bits();
     let cell = Value::Cell {
         memory: name(alloc, Net::Array(a))?,
-        index: root(alloc, Choice::ArrayIndex(p, a), found)?,
+        index: root(alloc, Choice::ArrayIndex(p, a), spots)?,
     };
     add_wire(alloc, draft, width, Net::Raw(p, a), cell)?;
     let on = Atom::Net(root(alloc, Choice::Reads(p, a), found)?);
@@ -214,14 +231,16 @@ fn add_answer(
     p: u32,
     a: u32,
     found: &[Entry],
+    spots: &[Entry],
 ) -> Result<(), AllocError>
-    requires { entry_forms found.now ≡ entries_lem (form shape.now) (Reads p a) }
+    requires found { entry_forms found.now ≡ entries_lem (form shape.now) (Reads p a) }
+    requires spots { entry_forms spots.now ≡ entries_lem (form shape.now) (ArrayIndex p a) }
     ensures { IfOk result (λ u. draft.new ≡ with_all draft.old (answered (form shape.now) p a)) }
 {
     let width = shape.index_bits(a);
     add_any(alloc, draft, Choice::Reads(p, a), found)?;
-    add_pick(alloc, draft, width, Choice::ArrayIndex(p, a), found)?;
-    add_cell(alloc, draft, shape, p, a, found)?;
+    add_pick(alloc, draft, width, Choice::ArrayIndex(p, a), spots)?;
+    add_cell(alloc, draft, shape, p, a, found, spots)?;
     Ok(())
 }
 
@@ -231,19 +250,22 @@ fn add_port(
     shape: &Shape,
     p: u32,
     a: u32,
-    found: &[Entry],
+    asked: &[Option<Asked>],
 ) -> Result<(), AllocError>
-    requires { entry_forms found.now ≡ entries_lem (form shape.now) (Reads p a) }
+    requires { AreAsked (form shape.now) p asked.now (state_count (form shape.now)) }
     ensures { IfOk result (λ u. draft.new ≡ with_all draft.old (port_of (form shape.now) p a)) }
 {
+    let found = spots(alloc, shape, Choice::Reads(p, a), asked)?;
     let count = found.len();
     if count == 0 {
         return Ok(());
     }
-    add_answer(alloc, draft, shape, p, a, found)?;
+    let places = spots(alloc, shape, Choice::ArrayIndex(p, a), asked)?;
+    add_answer(alloc, draft, shape, p, a, &found, &places)?;
     Ok(())
 }
 
+#[tactic(auto, using(hw_nets::proofs::Grows::each_step))]
 fn add_ports(
     alloc: Global,
     draft: &mut Draft,
@@ -256,8 +278,7 @@ fn add_ports(
 {
     let count = shape.arrays()?;
     for a in 0..count {
-        let found = spots(alloc, shape, p, a, asked)?;
-        add_port(alloc, draft, shape, p, a, &found)?;
+        add_port(alloc, draft, shape, p, a, asked)?;
     }
     Ok(())
 }
@@ -291,6 +312,7 @@ fn most_reads(shape: &Shape) -> Result<u32, AllocError>
 }
 
 /// Adds the wires of all reads, lower numbers first: an index reads answers of lower numbers alone.
+#[tactic(auto, using(hw_nets::proofs::Grows::each_step))]
 pub(crate) fn add_all_reads(
     alloc: Global,
     draft: &mut Draft,

@@ -20,7 +20,7 @@ use Rattle.hw_top_laws.specs.modules.Lower.{lower_modules, KeepPromises}
 use Rattle.hw_top_laws.proofs.design.Inputs.{designs_rest_on_no_input}
 use Rattle.hw_top_laws.proofs.circuit.Circuit.{tops_have_scalars, tops_have_memories, tops_have_streams, designs_are_legal, designs_carry_streams, designs_carry_beside}
 use Rattle.hw_top.specs.Kept.{IsKept}
-use Rattle.hw_top.specs.Circuits.{IsCircuitOf}
+use Rattle.circuit_meaning.specs.Circuits.{IsCircuitOf}
 
 last_at : (xs : List ModuleTree) (x : ModuleTree) → slice_get (xs ++ x ∷ []) (length xs) ≡ Some x
 last_at [] x = refl

@@ -5,7 +5,7 @@ ghost use Rattle.tapa_syntax.specs.WellFormed.{IsWellFormed};
 ghost use Rattle.hw_top_lines.specs.Designs.{AreShort};
 ghost use Rattle.hw_top_lines.specs.Legal.{AreMachinesOf};
 ghost use Rattle.tapa_syntax.specs.OwnNames.{HasOwnNames};
-ghost use Rattle.hw_top.specs.Circuits.{IsCircuitOf};
+ghost use Rattle.circuit_meaning.specs.Circuits.{IsCircuitOf};
 
 use crate::modules::modules_of;
 use std::alloc::Global;

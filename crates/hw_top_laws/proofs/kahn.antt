@@ -4,4 +4,5 @@ pub mod Done
 pub mod Asked
 pub mod Carries
 pub mod Waits
+pub mod Gives
 pub mod Excluded

@@ -1,4 +1,2 @@
-pub mod Clock
-pub mod Asked
 pub mod Carries
 pub mod Excluded

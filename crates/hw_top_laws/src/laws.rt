@@ -15,7 +15,7 @@ pub use design::{
 };
 pub use form::law_top_is_right;
 pub use joins::{law_fit_together, law_stand_in_parts};
-pub use kahn::{law_carrying_excludes, law_circuits_carry_streams};
+pub use kahn::{law_carrying_excludes, law_carrying_gives, law_circuits_carry_streams};
 pub use modules::{law_modules_are_apart, law_modules_are_right};
 pub use names::law_top_names;
 pub use runs::law_circuits_are_designs;

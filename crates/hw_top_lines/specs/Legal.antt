@@ -1,18 +1,14 @@
 -- Of which programs a circuit can be made, and its ports.
-use Rattle.std.specs.Prelude.{◌≡◌, ℕ, ◌^◌, ◌≤◌, List, length, map, Some, slice_get}
-use Rattle.tapa_base.specs.declared.shape.Port.{Port}
-use Rattle.tapa_base.specs.Kinds.{bits_of}
+use Rattle.std.specs.Prelude.{◌≡◌, ℕ, ◌^◌, ◌≤◌, List, length, Some, slice_get}
 use Rattle.tapa_syntax.specs.declared.program.Leaf.{Leaf}
-use Rattle.tapa_syntax.specs.declared.program.Memory.{Memory}
 use Rattle.tapa_syntax.specs.declared.program.Program.{Program}
-use Rattle.tapa_syntax.specs.declared.program.Scalar.{Scalar}
-use Rattle.tapa_syntax.specs.declared.program.Stream.{Stream}
 use Rattle.tapa_syntax.specs.OwnNames.{HasOwnNames}
 use Rattle.tapa_syntax.specs.WellFormed.{IsWellFormed}
 use Rattle.task_fsm.specs.declared.machine.Fsm.{Fsm}
 use Rattle.task_fsm.specs.Lowered.{IsLowered}
 use Rattle.hw_top_lines.specs.Designs.{AreShort}
-use Rattle.hw_top_lines.specs.Texts.{token_bits, top_elements}
+use Rattle.hw_top_lines.specs.Texts.{top_elements}
+pub use Rattle.circuit_meaning.specs.Ports.{scalar_ports, memory_ports, stream_ports}
 
 -- each body has its machine
 pub record AreMachinesOf (program : Program) (machines : List Fsm) : Type 0 where
@@ -30,14 +26,3 @@ pub record IsReady (program : Program) (machines : List Fsm) (added : List ℕ) 
   pub lowered : AreMachinesOf program machines
   pub short : AreShort added
   pub countable : IsCountable program added
-
--- ---- the ports of the top: the program's scalars, memories and streams in order
-
-abbrev pub scalar_ports : Program → List Port
-scalar_ports program = map (λ (c : Scalar). record { name = c.name; bits = bits_of c.kind }) program.scalars.items
-
-abbrev pub memory_ports : Program → List Port
-memory_ports program = map (λ (m : Memory). record { name = m.name; bits = bits_of m.kind }) program.memories.items
-
-abbrev pub stream_ports : Program → List Port
-stream_ports program = map (λ (r : Stream). record { name = r.label; bits = token_bits r.kind }) program.streams.items

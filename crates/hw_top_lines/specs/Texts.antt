@@ -1,7 +1,6 @@
 -- The top module of a circuit by its elements: the top task's scalars and memories as ports, six wires for each stream, the
 -- instances of the tasks, connected to these by their parameters, and a channel for each stream.
-use Rattle.std.specs.Prelude.{ℕ, zero, suc, ◌+◌, ◌-◌, List, [], ◌∷◌, ◌++◌, length, Bool, true, Option, Some, None, option_map, unwrap_or, slice_get, slice_index, if◌then◌else◌, codes}
-use Rattle.tapa_base.specs.declared.kind.Kind.{Kind}
+use Rattle.std.specs.Prelude.{ℕ, zero, suc, ◌-◌, List, [], ◌∷◌, ◌++◌, length, Bool, true, Option, Some, None, option_map, unwrap_or, slice_get, slice_index, if◌then◌else◌, codes}
 use Rattle.tapa_base.specs.Kinds.{bits_of}
 use Rattle.tapa_syntax.specs.declared.program.Instance.{Instance}
 use Rattle.tapa_syntax.specs.declared.program.Leaf.{Leaf}
@@ -24,6 +23,7 @@ use Rattle.hw_channel_lines.specs.Texts.{clocks, connected_to}
 use Rattle.hw_lines.specs.declared.nets.Net.TheVariants.{Done, Scalar as ScalarPort, Has, Dout, Taken, Din, Wr, Rdy, Ack, Rdata, Addr, Wdata, We}
 use Rattle.hw_lines.specs.Nets.{name}
 use Rattle.hw_lines.specs.Texts.{is_written, task_name}
+pub use Rattle.circuit_meaning.specs.Ports.{token_bits}
 use Rattle.hw_top_lines.specs.Names.{s_has, s_dout, s_take, task_instance, channel_instance, ended_net, waits}
 use Rattle.hw_top_lines.specs.Bounds.{parameters, bound_by}
 
@@ -45,10 +45,6 @@ ports program =
     ++ each (λ m. memory_ports (slice_get program.memories.items m)) (length program.memories.items)
 
 -- ---- streams
-
--- a token: the bits of its datum, and one that says whether it is the end of a transaction
-abbrev pub token_bits : Kind → ℕ
-token_bits k = bits_of k + 1
 
 abbrev pub stream_wires : Option Stream → List Element
 stream_wires None = []

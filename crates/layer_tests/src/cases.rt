@@ -151,14 +151,28 @@ fn two_workers_meet_in_a_round(rt: HostRuntime) -> Result<(), Fail> {
     Ok(())
 }
 
-// How a case ends that `seats` workers drive at a board, and whether one of them was short.
+// In parallel rounds the others do not go on while an instance is held up: each instance makes one batch a round, so the slow one looks
+// to the end of its patience.
+#[test]
+fn the_others_wait_in_a_round(rt: HostRuntime) -> Result<(), Fail> {
+    let (program, input) = given(rt.alloc(), APART)?;
+    let net = network(rt.alloc(), &program, &input)?;
+    let gate = Slow::new();
+    let run = run_rounds(&rt, rt.alloc(), net, 2, &gate, 100);
+    assert!(rt; matches!(run.end, Ok(Outcome::Done { ticks: 10 })));
+    assert_eq!(rt; gate.seen.load(Ordering::SeqCst), 0);
+    Ok(())
+}
+
+// Returns how a case ends that `seats` workers drive at a board, whether one of them found no memory, and whether one of them left
+// because batches stay small.
 fn at_a_board<R: Threads + Wait + Sync, G: Gate>(
     rt: &R,
     alloc: Global,
     case: Case<Coro>,
     seats: u32,
     gate: &G,
-) -> Result<(Outcome, bool), Fail>
+) -> Result<(Outcome, bool, bool), Fail>
     requires seats { (0 < seats) × (seats ≤ 64) }
     requires home { AreAllHome case }
 {
@@ -167,21 +181,23 @@ fn at_a_board<R: Threads + Wait + Sync, G: Gate>(
     };
     run_free(rt, &board, workers.as_mut_slice(), gate);
     let mut short = false;
+    let mut small = false;
     for worker in workers.iter() {
         short = short || worker.short;
+        small = small || worker.small;
     }
     let outcome = finish(board.close(workers)).end?;
-    Ok((outcome, short))
+    Ok((outcome, short, small))
 }
 
-// Two workers that share a board have both instances under way at once, and none of them is short.
+// Two workers that share a board have both instances under way at once, and none of them is marked.
 #[test]
 fn two_workers_meet_at_a_board(rt: HostRuntime) -> Result<(), Fail> {
     let (program, input) = given(rt.alloc(), SHIFTS)?;
     let case = new_case(rt.alloc(), &program, &input, 20)?;
     let gate = Meeting::new();
     let end = at_a_board(&rt, rt.alloc(), case, 2, &gate)?;
-    assert!(rt; matches!(end, (Outcome::Done { ticks: 20 }, false)));
+    assert!(rt; matches!(end, (Outcome::Done { ticks: 20 }, false, false)));
     assert_eq!(rt; gate.met.load(Ordering::SeqCst), 2);
     Ok(())
 }
@@ -193,7 +209,7 @@ fn the_others_go_on_at_a_board(rt: HostRuntime) -> Result<(), Fail> {
     let case = new_case(rt.alloc(), &program, &input, 100)?;
     let gate = Slow::new();
     let end = at_a_board(&rt, rt.alloc(), case, 2, &gate)?;
-    assert!(rt; matches!(end, (Outcome::Done { ticks: 10 }, false)));
+    assert!(rt; matches!(end, (Outcome::Done { ticks: 10 }, false, false)));
     assert_eq!(rt; gate.seen.load(Ordering::SeqCst), 1);
     Ok(())
 }
@@ -205,7 +221,7 @@ fn behind_a_gate<R: Threads + Wait + Sync>(
     source: &str,
     budget: u64,
     workers: u32,
-) -> Result<(Outcome, bool), Fail>
+) -> Result<(Outcome, bool, bool), Fail>
     requires budget { budget ≤ 1000000000000 }
     requires workers { (0 < workers) × (workers ≤ 64) }
 {
@@ -218,9 +234,9 @@ fn behind_a_gate<R: Threads + Wait + Sync>(
 #[test]
 fn a_network_stops_behind_a_gate(rt: HostRuntime) -> Result<(), Fail> {
     let stopped = behind_a_gate(&rt, rt.alloc(), CROSSED, 100, 2)?;
-    assert!(rt; matches!(stopped, (Outcome::Stopped { ticks: 1 }, false)));
+    assert!(rt; matches!(stopped, (Outcome::Stopped { ticks: 1 }, false, false)));
     let limit = behind_a_gate(&rt, rt.alloc(), SHIFTS, 19, 2)?;
-    assert!(rt; matches!(limit, (Outcome::Limit, false)));
+    assert!(rt; matches!(limit, (Outcome::Limit, false, false)));
     Ok(())
 }
 
@@ -229,19 +245,19 @@ fn a_network_stops_behind_a_gate(rt: HostRuntime) -> Result<(), Fail> {
 fn sixty_four_workers_behind_a_gate(rt: HostRuntime) -> Result<(), Fail> {
     let (whole, apart) = ends(rt.alloc(), PAIRS, 1_000_000)?;
     let by_many = behind_a_gate(&rt, rt.alloc(), PAIRS, 1_000_000, 64)?;
-    assert_eq!(rt; (whole, false), by_many);
+    assert_eq!(rt; (whole, false, false), by_many);
     assert_eq!(rt; whole, apart);
     Ok(())
 }
 
-// Workers whose batches stay small give up, and one thread comes to the end.
+// Workers whose batches stay small leave, and say that it is for this; one thread comes to the end.
 #[test]
-fn workers_with_small_batches_are_short(rt: HostRuntime) -> Result<(), Fail> {
+fn workers_with_small_batches_are_small(rt: HostRuntime) -> Result<(), Fail> {
     let (program, input) = given(rt.alloc(), TO_AND_FRO)?;
     let case = new_case(rt.alloc(), &program, &input, 1_000_000)?;
-    let (end, short) = at_a_board(&rt, rt.alloc(), case, 2, &OpenGate)?;
+    let (end, short, small) = at_a_board(&rt, rt.alloc(), case, 2, &OpenGate)?;
     let (whole, _apart) = ends(rt.alloc(), TO_AND_FRO, 1_000_000)?;
-    assert_eq!(rt; (end, short), (whole, true));
+    assert_eq!(rt; (end, short, small), (whole, false, true));
     Ok(())
 }
 

@@ -51,7 +51,7 @@ fn push_changes(
     ensures count { length values.new.items ≡ length values.old.items }
 {
     for net in 0..widths.len() {
-        let value = sim.value_at(net);
+        let value = sim.value(net);
         let before = values[net];
         let bits = widths[net];
         push_if(text, is_change(first, value, before), net, bits, value)?;

@@ -3,7 +3,7 @@ use Rattle.std.proofs.Common.{◌≡◌, ℕ, suc, ◌+◌, ◌*◌, ◌<◌, �
 use Rattle.std.specs.Prelude.{if◌then◌else◌, ◌==◌, nat_lt}
 use Rattle.std.proofs.lemmas.Bool.{cases_lt}
 use Rattle.std.proofs.lemmas.Bool.Decides.{nat_tests}
-use Rattle.std.proofs.lemmas.Grind.{common_steps}
+use Rattle.std.proofs.lemmas.List.{get_or_append_left, get_or_push}
 use Rattle.task_graph.specs.declared.Use.{Use}
 use Rattle.task_graph.specs.Streams.{amount_at}
 use Rattle.task_graph.specs.Arcs.{total}
@@ -25,22 +25,16 @@ not_after_fork [] r t x y l = inl l
 not_after_fork (z ∷ zs) r t x y l = inr (refl, not_after_fork zs r t x y l)
 
 -- a place of a beginning is that of the whole list
-pub front_place : (p rest : List ℕ) (j : ℕ) → j < length p → get_or (p ++ rest) j 0 ≡ get_or p j 0
-front_place p rest j l = grind (arith, common_steps)
-
-pub last_place : (p : List ℕ) (s : ℕ) → get_or (p ++ s ∷ []) (length p) 0 ≡ s
-last_place p s = grind (arith, common_steps)
-
 pub push_long : (p : List ℕ) (s : ℕ) → length (p ++ s ∷ []) ≡ suc (length p)
 push_long p s = let y = length-append p (s ∷ []) in omega arith
 
 -- what is joined with a list's first n items is joined with those of its beginning
 front_joined : (t : Tables) (p rest : List ℕ) (n j y : ℕ) → n ≤ length p → total n (λ i. joint_at t i j * distance_at t (get_or (p ++ rest) i 0) y) ≡ total n (λ i. joint_at t i j * distance_at t (get_or p i 0) y)
-front_joined t p rest n j y l = total_same n _ _ (λ i li. ap (λ (x : ℕ). joint_at t i j * distance_at t x y) (front_place p rest i (omega arith)))
+front_joined t p rest n j y l = total_same n _ _ (λ i li. ap (λ (x : ℕ). joint_at t i j * distance_at t x y) (get_or_append_left p rest 0 i (omega arith)))
 
 pub front_step : (t : Tables) (p rest : List ℕ) (j : ℕ) → j < length p → step_cost t (p ++ rest) j ≡ step_cost t p j
 front_step t p rest j l =
-    let e = front_place p rest j l in
+    let e = get_or_append_left p rest 0 j l in
     let a = front_joined t p rest j j (get_or (p ++ rest) j 0) (omega arith) in
     let b = ap (λ (y : ℕ). alone_at t j y + total j (λ i. joint_at t i j * distance_at t (get_or p i 0) y)) e in
     omega arith
@@ -51,7 +45,7 @@ beside_push t p s j y =
     let q = p ++ s ∷ [] in
     let a = ap (λ (n : ℕ). total n (λ i. joint_at t i j * distance_at t (get_or q i 0) y)) (push_long p s) in
     let b = front_joined t p (s ∷ []) (length p) j y (omega arith) in
-    let c = ap (λ (x : ℕ). joint_at t (length p) j * distance_at t x y) (last_place p s) in
+    let c = ap (λ (x : ℕ). joint_at t (length p) j * distance_at t x y) (get_or_push p s 0 (length p) refl) in
     omega arith
 
 -- one more item
@@ -61,7 +55,7 @@ cost_push t p s =
     let a = ap (λ (n : ℕ). total n (step_cost t q)) (push_long p s) in
     let b : total (length p) (step_cost t q) ≡ total (length p) (step_cost t p) = total_same (length p) _ _ (λ j l. front_step t p (s ∷ []) j l) in
     let c = front_joined t p (s ∷ []) (length p) (length p) (get_or q (length p) 0) (omega arith) in
-    let e = ap (λ (y : ℕ). beside t p (length p) y) (last_place p s) in
+    let e = ap (λ (y : ℕ). beside t p (length p) y) (get_or_push p s 0 (length p) refl) in
     omega arith
 
 -- an item of a whole list costs at least what it costs beside a beginning
@@ -69,7 +63,7 @@ step_at_least : (t : Tables) (p q : List ℕ) (j : ℕ) → Begins p q → lengt
 step_at_least t p q j (rest, is) l =
     let y = get_or q j 0 in
     let a : total (length p) (λ i. joint_at t i j * distance_at t (get_or q i 0) y) ≡ total (length p) (λ i. joint_at t i j * distance_at t (get_or p i 0) y) =
-    total_same (length p) _ _ (λ i li. ap (λ (x : ℕ). joint_at t i j * distance_at t x y) (ap (λ (x : List ℕ). get_or x i 0) is ∙ front_place p rest i li)) in
+    total_same (length p) _ _ (λ i li. ap (λ (x : ℕ). joint_at t i j * distance_at t x y) (ap (λ (x : List ℕ). get_or x i 0) is ∙ get_or_append_left p rest 0 i li)) in
     let b = total_more (length p) j (λ i. joint_at t i j * distance_at t (get_or q i 0) y) l in
     omega arith
 
@@ -104,7 +98,7 @@ none_below t p at inside = omega arith
 pub load_at_most : (needs : List Use) (p q : List ℕ) (s k : ℕ) → Begins p q → load needs p s k ≤ load needs q s k
 load_at_most needs p q s k (rest, is) =
     let a : total (length p) (λ v. if get_or p v 0 == s then amount_at needs v k else 0) ≡ total (length p) (λ v. if get_or q v 0 == s then amount_at needs v k else 0) =
-    total_same (length p) _ _ (λ v l. ap (λ (x : ℕ). if x == s then amount_at needs v k else 0) (sym (ap (λ (x : List ℕ). get_or x v 0) is ∙ front_place p rest v l))) in
+    total_same (length p) _ _ (λ v l. ap (λ (x : ℕ). if x == s then amount_at needs v k else 0) (sym (ap (λ (x : List ℕ). get_or x v 0) is ∙ get_or_append_left p rest 0 v l))) in
     let n : length p ≤ length q = (let x = ap length is in let y = length-append p rest in omega arith) in
     let m = total_more (length p) (length q) (λ v. if get_or q v 0 == s then amount_at needs v k else 0) n in
     omega arith
@@ -113,9 +107,9 @@ pub load_push : (needs : List Use) (p : List ℕ) (t s k : ℕ) → load needs (
 load_push needs p t s k =
     let q = p ++ t ∷ [] in
     let a : total (length p) (λ v. if get_or q v 0 == s then amount_at needs v k else 0) ≡ total (length p) (λ v. if get_or p v 0 == s then amount_at needs v k else 0) =
-    total_same (length p) _ _ (λ v l. ap (λ (x : ℕ). if x == s then amount_at needs v k else 0) (front_place p (t ∷ []) v l)) in
+    total_same (length p) _ _ (λ v l. ap (λ (x : ℕ). if x == s then amount_at needs v k else 0) (get_or_append_left p (t ∷ []) 0 v l)) in
     let e = ap (λ (j : ℕ). total j (λ v. if get_or q v 0 == s then amount_at needs v k else 0)) (push_long p t) in
-    let f = ap (λ (x : ℕ). if x == s then amount_at needs (length p) k else 0) (last_place p t) in
+    let f = ap (λ (x : ℕ). if x == s then amount_at needs (length p) k else 0) (get_or_push p t 0 (length p) refl) in
     omega arith
 
 -- a list that begins with p and goes on
@@ -123,7 +117,7 @@ pub begins_push : (p q : List ℕ) (t : ℕ) → Begins (p ++ t ∷ []) q → Be
 begins_push p q t (rest, is) = (t ∷ rest, is ∙ append_assoc p (t ∷ []) rest)
 
 pub place_of_begin : (p q : List ℕ) (t : ℕ) → Begins (p ++ t ∷ []) q → get_or q (length p) 0 ≡ t
-place_of_begin p q t (rest, is) = ap (λ (x : List ℕ). get_or x (length p) 0) is ∙ (front_place (p ++ t ∷ []) rest (length p) (let y = length-append p (t ∷ []) in omega arith) ∙ last_place p t)
+place_of_begin p q t (rest, is) = ap (λ (x : List ℕ). get_or x (length p) 0) is ∙ (get_or_append_left (p ++ t ∷ []) rest 0 (length p) (let y = length-append p (t ∷ []) in omega arith) ∙ get_or_push p t 0 (length p) refl)
 
 -- a longer list goes on with some place
 pub goes_on : (p q : List ℕ) → length p < length q → Begins p q → (t : ℕ) × Begins (p ++ t ∷ []) q

@@ -1,18 +1,8 @@
 -- Tables, cell by cell.
 use Rattle.std.proofs.Common.{◌≡◌, ℕ, zero, suc, ◌+◌, ◌-◌, ◌*◌, ◌<◌, ◌≤◌, List, [], ◌∷◌, ◌++◌, length, get_or, map, ap, ◌∙◌, arith, ⊎_elim, length-append}
 use Rattle.std.proofs.lemmas.Bool.{cases_lt}
-use Rattle.std.proofs.lemmas.Grind.{common_steps}
-use Rattle.std.proofs.lemmas.List.{get_or-map, length-map}
+use Rattle.std.proofs.lemmas.List.{get_or-map, length-map, get_or_append_left, get_or-append-add}
 use Rattle.slot_plan.specs.Merging.{table_of}
-
-front_cell : (front back : List ℕ) (i : ℕ) → i < length front → get_or (front ++ back) i 0 ≡ get_or front i 0
-front_cell front back i l = grind (arith, common_steps)
-
-later_cell : (front back : List ℕ) (i : ℕ) → get_or (front ++ back) (length front + i) 0 ≡ get_or back i 0
-later_cell [] back i = ap (λ (j : ℕ). get_or back j 0) (omega arith)
-later_cell (a ∷ front) back i =
-    let e : length (a ∷ front) + i ≡ suc (length front + i) = omega arith in
-    ap (λ (j : ℕ). get_or (a ∷ (front ++ back)) j 0) e ∙ later_cell front back i
 
 pub length_table : (F : ℕ → ℕ → ℕ) (xs ys : List ℕ) → length (table_of F xs ys) ≡ length xs * length ys
 length_table F [] ys = omega arith
@@ -27,12 +17,12 @@ cell_table F (x ∷ xs) ys zero j l lj =
     let a : zero * length ys + j ≡ j = omega arith in
     let b = length-map ys (F x) in
     ap (λ (k : ℕ). get_or (map (F x) ys ++ table_of F xs ys) k 0) a
-    ∙ (front_cell (map (F x) ys) (table_of F xs ys) j (omega arith) ∙ get_or-map (F x) ys j 0 0 lj)
+    ∙ (get_or_append_left (map (F x) ys) (table_of F xs ys) 0 j (omega arith) ∙ get_or-map (F x) ys j 0 0 lj)
 cell_table F (x ∷ xs) ys (suc i) j l lj =
     let b = length-map ys (F x) in
     let a : suc i * length ys + j ≡ length (map (F x) ys) + (i * length ys + j) = omega arith in
     ap (λ (k : ℕ). get_or (map (F x) ys ++ table_of F xs ys) k 0) a
-    ∙ (later_cell (map (F x) ys) (table_of F xs ys) (i * length ys + j) ∙ cell_table F xs ys i j (omega arith) lj)
+    ∙ (get_or-append-add (map (F x) ys) (table_of F xs ys) (i * length ys + j) 0 ∙ cell_table F xs ys i j (omega arith) lj)
 
 past_none : (c : ℕ) (K : ℕ) → get_or [] c 0 ≤ K
 past_none c K = omega arith
@@ -48,11 +38,11 @@ table_low F (x ∷ xs) ys K c h =
     let row = map (F x) ys in
     ⊎_elim
     (λ (l : c < length row).
-    let a = front_cell row (table_of F xs ys) c l in
+    let a = get_or_append_left row (table_of F xs ys) 0 c l in
     let b = row_low (F x) ys K c (λ j lj. h 0 j (omega arith) lj) in omega arith)
     (λ (l : length row ≤ c).
     let e : c ≡ length row + (c - length row) = omega arith in
     let a = ap (λ (k : ℕ). get_or (row ++ table_of F xs ys) k 0) e in
-    let b = later_cell row (table_of F xs ys) (c - length row) in
+    let b = get_or-append-add row (table_of F xs ys) (c - length row) 0 in
     let r = table_low F xs ys K (c - length row) (λ i j li lj. h (suc i) j (omega arith) lj) in omega arith)
     (cases_lt c (length row))

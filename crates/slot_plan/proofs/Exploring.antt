@@ -1,20 +1,21 @@
 -- The search for the least layout.
 use Rattle.std.proofs.Common.{◌≡◌, ℕ, ◌+◌, ◌*◌, ◌<◌, ◌≤◌, ◌⊎◌, inl, inr, true, false, List, [], ◌∷◌, ◌++◌, length, get_or, set, refl, sym, ap, subst, ◌∙◌, arith, ⊎_elim, length-set, append_assoc, append-nil, Option, None, Some}
 use Rattle.std.specs.Prelude.{MatchOption, IsTrue, ◌↔◌}
-use Rattle.std.proofs.lemmas.Bool.{cases_lt}
+use Rattle.std.proofs.lemmas.Bool.{cases_lt, false≢true}
 use Rattle.std.proofs.lemmas.Nat.{mul-le}
+use Rattle.std.proofs.lemmas.List.{get_or_append_left, get_or_push}
 use Rattle.task_graph.specs.declared.Use.{Use}
 use Rattle.task_graph.specs.Streams.{amount, amount_at}
 use Rattle.slot_plan.specs.declared.search.Best.{Best}
 use Rattle.slot_plan.specs.declared.tables.Tables.{Tables}
 use Rattle.slot_plan.specs.Least.{NotAfter}
 use Rattle.slot_plan.specs.Plan.{load}
-use Rattle.slot_plan.specs.Search.{IsAnswer, Begins, IsSound, Covers, IsEarlier, IsFrom, Explored, ExploredBelow, AreRows, IsBelowRest, IsAt, IsAtPlace}
+use Rattle.slot_plan.specs.Search.{IsAnswer, Begins, IsSound, Covers, IsEarlier, IsFrom, Explored, ExploredBelow, IsBelowRest, IsAt, IsAtPlace}
 use Rattle.slot_plan.specs.Tables.{items, places, joint_at, distance_at, beside, cost_of, Suits, IsLayout, AreTables}
 use Rattle.flow_cert.proofs.Sums.{total_le, total_const}
 use Rattle.slot_plan.proofs.Sums.{pick_same, pick_other}
 use Rattle.slot_plan.proofs.Uses.{amount_set}
-use Rattle.slot_plan.proofs.Beginnings.{goes_on, begins_all, cost_push, load_push, load_at_most, low_at_most, none_below, not_after_fork, not_after_refl, place_of_begin, begins_push, front_place, last_place, push_long}
+use Rattle.slot_plan.proofs.Beginnings.{goes_on, begins_all, cost_push, load_push, load_at_most, low_at_most, none_below, not_after_fork, not_after_refl, place_of_begin, begins_push, push_long}
 
 -- all layouts that begin so cost at least a number, and the best no more than that
 pub explored_prune : (t : Tables) (p : List ℕ) (bound : ℕ) (b : Best) → IsSound t (Some b) → ((q : List ℕ) → Begins p q → IsEarlier (Some b) q) → ((q : List ℕ) → IsLayout t q → Begins p q → bound ≤ cost_of t q) → b.cost ≤ bound → Explored t p (Some b) (Some b)
@@ -28,11 +29,8 @@ explored_prune t p bound b sound earlier least le = record {
   from = inl refl;
 }
 
-false_not_true : false ≡ true → ⊥
-false_not_true e = cc
-
 pub prune_any : (t : Tables) (p : List ℕ) (bound : ℕ) (best : Option Best) → IsSound t best → ((q : List ℕ) → Begins p q → IsEarlier best q) → ((q : List ℕ) → IsLayout t q → Begins p q → bound ≤ cost_of t q) → MatchOption best (true ≡ false) (λ b. IsTrue true ↔ (b.cost ≤ bound)) → Explored t p best best
-prune_any t p bound None sound earlier least h = absurd (false_not_true (sym h))
+prune_any t p bound None sound earlier least h = absurd (false≢true (sym h))
 prune_any t p bound (Some b) sound earlier least h = explored_prune t p bound b sound earlier least (h.0 refl)
 
 -- at a beginning, with a number that the rest costs at least
@@ -49,7 +47,7 @@ IsDear (Some b) bound = bound < b.cost
 
 pub dear_any : (bound : ℕ) (best : Option Best) → MatchOption best (false ≡ false) (λ b. IsTrue false ↔ (b.cost ≤ bound)) → IsDear best bound
 dear_any bound None h = tt
-dear_any bound (Some b) h = ⊎_elim (λ (l : bound < b.cost). l) (λ (l : b.cost ≤ bound). absurd (false_not_true (h.1 l))) (cases_lt bound b.cost)
+dear_any bound (Some b) h = ⊎_elim (λ (l : bound < b.cost). l) (λ (l : b.cost ≤ bound). absurd (false≢true (h.1 l))) (cases_lt bound b.cost)
 
 leaf_kept : (t : Tables) (p : List ℕ) (spent low : ℕ) (old : Option Best) (new : Best) → IsSound t old → IsDear old (spent + low) → spent ≡ cost_of t p → new.places.items ≡ p → (q : List ℕ) → Covers t old q → Covers t (Some new) q
 leaf_kept t p spent low None new s dear is np q c = absurd c
@@ -215,18 +213,18 @@ at_child t p left spent best s after more at suits is m low =
       short = (let a = at.more in omega arith);
       rooms = record {
         inside = λ j l. ⊎_elim
-            (λ (k : j < length p). let e = front_place p (s ∷ []) j k in let a = at.rooms.inside j k in omega arith)
+            (λ (k : j < length p). let e = get_or_append_left p (s ∷ []) 0 j k in let a = at.rooms.inside j k in omega arith)
             (λ (k : length p ≤ j).
             let e : length p ≡ j = omega arith in
             let a = ap (λ (u : ℕ). get_or q u 0) e in
-            let b = last_place p s in
+            let b = get_or_push p s 0 (length p) refl in
             let c = at.place in omega arith)
             (cases_lt j (length p));
         home = λ j l. ⊎_elim
-            (λ (k : j < length p). subst (Suits t j) (sym (front_place p (s ∷ []) j k)) (at.rooms.home j k))
+            (λ (k : j < length p). subst (Suits t j) (sym (get_or_append_left p (s ∷ []) 0 j k)) (at.rooms.home j k))
             (λ (k : length p ≤ j).
             let e : length p ≡ j = omega arith in
-            subst (λ (i : ℕ). Suits t i (get_or q i 0)) e (subst (Suits t (length p)) (sym (last_place p s)) suits))
+            subst (λ (i : ℕ). Suits t i (get_or q i 0)) e (subst (Suits t (length p)) (sym (get_or_push p s 0 (length p) refl)) suits))
             (cases_lt j (length p));
         within = λ y k l. (let a = value y k l in omega arith);
       };
@@ -254,9 +252,6 @@ at_start t left e = record {
   sound = tt;
   earlier = λ q b. tt;
 }
-
-pub rows_start : (t : Tables) → AreTables t → AreRows t [] t.alone.items
-rows_start t h = record { long = h.alone; value = λ j y l lj ly. omega arith }
 
 pub answered : (t : Tables) (new : Option Best) → Explored t [] None new → IsAnswer t new
 answered t None h = λ q layout. h.covered q layout (q, refl)

@@ -1,8 +1,8 @@
 -- How the tables of the search are filled, and that their numbers are small.
-use Rattle.std.proofs.Common.{◌≡◌, ℕ, zero, suc, ◌+◌, ◌*◌, ◌<◌, ◌≤◌, ◌⊎◌, inl, inr, Bool, true, false, List, [], ◌∷◌, ◌++◌, length, get_or, map, take, drop, refl, sym, ap, subst, ◌∙◌, arith, add-one, ⊎_elim, append-nil}
+use Rattle.std.proofs.Common.{◌≡◌, ℕ, zero, suc, ◌+◌, ◌*◌, ◌<◌, ◌≤◌, ◌⊎◌, inl, inr, Bool, true, false, List, [], ◌∷◌, ◌++◌, length, get_or, map, take, drop, refl, sym, ap, ◌∙◌, arith, add-one, ⊎_elim, append-nil}
 use Rattle.std.specs.Prelude.{if◌then◌else◌, not}
 use Rattle.std.proofs.Math.Nat.{div-le_self, mod-lt}
-use Rattle.std.proofs.lemmas.Bool.{cases_eq}
+use Rattle.std.proofs.lemmas.Bool.{cases_eq, false≢true}
 use Rattle.std.proofs.lemmas.Grind.{flat_map-append}
 use Rattle.std.proofs.lemmas.List.{length-map, take_more, take_all, take-append-le}
 use Rattle.std.proofs.lemmas.Nat.{mul-le}
@@ -11,22 +11,24 @@ use Rattle.task_graph.specs.declared.Use.{Use}
 use Rattle.task_graph.specs.Arcs.{streams, tail, head, width, total}
 use Rattle.plan_device.specs.declared.device.Device.{Device}
 use Rattle.slot_plan.specs.Grids.{IsGrid}
+use Rattle.slot_plan.specs.declared.fit.Placing.{Placing}
 use Rattle.slot_plan.specs.declared.tables.Tables.{Tables}
+use Rattle.slot_plan.specs.declared.tables.Choice.{Choice}
+use Rattle.slot_plan.specs.declared.tables.Regions.{Regions}
 use Rattle.slot_plan.specs.FirstFit.{is_pinned}
-use Rattle.slot_plan.specs.Merging.{AreThose, is_open, is_unpinned, one, pin, between, beside_pins, table_of, AreTablesOf, AreHomesOf, IsMerged}
+use Rattle.slot_plan.specs.Merging.{AreThose, is_open, is_unpinned, one, pin, between, beside_pins, table_of, AreFixed, AreChoices, IsMerged}
 use Rattle.slot_plan.specs.Placing.{ArePlaced}
 use Rattle.slot_plan.specs.Plan.{distance, AreNeeds}
 use Rattle.slot_plan.specs.Tables.{items, places, AreTables}
 use Rattle.slot_plan.proofs.Cells.{length_table, table_low}
 use Rattle.slot_plan.proofs.Limits.{few_slots}
-use Rattle.slot_plan.proofs.Merging.{AreParts, pinned_may, heads_inside, tails_inside}
+use Rattle.slot_plan.proofs.Tabled.{AreParts}
+use Rattle.slot_plan.proofs.Merging.{pinned_may}
+use Rattle.flow_cert.proofs.Duality.{heads_inside, tails_inside}
 use Rattle.slot_plan.proofs.Parts.{one_same, one_other}
 use Rattle.flow_cert.proofs.Sums.{total_le, total_const}
 
 -- ---- row by row
-
-pub table_none : (F : ℕ → ℕ → ℕ) (xs ys : List ℕ) → table_of F (take 0 xs) ys ≡ []
-table_none F xs ys = refl
 
 pub table_more : (F : ℕ → ℕ → ℕ) (xs ys : List ℕ) (i x : ℕ) → i < length xs → x ≡ get_or xs i 0 → table_of F (take (i + 1) xs) ys ≡ table_of F (take i xs) ys ++ map (F x) ys
 table_more F xs ys i x l e =
@@ -121,51 +123,59 @@ few_in n test xs (suc m) h e =
 pub few_those : (n : ℕ) (test : ℕ → Bool) (xs : List ℕ) → AreThose n test xs → length xs ≤ n
 few_those n test xs h = few_in n test xs (length xs) h refl
 
-pub pins_near : (g : Graph) (d : Device) (needs : List Use) (b : List ℕ) (used : List Use) → IsGrid g d → AreNeeds g d needs → ArePlaced d needs false (length needs) b used → (x : ℕ) → x < g.groups → is_pinned d x ≡ true → get_or b x 0 < 32
-pins_near g d needs b used device needed placed x l e =
-    let a = (pinned_may d needs b used x placed (let y = needed.long in omega arith) e).inside in
-    let f = few_slots g d device in omega arith
+-- pinned groups have slots below 32
+pub fixed_by : (g : Graph) (d : Device) (needs : List Use) (b : Placing) → IsGrid g d → AreNeeds g d needs → ArePlaced d needs false (length needs) b → AreFixed g d b
+fixed_by g d needs b device needed placed = record {
+  long = placed.long ∙ needed.long;
+  low = λ v l e.
+      let a = (pinned_may d needs b v placed (let y = needed.long in omega arith) e).inside in
+      let f = few_slots g d device in omega arith;
+}
 
-pub tables_low : (g : Graph) (d : Device) (needs : List Use) (b : List ℕ) (used : List Use) (free opens : List ℕ) (t : Tables) (homes regions : List ℕ) → IsGrid g d → AreParts g d needs b used free opens t → AreHomesOf homes regions free opens t → g.groups ≤ 512 → AreTables t
-tables_low g d needs b used free opens t homes regions device parts are few =
+-- open slots are below 32
+pub places_low : (g : Graph) (d : Device) (c : Choice) → IsGrid g d → AreChoices g d c → (y : ℕ) → y < length c.places.items → get_or c.places.items y 0 < 32
+places_low g d c device choice y l = let a = choice.places.inside y l in let slots = few_slots g d device in omega arith
+
+pub tables_low : (g : Graph) (d : Device) (needs : List Use) (b : Placing) (c : Choice) (r : Regions) (t : Tables) → IsGrid g d → AreParts g d needs b c r t → g.groups ≤ 512 → AreTables t
+tables_low g d needs b c r t device parts few =
+    let free = c.items.items in
+    let opens = c.places.items in
     let h = parts.tables in
     let slots = few_slots g d device in
-    let open_low : (y : ℕ) → y < length opens → get_or opens y 0 < 32 = (λ y l. (let a = parts.opened.inside y l in omega arith)) in
+    let fixed = fixed_by g d needs b device parts.needed parts.placed in
+    let open_low = places_low g d c device parts.chosen in
     let n = h.needs_long in
     let m = h.room_long in
     record {
-      few_items = (let a = few_those g.groups (is_unpinned d) free parts.frees in omega arith);
-      few_places = (let a = few_those (length d.slots.items) (is_open d) opens parts.opened in omega arith);
-      homes = ap length are.of_items ∙ (length-map free (λ v. get_or homes v 0) ∙ sym n);
-      regions = ap length are.of_places ∙ (length-map opens (λ v. get_or regions v 0) ∙ sym m);
-      alone = ap length h.alone ∙ (length_table (beside_pins g d b) free opens ∙ (ap (λ (x : ℕ). x * length opens) (sym n) ∙ ap (λ (x : ℕ). items t * x) (sym m)));
+      few_items = (let a = few_those g.groups (is_unpinned d) free parts.chosen.items in omega arith);
+      few_places = (let a = few_those (length d.slots.items) (is_open d) opens parts.chosen.places in omega arith);
+      homes = ap length h.homes ∙ (length-map free (λ v. get_or r.homes.items v 0) ∙ sym n);
+      regions = ap length h.regions ∙ (length-map opens (λ v. get_or r.slots.items v 0) ∙ sym m);
+      alone = ap length h.alone ∙ (length_table (beside_pins g d b.slots.items) free opens ∙ (ap (λ (x : ℕ). x * length opens) (sym n) ∙ ap (λ (x : ℕ). items t * x) (sym m)));
       joint = ap length h.joint ∙ (length_table (between g) free free ∙ (ap (λ (x : ℕ). x * length free) (sym n) ∙ ap (λ (x : ℕ). items t * x) (sym n)));
       distance = ap length h.distance ∙ (length_table (distance d) opens opens ∙ (ap (λ (x : ℕ). x * length opens) (sym m) ∙ ap (λ (x : ℕ). places t * x) (sym m)));
-      low_alone = λ c. (
-          let a = table_low (beside_pins g d b) free opens 5324800 c
-          (λ i j li lj. beside_pins_low g d b (get_or free i 0) (get_or opens j 0) device.some_cols device.few_cols (open_low j lj) (pins_near g d needs b used device parts.needed parts.placed)) in
-          let e = ap (λ (xs : List ℕ). get_or xs c 0) h.alone in omega arith);
-      low_joint = λ c. (
-          let a = table_low (between g) free free 133120 c (λ i j li lj. between_low g (get_or free i 0) (get_or free j 0)) in
-          let e = ap (λ (xs : List ℕ). get_or xs c 0) h.joint in omega arith);
-      low_distance = λ c. (
-          let a = table_low (distance d) opens opens 40 c (λ i j li lj. distance_low d (get_or opens i 0) (get_or opens j 0) device.some_cols device.few_cols (open_low i li) (open_low j lj)) in
-          let e = ap (λ (xs : List ℕ). get_or xs c 0) h.distance in omega arith);
+      low_alone = λ i. (
+          let a = table_low (beside_pins g d b.slots.items) free opens 5324800 i
+          (λ i j li lj. beside_pins_low g d b.slots.items (get_or free i 0) (get_or opens j 0) device.some_cols device.few_cols (open_low j lj) fixed.low) in
+          let e = ap (λ (xs : List ℕ). get_or xs i 0) h.alone in omega arith);
+      low_joint = λ k. (
+          let a = table_low (between g) free free 133120 k (λ i j li lj. between_low g (get_or free i 0) (get_or free j 0)) in
+          let e = ap (λ (xs : List ℕ). get_or xs k 0) h.joint in omega arith);
+      low_distance = λ k. (
+          let a = table_low (distance d) opens opens 40 k (λ i j li lj. distance_low d (get_or opens i 0) (get_or opens j 0) device.some_cols device.few_cols (open_low i li) (open_low j lj)) in
+          let e = ap (λ (xs : List ℕ). get_or xs k 0) h.distance in omega arith);
       low_needs = h.small;
     }
 
 -- ---- slots written beside pinned ones are a merged plan
 
-false_not_true : false ≡ true → ⊥
-false_not_true e = cc
-
-pub merged_by : (g : Graph) (d : Device) (b free opens layout p : List ℕ) → AreThose g.groups (is_unpinned d) free → length p ≡ g.groups
-    → ((j : ℕ) → j < length free → get_or p (get_or free j 0) 0 ≡ get_or opens (get_or layout j 0) 0)
-    → ((v : ℕ) → ((j : ℕ) → j < length free → get_or free j 0 ≡ v → ⊥) → get_or p v 0 ≡ get_or b v 0)
-    → IsMerged g d b free opens layout p
-merged_by g d b free opens layout p those long at others = record {
+pub merged_by : (g : Graph) (d : Device) (b : Placing) (c : Choice) (layout p : List ℕ) → AreChoices g d c → length p ≡ g.groups
+    → ((j : ℕ) → j < length c.items.items → get_or p (get_or c.items.items j 0) 0 ≡ get_or c.places.items (get_or layout j 0) 0)
+    → ((v : ℕ) → ((j : ℕ) → j < length c.items.items → get_or c.items.items j 0 ≡ v → ⊥) → get_or p v 0 ≡ get_or b.slots.items v 0)
+    → IsMerged g d b c layout p
+merged_by g d b c layout p choice long at others = record {
   long = long;
-  pinned = λ v l e. others v (λ j lj q. false_not_true (ap not (sym e ∙ ap (is_pinned d) (sym q)) ∙ those.pass j lj));
+  pinned = λ v l e. others v (λ j lj q. false≢true (ap not (sym e ∙ ap (is_pinned d) (sym q)) ∙ choice.items.pass j lj));
   items = at;
 }
 
@@ -225,36 +235,3 @@ pins_more g d b v s e sum x y w t h et eh ew ex ey a =
 
 pub pins_low : (e sum x y w : ℕ) → x ≤ 40 → y ≤ 40 → w ≤ 65 → sum ≤ e * 5200 → sum + (x + y) * w ≤ (e + 1) * 5200
 pins_low e sum x y w lx ly lw l = let a = mul-le (x + y) w 80 65 (omega arith) lw in omega arith
-
--- ---- the parts, read through slices
-
-pub parts_by : (g : Graph) (d : Device) (needs : List Use) (b : List ℕ) (used : List Use) (free opens : List ℕ) (t : Tables) (b' : List ℕ) (used' : List Use) (free' opens' : List ℕ) → b' ≡ b → used' ≡ used → free' ≡ free → opens' ≡ opens
-    → length d.pins.items ≡ g.groups → length d.forbidden.items ≡ length d.slots.items → AreNeeds g d needs → ArePlaced d needs false (length needs) b used
-    → AreThose (length d.pins.items) (is_unpinned d) free → AreThose (length d.forbidden.items) (is_open d) opens → AreTablesOf g d needs b' used' free' opens' t
-    → AreParts g d needs b used free opens t
-parts_by g d needs b used free opens t b' used' free' opens' eb eu ef eo pins forbidden needed placed frees opened tables = record {
-  needed = needed;
-  placed = placed;
-  frees = subst (λ (n : ℕ). AreThose n (is_unpinned d) free) pins frees;
-  opened = subst (λ (n : ℕ). AreThose n (is_open d) opens) forbidden opened;
-  tables =
-      subst (λ (x : List ℕ). AreTablesOf g d needs b used free x t) eo
-      (subst (λ (x : List ℕ). AreTablesOf g d needs b used x opens' t) ef
-      (subst (λ (x : List Use). AreTablesOf g d needs b x free' opens' t) eu
-      (subst (λ (x : List ℕ). AreTablesOf g d needs x used' free' opens' t) eb tables)));
-}
-
-pub merged_from : (g : Graph) (d : Device) (b free opens layout p free' opens' layout' : List ℕ) → AreThose g.groups (is_unpinned d) free → length p ≡ g.groups → free' ≡ free → opens' ≡ opens → layout' ≡ layout
-    → ((j : ℕ) → j < length free' → get_or p (get_or free' j 0) 0 ≡ get_or opens' (get_or layout' j 0) 0)
-    → ((v : ℕ) → ((j : ℕ) → j < length free' → get_or free' j 0 ≡ v → ⊥) → get_or p v 0 ≡ get_or b v 0)
-    → IsMerged g d b free opens layout p
-merged_from g d b free opens layout p free' opens' layout' those long ef eo el at others =
-    merged_by g d b free opens layout p those long
-    (subst (λ (x : List ℕ). (j : ℕ) → j < length free → get_or p (get_or free j 0) 0 ≡ get_or opens (get_or x j 0) 0) el
-    (subst (λ (x : List ℕ). (j : ℕ) → j < length free → get_or p (get_or free j 0) 0 ≡ get_or x (get_or layout' j 0) 0) eo
-    (subst (λ (x : List ℕ). (j : ℕ) → j < length x → get_or p (get_or x j 0) 0 ≡ get_or opens' (get_or layout' j 0) 0) ef at)))
-    (subst (λ (x : List ℕ). (v : ℕ) → ((j : ℕ) → j < length x → get_or x j 0 ≡ v → ⊥) → get_or p v 0 ≡ get_or b v 0) ef others)
-
-pub homes_by : (homes regions free opens : List ℕ) (t : Tables) (free' opens' : List ℕ) → free' ≡ free → opens' ≡ opens → AreHomesOf homes regions free' opens' t → AreHomesOf homes regions free opens t
-homes_by homes regions free opens t free' opens' ef eo h =
-    subst (λ (x : List ℕ). AreHomesOf homes regions free x t) eo (subst (λ (x : List ℕ). AreHomesOf homes regions x opens' t) ef h)

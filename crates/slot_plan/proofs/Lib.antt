@@ -8,6 +8,7 @@ pub mod Lowered
 pub mod Parts
 pub mod Those
 pub mod Cells
+pub mod Tabled
 pub mod Merging
 pub mod Filling
 pub mod Limits

@@ -1,6 +1,6 @@
 -- Rows of what items cost, written over row by row.
-use Rattle.std.proofs.Common.{◌≡◌, ℕ, ◌+◌, ◌*◌, ◌<◌, ◌≤◌, Bool, true, false, cond, List, [], ◌∷◌, ◌++◌, length, get_or, set, refl, ap, subst, ◌∙◌, arith, add-one, ⊎_elim, length-set}
-use Rattle.std.specs.Prelude.{if◌then◌else◌, nat_lt, ◌==◌}
+use Rattle.std.proofs.Common.{◌≡◌, ℕ, ◌+◌, ◌*◌, ◌<◌, ◌≤◌, Bool, false, cond, List, [], ◌∷◌, ◌++◌, length, get_or, set, refl, ap, subst, ◌∙◌, arith, add-one, ⊎_elim, length-set}
+use Rattle.std.specs.Prelude.{if◌then◌else◌, nat_lt}
 use Rattle.std.proofs.lemmas.Bool.{cases_lt, cases_eq}
 use Rattle.std.proofs.lemmas.Bool.Decides.{nat_tests}
 use Rattle.std.proofs.lemmas.List.{get_or-set_same, get_or-set_other}
@@ -22,9 +22,6 @@ pub record IsRowPart (t : Tables) (rows old : List ℕ) (placed place item y lea
   pub others : (i z : ℕ) → i < item → z < places t → cell next (places t) i z ≡ cell old (places t) i z
   pub lower : (z : ℕ) → z < y → Suits t item z → least ≤ cell next (places t) item z
   pub small : least ≤ 2731622400
-
-pub same_test : (a b : ℕ) → a ≡ b → (a == b) ≡ true
-same_test a b e = grind (arith, nat_tests)
 
 pub row_none : (t : Tables) (rows old : List ℕ) (placed place item least : ℕ) → length old ≡ items t * places t → least ≤ 2731622400 → IsRowPart t rows old placed place item 0 least old
 row_none t rows old placed place item least long small = record {
@@ -73,14 +70,6 @@ pub record AreRowsPart (t : Tables) (p : List ℕ) (place j low : ℕ) (next : L
   pub below : (at : ℕ → ℕ) → ((i : ℕ) → i < items t → (at i < places t) × Suits t i (at i)) → low ≤ total j (λ i. if nat_lt i (length (p ++ place ∷ [])) then 0 else beside t (p ++ place ∷ []) i (at i))
   pub small : low ≤ j * 2731622400
 
-pub rows_none : (t : Tables) (p next : List ℕ) (place j : ℕ) → length next ≡ items t * places t → j ≡ length p + 1 → AreRowsPart t p place j 0 next
-rows_none t p next place j long e = record {
-  long = long;
-  done = λ i y l lj ly. absurd (omega arith);
-  below = λ at inside. omega arith;
-  small = omega arith;
-}
-
 past_test : (j m x : ℕ) → m ≤ j → (if nat_lt j m then 0 else x) ≡ x
 past_test j m x l = let e : nat_lt j m ≡ false = grind (arith, nat_tests) in ap (λ (c : Bool). cond c 0 x) e
 
@@ -113,12 +102,6 @@ rows_more t p rows next place j low next' least are h lp lj long row others smal
           omega arith);
       small = (let a = h.small in omega arith);
     }
-
-pub rows_all : (t : Tables) (p next : List ℕ) (place j low : ℕ) → AreRowsPart t p place j low next → j ≡ items t → AreRows t (p ++ place ∷ []) next
-rows_all t p next place j low h e = record {
-  long = h.long;
-  value = λ i y l li ly. (let n = push_long p place in h.done i y (omega arith) (omega arith) ly);
-}
 
 pub below_all_rows : (t : Tables) (p next : List ℕ) (place j low : ℕ) → AreRowsPart t p place j low next → j ≡ items t → IsBelowRest t (p ++ place ∷ []) low
 below_all_rows t p next place j low h e = λ at inside. (

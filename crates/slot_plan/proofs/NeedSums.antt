@@ -1,15 +1,13 @@
 -- What groups need.
-use Rattle.std.proofs.Common.{◌≡◌, ℕ, ◌+◌, ◌*◌, ◌^◌, ◌<◌, ◌≤◌, true, false, cond, List, [], ◌∷◌, ◌++◌, length, get_or, refl, sym, ap, ◌∙◌, arith, ⊎_elim, add-one, length-append}
+use Rattle.std.proofs.Common.{◌≡◌, ℕ, ◌+◌, ◌*◌, ◌^◌, ◌<◌, ◌≤◌, List, [], ◌∷◌, ◌++◌, length, get_or, sym, ap, ◌∙◌, arith, ⊎_elim, length-append}
 use Rattle.std.specs.Prelude.{if◌then◌else◌, ◌==◌}
-use Rattle.std.proofs.lemmas.Bool.Decides.{nat_tests}
 use Rattle.task_graph.specs.declared.Graph.{Graph}
 use Rattle.task_graph.specs.declared.Use.{Use}
 use Rattle.task_graph.specs.Streams.{amount, amount_at}
 use Rattle.task_graph.specs.Arcs.{total}
 use Rattle.plan_device.specs.declared.device.Device.{Device}
 use Rattle.slot_plan.specs.Plan.{need_of}
-use Rattle.slot_plan.specs.Grids.{IsGrid}
-use Rattle.slot_plan.proofs.Uses.{amount_push, no_use, nothing_used}
+use Rattle.slot_plan.proofs.Uses.{amount_push}
 
 -- the part of a need over the first n instances
 abbrev pub need_part : Graph → Device → ℕ → ℕ → ℕ → ℕ
@@ -18,30 +16,6 @@ need_part g d n v k = total n (λ i. if get_or g.group.items i 0 == v then amoun
 pub record IsNeedPart (g : Graph) (d : Device) (n v : ℕ) (sum : Use) : Type 0 where
   pub value : (k : ℕ) → amount sum k ≡ need_part g d n v k
   pub low : (k : ℕ) → amount sum k ≤ n * 1099511627775
-
-pub need_none : (g : Graph) (d : Device) (v : ℕ) → IsNeedPart g d 0 v no_use
-need_none g d v = record { value = nothing_used; low = λ k. (let a = nothing_used k in omega arith) }
-
-pub need_other : (g : Graph) (d : Device) (n v : ℕ) (sum : Use) → (get_or g.group.items n 0 ≡ v → ⊥) → IsNeedPart g d n v sum → IsNeedPart g d (n + 1) v sum
-need_other g d n v sum ne h = record {
-  value = λ k. (
-      let t : (get_or g.group.items n 0 == v) ≡ false = grind (arith, nat_tests) in
-      let z = ap (λ c. cond c (amount_at d.uses.items n k) 0) t in
-      let s : need_part g d (n + 1) v k ≡ need_part g d n v k + (if get_or g.group.items n 0 == v then amount_at d.uses.items n k else 0) = rw add-one refl in
-      let a = h.value k in omega arith);
-  low = λ k. (let a = h.low k in omega arith);
-}
-
-pub need_member : (g : Graph) (d : Device) (n v : ℕ) (sum new : Use) → IsGrid g d → get_or g.group.items n 0 ≡ v → ((k : ℕ) → amount new k ≡ amount sum k + amount_at d.uses.items n k) → IsNeedPart g d n v sum → IsNeedPart g d (n + 1) v new
-need_member g d n v sum new ok e is h = record {
-  value = λ k. (
-      let t : (get_or g.group.items n 0 == v) ≡ true = grind (arith, nat_tests) in
-      let z = ap (λ c. cond c (amount_at d.uses.items n k) 0) t in
-      let s : need_part g d (n + 1) v k ≡ need_part g d n v k + (if get_or g.group.items n 0 == v then amount_at d.uses.items n k else 0) = rw add-one refl in
-      let b = is k in
-      let a = h.value k in omega arith);
-  low = λ k. (let a = h.low k in let b = is k in let c = ok.amounts n k in omega arith);
-}
 
 -- the needs of the groups so far
 pub record AreNeedsBelow (g : Graph) (d : Device) (n : ℕ) (needs : List Use) : Type 0 where

@@ -1,24 +1,13 @@
 -- Lists of the numbers below a bound that pass a test, and the order of lists.
 use Rattle.std.proofs.Common.{◌≡◌, ℕ, zero, suc, ◌+◌, ◌<◌, ◌≤◌, ◌⊎◌, inl, inr, Bool, true, false, List, [], ◌∷◌, ◌++◌, length, get_or, refl, sym, ap, subst, ◌∙◌, arith, ⊎_elim, length-append}
-use Rattle.std.proofs.lemmas.Bool.{cases_lt}
+use Rattle.std.proofs.lemmas.Bool.{cases_lt, false≢true}
+use Rattle.std.proofs.lemmas.List.{get_or_append_left, get_or_push}
 use Rattle.task_graph.specs.Arcs.{total}
 use Rattle.slot_plan.specs.Least.{NotAfter}
 use Rattle.slot_plan.specs.Merging.{AreThose, one}
-use Rattle.slot_plan.proofs.Beginnings.{front_place, last_place}
 use Rattle.slot_plan.proofs.Parts.{one_same, one_other}
 use Rattle.flow_cert.proofs.Sums.{total_same, total_zero}
 use Rattle.slot_plan.proofs.Sums.{total_but}
-
-false_not_true : false ≡ true → ⊥
-false_not_true e = cc
-
-pub those_none : (test : ℕ → Bool) → AreThose 0 test []
-those_none test = record {
-  inside = λ i l. absurd (omega arith);
-  pass = λ i l. absurd (omega arith);
-  rising = λ i j l lj. absurd (omega arith);
-  all = λ x l e. absurd (omega arith);
-}
 
 pub those_past : (n : ℕ) (test : ℕ → Bool) (xs : List ℕ) → test n ≡ false → AreThose n test xs → AreThose (n + 1) test xs
 those_past n test xs fails h = record {
@@ -27,7 +16,7 @@ those_past n test xs fails h = record {
   rising = h.rising;
   all = λ x l e. ⊎_elim
       (λ (k : x < n). h.all x k e)
-      (λ (k : n ≤ x). let is : n ≡ x = omega arith in absurd (false_not_true (sym fails ∙ (ap test is ∙ e))))
+      (λ (k : n ≤ x). let is : n ≡ x = omega arith in absurd (false≢true (sym fails ∙ (ap test is ∙ e))))
       (cases_lt x n);
 }
 
@@ -35,29 +24,29 @@ those_past n test xs fails h = record {
 pub those_push : (n : ℕ) (test : ℕ → Bool) (xs : List ℕ) → test n ≡ true → AreThose n test xs → AreThose (n + 1) test (xs ++ n ∷ [])
 those_push n test xs passes h =
     let long : length (xs ++ n ∷ []) ≡ length xs + 1 = (let y = length-append xs (n ∷ []) in omega arith) in
-    let last = last_place xs n in
+    let last = get_or_push xs n 0 (length xs) refl in
     let at_end : (i : ℕ) → length xs ≤ i → i < length (xs ++ n ∷ []) → get_or (xs ++ n ∷ []) i 0 ≡ n =
     (λ i k l. (let e : i ≡ length xs = omega arith in ap (λ (j : ℕ). get_or (xs ++ n ∷ []) j 0) e ∙ last)) in
     record {
       inside = λ i l. ⊎_elim
-          (λ (k : i < length xs). let a = front_place xs (n ∷ []) i k in let b = h.inside i k in omega arith)
+          (λ (k : i < length xs). let a = get_or_append_left xs (n ∷ []) 0 i k in let b = h.inside i k in omega arith)
           (λ (k : length xs ≤ i). let a = at_end i k l in omega arith)
           (cases_lt i (length xs));
       pass = λ i l. ⊎_elim
-          (λ (k : i < length xs). ap test (front_place xs (n ∷ []) i k) ∙ h.pass i k)
+          (λ (k : i < length xs). ap test (get_or_append_left xs (n ∷ []) 0 i k) ∙ h.pass i k)
           (λ (k : length xs ≤ i). ap test (at_end i k l) ∙ passes)
           (cases_lt i (length xs));
       rising = λ i j lt l. (
           let ki : i < length xs = omega arith in
-          let a = front_place xs (n ∷ []) i ki in
+          let a = get_or_append_left xs (n ∷ []) 0 i ki in
           ⊎_elim
-          (λ (k : j < length xs). let b = front_place xs (n ∷ []) j k in let c = h.rising i j lt k in omega arith)
+          (λ (k : j < length xs). let b = get_or_append_left xs (n ∷ []) 0 j k in let c = h.rising i j lt k in omega arith)
           (λ (k : length xs ≤ j). let b = at_end j k l in let c = h.inside i ki in omega arith)
           (cases_lt j (length xs)));
       all = λ x l e. ⊎_elim
           (λ (k : x < n).
           let w = h.all x k e in
-          (w.0, let i = w.1 in omega arith, front_place xs (n ∷ []) w.0 w.1 ∙ w.2))
+          (w.0, let i = w.1 in omega arith, get_or_append_left xs (n ∷ []) 0 w.0 w.1 ∙ w.2))
           (λ (k : n ≤ x). let is : n ≡ x = omega arith in (length xs, omega arith, last ∙ is))
           (cases_lt x n);
     }
@@ -84,7 +73,7 @@ those_count n test xs x h l e =
 
 pub those_count_none : (n : ℕ) (test : ℕ → Bool) (xs : List ℕ) (x : ℕ) → AreThose n test xs → test x ≡ false → total (length xs) (λ k. one (get_or xs k 0) x) ≡ 0
 those_count_none n test xs x h e =
-    total_same (length xs) _ _ (λ k lk. one_other (get_or xs k 0) x (λ (q : get_or xs k 0 ≡ x). false_not_true (sym e ∙ (ap test (sym q) ∙ h.pass k lk))))
+    total_same (length xs) _ _ (λ k lk. one_other (get_or xs k 0) x (λ (q : get_or xs k 0 ≡ x). false≢true (sym e ∙ (ap test (sym q) ∙ h.pass k lk))))
     ∙ total_zero (length xs)
 
 -- ---- the order of lists of one length

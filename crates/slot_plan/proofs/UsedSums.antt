@@ -21,13 +21,6 @@ pub record AreUsedBelow (d : Device) (needs : List Use) (p : List ℕ) (n : ℕ)
   pub value : (s k : ℕ) → s < length d.slots.items → amount_at used s k ≡ used_below needs p n s k
   pub low : (s k : ℕ) → s < length d.slots.items → amount_at used s k ≤ n * 562949953421311
 
-pub used_none : (d : Device) (needs : List Use) (p : List ℕ) (used : List Use) → length used ≡ length d.slots.items → ((s k : ℕ) → amount_at used s k ≡ 0) → AreUsedBelow d needs p 0 used
-used_none d needs p used long zeros = record {
-  long = long;
-  value = λ s k l. zeros s k;
-  low = λ s k l. (let a = zeros s k in omega arith);
-}
-
 pub used_more : (d : Device) (needs : List Use) (p : List ℕ) (n : ℕ) (used : List Use) (sum : Use) → get_or p n 0 < length d.slots.items → ((k : ℕ) → amount_at needs n k < 2 ^ 49) → ((k : ℕ) → amount sum k ≡ amount_at used (get_or p n 0) k + amount_at needs n k) → AreUsedBelow d needs p n used → AreUsedBelow d needs p (n + 1) (set used (get_or p n 0) sum)
 used_more d needs p n used sum l small is h =
     let s = get_or p n 0 in

@@ -1,5 +1,5 @@
 -- Amounts in lists, kind by kind.
-use Rattle.std.proofs.Common.{◌≡◌, ℕ, zero, suc, ◌+◌, ◌-◌, ◌*◌, ◌<◌, ◌≤◌, ◌⊎◌, inl, inr, List, [], ◌∷◌, ◌++◌, length, get_or, set, refl, sym, ap, subst, ◌∙◌, arith, ⊎_elim, length-set, Option, Some, replicate}
+use Rattle.std.proofs.Common.{◌≡◌, ℕ, zero, suc, ◌+◌, ◌-◌, ◌*◌, ◌<◌, ◌≤◌, ◌⊎◌, inl, inr, List, [], ◌∷◌, ◌++◌, length, get_or, set, refl, sym, ap, ◌∙◌, arith, ⊎_elim, length-set, Option, Some, replicate}
 use Rattle.std.specs.Prelude.{slice_get}
 use Rattle.std.specs.Option.{option_map_or}
 use Rattle.std.proofs.lemmas.Bool.{cases_lt, cases_eq}
@@ -102,24 +102,6 @@ pub empty_at : (n s k : ℕ) → amount_at (replicate n no_use) s k ≡ 0
 empty_at zero s k = refl
 empty_at (suc n) zero k = nothing_used k
 empty_at (suc n) (suc s) k = empty_at n s k
-
--- one more amount at the end
-pub uses_push_by : (P : ℕ → ℕ → ℕ → Type 0) (xs : List Use) (u : Use) (n : ℕ) → length xs ≡ n → ((v k : ℕ) → v < n → P v k (amount_at xs v k)) → ((k : ℕ) → P n k (amount u k)) → (v k : ℕ) → v < n + 1 → P v k (amount_at (xs ++ u ∷ []) v k)
-uses_push_by P xs u n long h here v k l =
-    ⊎_elim
-    (λ w. subst (P v k) (sym w.1) (h v k (let a = w.0 in omega arith)))
-    (λ w. ⊎_elim
-    (λ y. subst (P v k) (sym y.1) (subst (λ (i : ℕ). P i k (amount u k)) (sym (y.0 ∙ long)) (here k)))
-    (λ z. absurd (let a = z.0 in omega arith))
-    w)
-    (amount_push xs u v k)
-
-pub low_push : (B : ℕ) (xs : List Use) (u : Use) → 0 < B → ((v k : ℕ) → amount_at xs v k < B) → ((k : ℕ) → amount u k < B) → (v k : ℕ) → amount_at (xs ++ u ∷ []) v k < B
-low_push B xs u pos h here v k =
-    ⊎_elim
-    (λ w. let a = h v k in let b = w.1 in omega arith)
-    (λ w. ⊎_elim (λ y. let a = here k in let b = y.1 in omega arith) (λ z. let b = z.1 in omega arith) w)
-    (amount_push xs u v k)
 
 -- kind by kind
 pub at_most_amounts : (a b : Use) → IsAtMost a b → (k : ℕ) → amount a k ≤ amount b k

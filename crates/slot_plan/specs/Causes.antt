@@ -1,5 +1,5 @@
 -- What a plan is by the mode in which it is looked for, and why there is none.
-use Rattle.std.specs.Prelude.{◌≡◌, ℕ, ◌^◌, ◌<◌, ◌≤◌, Bool, true, false, not, List, length, Option, None, Some, count_by}
+use Rattle.std.specs.Prelude.{◌≡◌, ℕ, ◌^◌, ◌<◌, ◌≤◌, Bool, true, false, not, List, length, Option, None, Some, count_by, ⊤}
 use Rattle.task_graph.specs.declared.Graph.{Graph}
 use Rattle.task_graph.specs.declared.Use.{Use}
 use Rattle.task_graph.specs.Streams.{amount_at}
@@ -42,8 +42,8 @@ abbrev pub IsPlanCause : Graph → Device → Mode → PlanFault → Type 0
 IsPlanCause g d Exact (TooMany slots free) = (slots ≡ open_slots d) × (free ≡ free_groups d) × (4194304 < slots ^ free)
 IsPlanCause g d Exact (NoFit None) = HasFewWays d × ((q : List ℕ) → IsPlanOf g d q → ⊥)
 IsPlanCause g d Exact (NoFit (Some v)) = ⊥
-IsPlanCause g d Exact OutOfMemory = Unit {0}
+IsPlanCause g d Exact OutOfMemory = ⊤
 IsPlanCause g d Fit (TooMany slots free) = ⊥
 IsPlanCause g d Fit (NoFit None) = ⊥
 IsPlanCause g d Fit (NoFit (Some v)) = (p : List ℕ) × FindsNone g.groups (need_of g d) d p v
-IsPlanCause g d Fit OutOfMemory = Unit {0}
+IsPlanCause g d Fit OutOfMemory = ⊤

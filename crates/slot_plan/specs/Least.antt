@@ -1,12 +1,12 @@
 -- The least plan, and the first of several.
-use Rattle.std.specs.Prelude.{◌≡◌, ℕ, ◌<◌, ◌≤◌, ◌⊎◌, List, [], ◌∷◌}
+use Rattle.std.specs.Prelude.{◌≡◌, ℕ, ◌<◌, ◌≤◌, ◌⊎◌, List, [], ◌∷◌, ⊤}
 use Rattle.task_graph.specs.declared.Graph.{Graph}
 use Rattle.plan_device.specs.declared.device.Device.{Device}
 use Rattle.slot_plan.specs.Plan.{cost, IsPlanOf}
 
 -- in the order of lists, the first is not after the second
 abbrev pub NotAfter : List ℕ → List ℕ → Type 0
-NotAfter [] ys = Unit {0}
+NotAfter [] ys = ⊤
 NotAfter (x ∷ xs) [] = ⊥
 NotAfter (x ∷ xs) (y ∷ ys) = (x < y) ⊎ ((x ≡ y) × NotAfter xs ys)
 

@@ -6,7 +6,10 @@ use Rattle.task_graph.specs.declared.Use.{Use}
 use Rattle.task_graph.specs.Streams.{amount_at}
 use Rattle.task_graph.specs.Arcs.{streams, tail, head, width, total}
 use Rattle.plan_device.specs.declared.device.Device.{Device}
+use Rattle.slot_plan.specs.declared.fit.Placing.{Placing}
 use Rattle.slot_plan.specs.declared.tables.Tables.{Tables}
+use Rattle.slot_plan.specs.declared.tables.Choice.{Choice}
+use Rattle.slot_plan.specs.declared.tables.Regions.{Regions}
 use Rattle.slot_plan.specs.FirstFit.{is_pinned}
 use Rattle.slot_plan.specs.Plan.{distance}
 
@@ -46,29 +49,42 @@ beside_pins g d b v s =
 abbrev pub table_of : (ℕ → ℕ → ℕ) → List ℕ → List ℕ → List ℕ
 table_of F xs ys = flat_map (λ x. map (F x) ys) xs
 
--- the tables of items and places, where `used` is what the pinned groups use of each slot
-pub record AreTablesOf (g : Graph) (d : Device) (needs : List Use) (b : List ℕ) (used : List Use) (free open_slots : List ℕ) (t : Tables) : Type 0 where
-  pub needs_long : length t.needs.items ≡ length free
-  pub needs_are : (j k : ℕ) → j < length free → amount_at t.needs.items j k ≡ amount_at needs (slice_index free j) k * 100
-  pub small : (j k : ℕ) → amount_at t.needs.items j k < 2 ^ 56
-  pub room_long : length t.room.items ≡ length open_slots
-  pub room : (y k : ℕ) → y < length open_slots
-      → amount_at t.room.items y k + amount_at used (slice_index open_slots y) k * 100 ≡ amount_at d.slots.items (slice_index open_slots y) k * d.percent
-  pub alone : t.alone.items ≡ table_of (beside_pins g d b) free open_slots
-  pub joint : t.joint.items ≡ table_of (between g) free free
-  pub distance : t.distance.items ≡ table_of (distance d) open_slots open_slots
+-- each group has a slot, a pinned one below 32
+pub record AreFixed (g : Graph) (d : Device) (b : Placing) : Type 0 where
+  pub long : length b.slots.items ≡ g.groups
+  pub low : (v : ℕ) → v < g.groups → is_pinned d v ≡ true → slice_index b.slots.items v < 32
 
--- where items are at home, and of which regions places are, by groups and by slots
-pub record AreHomesOf (homes regions free open_slots : List ℕ) (t : Tables) : Type 0 where
-  pub of_items : t.homes.items ≡ map (slice_index homes) free
-  pub of_places : t.regions.items ≡ map (slice_index regions) open_slots
+-- the free groups and the open slots, in order
+pub record AreChoices (g : Graph) (d : Device) (c : Choice) : Type 0 where
+  pub items : AreThose g.groups (is_unpinned d) c.items.items
+  pub places : AreThose (length d.slots.items) (is_open d) c.places.items
+
+-- a region for each group and each slot
+pub record AreRegions (g : Graph) (d : Device) (r : Regions) : Type 0 where
+  pub homes : length r.homes.items ≡ g.groups
+  pub slots : length r.slots.items ≡ length d.slots.items
+
+-- the tables of a choice beside pinned groups in their slots: what items need, what room places have, what a layout of them costs, and
+-- where items are at home and of which regions places are
+pub record AreTablesOf (g : Graph) (d : Device) (needs : List Use) (b : Placing) (c : Choice) (r : Regions) (t : Tables) : Type 0 where
+  pub needs_long : length t.needs.items ≡ length c.items.items
+  pub needs_are : (j k : ℕ) → j < length c.items.items → amount_at t.needs.items j k ≡ amount_at needs (slice_index c.items.items j) k * 100
+  pub small : (j k : ℕ) → amount_at t.needs.items j k < 2 ^ 56
+  pub room_long : length t.room.items ≡ length c.places.items
+  pub room : (y k : ℕ) → y < length c.places.items
+      → amount_at t.room.items y k + amount_at b.used.items (slice_index c.places.items y) k * 100 ≡ amount_at d.slots.items (slice_index c.places.items y) k * d.percent
+  pub alone : t.alone.items ≡ table_of (beside_pins g d b.slots.items) c.items.items c.places.items
+  pub joint : t.joint.items ≡ table_of (between g) c.items.items c.items.items
+  pub distance : t.distance.items ≡ table_of (distance d) c.places.items c.places.items
+  pub homes : t.homes.items ≡ map (slice_index r.homes.items) c.items.items
+  pub regions : t.regions.items ≡ map (slice_index r.slots.items) c.places.items
 
 -- each group that is not pinned is in a slot of the region where it is at home
 abbrev pub StayAtHome : Device → List ℕ → List ℕ → List ℕ → Type 0
 StayAtHome d homes regions p = (v : ℕ) → v < length p → is_pinned d v ≡ false → slice_index homes v ≡ slice_index regions (slice_index p v)
 
 -- the plan of a layout: pinned groups in their slots, free groups at the places of their items
-pub record IsMerged (g : Graph) (d : Device) (b free open_slots places p : List ℕ) : Type 0 where
+pub record IsMerged (g : Graph) (d : Device) (b : Placing) (c : Choice) (places p : List ℕ) : Type 0 where
   pub long : length p ≡ g.groups
-  pub pinned : (v : ℕ) → v < g.groups → is_pinned d v ≡ true → slice_index p v ≡ slice_index b v
-  pub items : (j : ℕ) → j < length free → slice_index p (slice_index free j) ≡ slice_index open_slots (slice_index places j)
+  pub pinned : (v : ℕ) → v < g.groups → is_pinned d v ≡ true → slice_index p v ≡ slice_index b.slots.items v
+  pub items : (j : ℕ) → j < length c.items.items → slice_index p (slice_index c.items.items j) ≡ slice_index c.places.items (slice_index places j)

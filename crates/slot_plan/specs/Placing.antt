@@ -1,11 +1,10 @@
 -- The state of first fit.
-use Rattle.std.specs.Prelude.{◌≡◌, ℕ, ◌+◌, ◌*◌, ◌^◌, ◌<◌, ◌≤◌, ◌==◌, ◌&&◌, nat_lt, not, Bool, true, false, List, length, None, Some, if◌then◌else◌, slice_index}
+use Rattle.std.specs.Prelude.{◌≡◌, ℕ, ◌+◌, ◌*◌, ◌^◌, ◌<◌, ◌≤◌, ◌==◌, ◌&&◌, nat_lt, not, Bool, true, false, List, length, if◌then◌else◌, slice_index}
 use Rattle.task_graph.specs.declared.Use.{Use}
 use Rattle.task_graph.specs.Streams.{amount, amount_at}
 use Rattle.task_graph.specs.Arcs.{total}
 use Rattle.plan_device.specs.declared.device.Device.{Device}
-use Rattle.slot_plan.specs.declared.floorplan.PlanFault.{PlanFault}
-use Rattle.slot_plan.specs.declared.floorplan.PlanFault.TheVariants.{NoFit, TooMany, OutOfMemory}
+use Rattle.slot_plan.specs.declared.fit.Placing.{Placing}
 use Rattle.slot_plan.specs.Plan.{MayStand}
 use Rattle.slot_plan.specs.FirstFit.{is_pinned, StandsFirst, FindsNone}
 
@@ -45,20 +44,13 @@ pub record IsFirstSpace (d : Device) (needs used : List Use) (v s : ℕ) (after 
   pub sum : (k : ℕ) → amount after k ≡ amount_at used s k + amount_at needs v k
 
 -- the placed groups are where first fit places them
-pub record ArePlaced (d : Device) (needs : List Use) (free : Bool) (v : ℕ) (p : List ℕ) (used : List Use) : Type 0 where
-  pub long : length p ≡ length needs
-  pub loads : AreLoads d needs used
-  pub used_is : (s k : ℕ) → s < length d.slots.items → amount_at used s k ≡ placed_in d needs free v p s k
-  pub each : (u : ℕ) → u < length needs → is_placed d free v u ≡ true → StandsFirst (length needs) (amount_at needs) d p u
+pub record ArePlaced (d : Device) (needs : List Use) (free : Bool) (v : ℕ) (b : Placing) : Type 0 where
+  pub long : length b.slots.items ≡ length needs
+  pub loads : AreLoads d needs b.used.items
+  pub used_is : (s k : ℕ) → s < length d.slots.items → amount_at b.used.items s k ≡ placed_in d needs free v b.slots.items s k
+  pub each : (u : ℕ) → u < length needs → is_placed d free v u ≡ true → StandsFirst (length needs) (amount_at needs) d b.slots.items u
 
 -- group v is of the kind that is being placed, and finds no slot
 pub record IsStuck (d : Device) (needs : List Use) (free : Bool) (p : List ℕ) (v : ℕ) : Type 0 where
   pub kind : is_pinned d v ≡ not free
   pub none : FindsNone (length needs) (amount_at needs) d p v
-
--- some pinned group finds no room in its slot
-abbrev pub IsPinFault : Device → List Use → PlanFault → Type 0
-IsPinFault d needs (NoFit None) = (b : List ℕ) × (v : ℕ) × IsStuck d needs false b v
-IsPinFault d needs (NoFit (Some v)) = ⊥
-IsPinFault d needs (TooMany slots free) = ⊥
-IsPinFault d needs OutOfMemory = Unit {0}

@@ -1,5 +1,5 @@
 -- The search for the least layout, by branch and bound over beginnings of lists of places (Land and Doig 1960).
-use Rattle.std.specs.Prelude.{◌≡◌, ℕ, ◌+◌, ◌<◌, ◌≤◌, ◌⊎◌, nat_lt, List, [], ◌∷◌, ◌++◌, length, Option, None, Some, if◌then◌else◌, ◌*◌}
+use Rattle.std.specs.Prelude.{◌≡◌, ℕ, ◌+◌, ◌<◌, ◌≤◌, ◌⊎◌, nat_lt, List, [], ◌∷◌, ◌++◌, length, Option, None, Some, if◌then◌else◌, ◌*◌, ⊤}
 use Rattle.task_graph.specs.declared.Use.{Use}
 use Rattle.task_graph.specs.Arcs.{total}
 use Rattle.task_graph.specs.Streams.{amount_at}
@@ -29,7 +29,7 @@ Begins p q = (rest : List ℕ) × (q ≡ p ++ rest)
 
 -- the best layout so far is one, with its cost
 abbrev pub IsSound : Tables → Option Best → Type 0
-IsSound t None = Unit {0}
+IsSound t None = ⊤
 IsSound t (Some b) = IsLayout t b.places.items × (b.cost ≡ cost_of t b.places.items)
 
 abbrev pub Covers : Tables → Option Best → List ℕ → Type 0
@@ -37,7 +37,7 @@ Covers t None q = ⊥
 Covers t (Some b) q = IsNoWorse t b.places.items q
 
 abbrev pub IsEarlier : Option Best → List ℕ → Type 0
-IsEarlier None q = Unit {0}
+IsEarlier None q = ⊤
 IsEarlier (Some b) q = NotAfter b.places.items q
 
 abbrev pub IsFrom : Option Best → List ℕ → Type 0

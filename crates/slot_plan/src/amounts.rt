@@ -1,4 +1,4 @@
-//! Amounts of resources: sums, and what is within a part of a capacity.
+//! Amounts of resources: sums, and comparisons with a part of a capacity.
 ghost use Rattle.std.specs.Prelude.{◌≡◌, ◌<◌, ◌≤◌, ◌+◌, ◌-◌, ◌*◌, ◌^◌, ◌↔◌, ℕ, IsTrue, IfOk, length};
 ghost use Rattle.task_graph.specs.Streams.{amount, amount_at};
 ghost use Rattle.slot_plan.specs.Amounts.{AreBelow, FitsIn, IsAtMost};
@@ -6,7 +6,7 @@ ghost use Rattle.slot_plan.specs.Amounts.{AreBelow, FitsIn, IsAtMost};
 use std::alloc::{AllocError, Global};
 use task_graph::Use;
 
-/// Nothing of any kind.
+/// Returns an amount of nothing.
 pub(crate) const NOTHING: Use = Use {
     lut: 0,
     ff: 0,
@@ -15,7 +15,7 @@ pub(crate) const NOTHING: Use = Use {
     uram: 0,
 };
 
-/// The sum of two amounts.
+/// Returns the sum of two amounts.
 pub(crate) fn sum_of(a: Use, b: Use) -> Use
     requires first { AreBelow a (2 ^ 62) }
     requires second { AreBelow b (2 ^ 62) }
@@ -30,7 +30,7 @@ pub(crate) fn sum_of(a: Use, b: Use) -> Use
     }
 }
 
-/// An amount and one of a list.
+/// Returns the sum of an amount and one of a list.
 pub fn add_at(sum: Use, uses: &[Use], i: usize) -> Use
     requires inside { i < length uses.now }
     requires first { (k : ℕ) → amount sum k < 2 ^ 60 }
@@ -40,7 +40,7 @@ pub fn add_at(sum: Use, uses: &[Use], i: usize) -> Use
     sum_of(sum, uses[i])
 }
 
-/// Whether an amount is within a part of a capacity, in hundredths.
+/// Checks whether an amount is within a part of a capacity, in hundredths.
 pub(crate) fn is_within(load: Use, capacity: Use, percent: u32) -> bool
     requires load { AreBelow load (2 ^ 50) }
     requires capacity { AreBelow capacity (2 ^ 40) }
@@ -55,7 +55,7 @@ pub(crate) fn is_within(load: Use, capacity: Use, percent: u32) -> bool
         && load.uram * 100 <= capacity.uram * part
 }
 
-/// Slots that hold nothing.
+/// Returns slots that hold nothing.
 pub fn empty_slots(alloc: Global, count: usize) -> Result<Vec<Use>, AllocError>
     ensures long { IfOk result (λ used. length used.items ≡ count) }
     ensures empty { IfOk result (λ used. (s k : ℕ) → amount_at used.items s k ≡ 0) }
@@ -63,14 +63,14 @@ pub fn empty_slots(alloc: Global, count: usize) -> Result<Vec<Use>, AllocError>
     vec![in alloc; NOTHING; count]
 }
 
-/// Whether an amount is at most another, kind by kind.
+/// Checks whether an amount is at most another, kind by kind.
 pub(crate) fn is_at_most(a: Use, b: Use) -> bool
     ensures { IsTrue result ↔ IsAtMost a b }
 {
     a.lut <= b.lut && a.ff <= b.ff && a.bram <= b.bram && a.dsp <= b.dsp && a.uram <= b.uram
 }
 
-/// What an amount leaves of another.
+/// Returns what an amount leaves of another.
 pub(crate) fn difference(a: Use, b: Use) -> Use
     requires { IsAtMost b a }
     ensures { result ≡ record { lut = a.lut - b.lut; ff = a.ff - b.ff; bram = a.bram - b.bram; dsp = a.dsp - b.dsp; uram = a.uram - b.uram } }
@@ -84,7 +84,7 @@ pub(crate) fn difference(a: Use, b: Use) -> Use
     }
 }
 
-/// An amount `times` times.
+/// Returns an amount `times` times.
 fn multiple(a: Use, times: u32) -> Use
     requires times { times ≤ 100 }
     requires small { AreBelow a (2 ^ 50) }
@@ -100,7 +100,7 @@ fn multiple(a: Use, times: u32) -> Use
     }
 }
 
-/// A hundred times an amount of a list.
+/// Returns a hundred times an amount of a list.
 pub(crate) fn hundredfold(uses: &[Use], i: usize) -> Use
     requires inside { i < length uses.now }
     requires small { (k : ℕ) → amount_at uses.now i k < 2 ^ 49 }
@@ -110,7 +110,7 @@ pub(crate) fn hundredfold(uses: &[Use], i: usize) -> Use
     multiple(uses[i], 100)
 }
 
-/// The rest of `percent` hundredths of the capacity of a slot, in hundredths.
+/// Returns the rest of `percent` hundredths of the capacity of a slot, in hundredths.
 pub(crate) fn room_beside(slots: &[Use], percent: u32, used: &[Use], slot: usize) -> Use
     requires inside { slot < length slots.now }
     requires used { slot < length used.now }

@@ -12,7 +12,7 @@ use plan_device::Device;
 use std::alloc::{AllocError, Global};
 use task_graph::{Graph, Use};
 
-/// The slot of each group that was placed, 0 of the others, and what each slot holds.
+/// The slot of each group that was placed, 0 for the others, and the amount that each slot holds.
 #[derive(Drop)]
 pub(crate) struct Placing {
     pub slots: Vec<u32>,
@@ -20,12 +20,12 @@ pub(crate) struct Placing {
 }
 
 impl Placing {
-    /// Places the next group of its kind, pinned or free, in the first slot that has room for it; false if none has. A group
-    /// of the other kind stays.
+    /// Places the next group of its kind, pinned or free, in the first slot that has room for it. Returns false if no slot has. A
+    /// group of the other kind stays.
     fn place(&mut self, device: &Device, needs: &[Use], free: bool, group: usize) -> bool
         requires group { group < length needs.now }
-        requires placed { ArePlaced device.now needs.now free group self.old.slots.items self.old.used.items }
-        ensures placed { IsTrue result → ArePlaced device.now needs.now free (group + 1) self.new.slots.items self.new.used.items }
+        requires placed { ArePlaced device.now needs.now free group self.old }
+        ensures placed { IsTrue result → ArePlaced device.now needs.now free (group + 1) self.new }
         ensures none { result ≡ false → IsStuck device.now needs.now free self.new.slots.items group }
     {
         if is_free(device, group) != free {
@@ -41,15 +41,15 @@ impl Placing {
         }
     }
 
-    /// Places the groups of one kind, pinned or free, in order.
+    /// Places the groups of one kind, pinned or free, in order. Returns `NoFit` if one of them finds no slot.
     pub(crate) fn place_all(
         &mut self,
         device: &Device,
         needs: &[Use],
         free: bool,
     ) -> Result<(), PlanFault>
-        requires placed { ArePlaced device.now needs.now free 0 self.old.slots.items self.old.used.items }
-        ensures placed { OnOk result (ArePlaced device.now needs.now free (length needs.now) self.new.slots.items self.new.used.items) }
+        requires placed { ArePlaced device.now needs.now free 0 self.old }
+        ensures placed { OnOk result (ArePlaced device.now needs.now free (length needs.now) self.new) }
         ensures none { IfErr result (λ fault. (v : ℕ) × (fault ≡ PlanFault.NoFit (Some v)) × IsStuck device.now needs.now free self.new.slots.items v) }
     {
         for group in 0..needs.len() {
@@ -63,21 +63,21 @@ impl Placing {
     }
 }
 
-/// Nothing placed yet.
+/// Returns a placing of no group.
 pub(crate) fn nothing_placed(
     alloc: Global,
     device: &Device,
     needs: &[Use],
 ) -> Result<Placing, AllocError>
     requires { CanPlace device.now needs.now }
-    ensures { IfOk result (λ placing. ArePlaced device.now needs.now false 0 placing.slots.items placing.used.items) }
+    ensures { IfOk result (ArePlaced device.now needs.now false 0) }
 {
     let slots = vec![in alloc; 0; needs.len()]?;
     let used = empty_slots(alloc, device.slots.len())?;
     Ok(Placing { slots, used })
 }
 
-/// The slots of first fit's plan.
+/// Finds the slots of first fit's plan.
 pub(crate) fn first_fit(
     alloc: Global,
     graph: &Graph,

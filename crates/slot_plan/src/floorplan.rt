@@ -1,11 +1,11 @@
-//! Plans, the modes in which they are looked for, and why there is none.
+//! Plans, the modes in which they are searched, and the reasons why there is none.
 ghost use Rattle.std.specs.Prelude.{◌≡◌};
 ghost use Rattle.slot_plan.specs.declared.floorplan.PlanFault.TheVariants as plan_fault;
 
 use std::alloc::AllocError;
 use task_graph::Use;
 
-/// How a plan is looked for.
+/// The mode in which a plan is searched.
 #[derive(Clone, Copy)]
 pub enum Mode {
     /// The least of all plans; of several that cost the same, the one whose list of slots is first in order.
@@ -23,14 +23,14 @@ pub struct Plan {
     pub cost: u64,
 }
 
-/// Why there is no plan.
+/// The reason why there is no plan.
 #[derive(Clone, Copy)]
 pub enum PlanFault {
     /// No plan is within capacity and keeps the pins; in mode fit, `group` finds no slot.
     NoFit { group: Option<u32> },
     /// Mode exact: `slots` that are not forbidden to the power of `free` groups is above 4,194,304.
     TooMany { slots: u32, free: u32 },
-    /// Memory was refused.
+    /// Memory ran out.
     OutOfMemory,
 }
 

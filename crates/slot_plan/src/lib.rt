@@ -22,3 +22,4 @@ pub use limit::free_groups;
 pub use needs::group_needs;
 pub use plan_device::{Device, DeviceFault, read_device};
 pub use planning::{plan, plan_of};
+pub use tables::Regions;

@@ -1,11 +1,11 @@
-//! How many ways there are to place the free groups.
+//! The number of ways to place the free groups.
 ghost use Rattle.std.specs.Prelude.{◌≡◌, ◌<◌, ◌≤◌, ◌^◌, ◌↔◌, ℕ, IsTrue, length, OnOk, IfErr};
 ghost use Rattle.slot_plan.specs.Causes.{HasFewWays, open_slots as open_of, free_groups as free_of};
 
 use crate::floorplan::PlanFault;
 use plan_device::Device;
 
-/// Whether a power is above the number of plans that are looked at.
+/// Checks whether a power is above the number of plans that the search may visit.
 fn is_too_many(slots: u32, free: u32) -> bool
     requires slots { slots ≤ 32 }
     ensures { IsTrue result ↔ (4194304 < slots ^ free) }
@@ -23,7 +23,7 @@ fn is_too_many(slots: u32, free: u32) -> bool
     false
 }
 
-/// How many slots are not forbidden.
+/// Returns the number of slots that are not forbidden.
 pub(crate) fn open_slots(device: &Device) -> usize
     ensures { result ≡ open_of device.now }
 {
@@ -34,14 +34,14 @@ pub(crate) fn open_slots(device: &Device) -> usize
         .count()
 }
 
-/// How many groups are not pinned.
+/// Returns the number of groups that are not pinned.
 pub fn free_groups(device: &Device) -> usize
     ensures { result ≡ free_of device.now }
 {
     device.pins.iter().filter(|pin| pin.is_none()).count()
 }
 
-/// Refuses to look at more than 4,194,304 ways to place the free groups.
+/// Returns `TooMany` if there are more than 4,194,304 ways to place the free groups.
 pub(crate) fn check_ways(device: &Device) -> Result<(), PlanFault>
     requires slots { length device.now.forbidden.items ≤ 32 }
     requires groups { length device.now.pins.items ≤ 512 }

@@ -1,4 +1,4 @@
-//! What groups need.
+//! The needs of groups.
 ghost use Rattle.std.specs.Prelude.{◌≡◌, ◌<◌, ◌≤◌, ◌^◌, ◌*◌, ◌+◌, ℕ, IfOk, length};
 ghost use Rattle.task_graph.specs.Streams.{amount, amount_at};
 ghost use Rattle.slot_plan.specs.Grids.{IsGrid};
@@ -9,7 +9,7 @@ use plan_device::Device;
 use std::alloc::{AllocError, Global};
 use task_graph::{Graph, Use};
 
-/// What the members of a group use.
+/// Returns the sum of what the members of a group use.
 fn need(graph: &Graph, device: &Device, group: usize) -> Use
     requires { IsGrid graph.now device.now }
     ensures value { (k : ℕ) → amount result k ≡ need_of graph.now device.now group k }
@@ -24,7 +24,7 @@ fn need(graph: &Graph, device: &Device, group: usize) -> Use
     sum
 }
 
-/// What all groups use.
+/// Lists the needs of all groups.
 pub fn group_needs(alloc: Global, graph: &Graph, device: &Device) -> Result<Vec<Use>, AllocError>
     requires { IsGrid graph.now device.now }
     ensures { IfOk result (λ needs. AreNeeds graph.now device.now needs.items) }

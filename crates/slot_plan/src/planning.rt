@@ -14,7 +14,7 @@ use plan_device::Device;
 use std::alloc::{AllocError, Global};
 use task_graph::{Graph, Use};
 
-/// The slots of a plan by its mode.
+/// Finds the slots of a plan by its mode.
 fn slots_by(
     alloc: Global,
     graph: &Graph,
@@ -34,7 +34,7 @@ fn slots_by(
     }
 }
 
-/// A plan by its slots, with what they use and what it costs.
+/// Returns the plan of these slots, with the amounts that they use and the cost.
 pub fn plan_of(
     alloc: Global,
     graph: &Graph,
@@ -54,7 +54,7 @@ pub fn plan_of(
     Ok(Plan { slot, used, cost })
 }
 
-/// A plan of a graph on a device that was read for it.
+/// Finds a plan of a graph on a device that was read for it.
 #[tactic(auto, using(crate::proofs::Limits::grid_of))]
 pub fn plan(alloc: Global, graph: &Graph, device: &Device, mode: Mode) -> Result<Plan, PlanFault>
     requires { IsDevice graph.now device.now }

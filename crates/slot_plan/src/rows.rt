@@ -1,4 +1,4 @@
-//! What items cost that are still to be placed, at each place: a row for each item.
+//! The costs of items that are still to be placed, at each place: a row for each item.
 ghost use Rattle.std.specs.Prelude.{◌≡◌, true, ◌<◌, ◌≤◌, ◌+◌, ◌*◌, ℕ, ◌⊎◌, length, slice_index, [], ◌∷◌, ◌++◌};
 ghost use Rattle.slot_plan.specs.Tables.{items, places, cell, joint_at, distance_at, Suits, AreTables};
 ghost use Rattle.slot_plan.specs.Search.{AreRows, IsBelowRest};
@@ -8,7 +8,7 @@ use crate::tables::Tables;
 /// No cell of a row is greater.
 const MOST: u64 = 2_731_622_400;
 
-/// The lesser of two costs, where the second counts.
+/// Returns the lesser of two costs, if the second counts, and otherwise the first.
 fn lesser(least: u64, cost: u64, counts: bool) -> u64
     ensures least { result ≤ least }
     ensures cost { counts ≡ true → result ≤ cost }
@@ -16,7 +16,7 @@ fn lesser(least: u64, cost: u64, counts: bool) -> u64
     if counts { least.min(cost) } else { least }
 }
 
-/// Writes an item's row, where one more item was placed; the least that the item costs then where it suits.
+/// Writes an item's row after one more item was placed. Returns the least cost of the item at a place that suits it.
 fn lower_row(
     tables: &Tables,
     rows: &[u64],
@@ -50,7 +50,7 @@ fn lower_row(
     least
 }
 
-/// Writes the rows of all further items, where the next item is placed; a number that they cost at least.
+/// Writes the rows of all further items after the next item was placed. Returns a lower bound on their cost.
 pub(crate) fn lower_rows(
     tables: &Tables,
     rows: &[u64],

@@ -1,5 +1,5 @@
-//! The search for the least layout: branch and bound over the items in order, each at each place. A node looks at the items that are
-//! still to be placed, and never at a stream.
+//! The search for the least layout: branch and bound over the items in order, each at each place. A node visits the items that are
+//! still to be placed, and no stream.
 ghost use Rattle.std.specs.Prelude.{◌≡◌, ◌<◌, ◌≤◌, ◌+◌, ◌*◌, ◌^◌, ◌↔◌, ℕ, IsTrue, OnOk, IfOk, length, MatchOption, false, [], ◌∷◌, ◌++◌};
 ghost use Rattle.slot_plan.specs.Tables.{items, AreTables};
 ghost use Rattle.slot_plan.specs.Search.{AreRows, IsBelowRest, IsAnswer, IsAt, IsAtPlace, Explored};
@@ -27,7 +27,7 @@ pub(crate) struct Search {
     pub spare: Vec<Vec<u64>>,
 }
 
-/// Whether the best layout so far costs no more than this.
+/// Checks whether the best layout so far costs no more than this.
 fn is_no_better(best: &Option<Best>, cost: u64) -> bool
     ensures { MatchOption best.now (result ≡ false) (λ b. IsTrue result ↔ (b.cost ≤ cost)) }
 {
@@ -37,14 +37,14 @@ fn is_no_better(best: &Option<Best>, cost: u64) -> bool
     }
 }
 
-/// A copy of a list of slots.
+/// Returns a copy of a list of slots.
 fn copy_of(alloc: Global, places: &[u32]) -> Result<Vec<u32>, AllocError>
     ensures { IfOk result (λ copied. copied.items ≡ places.now) }
 {
     places.to_vec(alloc)
 }
 
-/// A copy of a list of amounts.
+/// Returns a copy of a list of amounts.
 fn rooms_of(alloc: Global, room: &[Use]) -> Result<Vec<Use>, AllocError>
     ensures { IfOk result (λ copied. copied.items ≡ room.now) }
 {
@@ -55,7 +55,7 @@ fn rooms_of(alloc: Global, room: &[Use]) -> Result<Vec<Use>, AllocError>
     Ok(copied)
 }
 
-/// A buffer of a length: a spare one, or a new one.
+/// Returns a buffer of a length: a spare one, or a new one.
 fn buffer(alloc: Global, spare: &mut Vec<Vec<u64>>, len: usize) -> Result<Vec<u64>, AllocError>
     ensures { IfOk result (λ v. length v.items ≡ len) }
 {
@@ -71,8 +71,8 @@ fn buffer(alloc: Global, spare: &mut Vec<Vec<u64>>, len: usize) -> Result<Vec<u6
 }
 
 impl Search {
-    /// Looks at all layouts that begin with the places so far. `spent` is what these cost, `rows` what each further item costs
-    /// at each place beside them, and `low` a number that the further items cost at least.
+    /// Searches all layouts that begin with the places so far. `spent` is the cost of these, `rows` the cost of each further item at
+    /// each place beside them, and `low` a lower bound on the cost of the further items.
     #[cycle(exploring)]
     fn explore(
         &mut self,
@@ -110,7 +110,7 @@ impl Search {
         Ok(())
     }
 
-    /// Looks at all layouts that go on with one place for the next item. `next` is written over.
+    /// Searches all layouts that go on with one place for the next item. `next` is overwritten.
     #[cycle(exploring)]
     fn explore_place(
         &mut self,
@@ -152,7 +152,7 @@ impl Search {
     }
 }
 
-/// The least layout of the tables, the first of several, or none where there is none.
+/// Finds the least layout of the tables, the first of several. Returns `None` if there is no layout.
 pub(crate) fn least_layout(alloc: Global, tables: &Tables) -> Result<Option<Best>, AllocError>
     requires { AreTables tables.now }
     ensures { IfOk result (λ best. IsAnswer tables.now best) }

@@ -1,4 +1,4 @@
-//! Where a group may be, and whether it has room there.
+//! The slots in which a group may be and has room.
 ghost use Rattle.std.specs.Prelude.{◌≡◌, ◌<◌, ◌≤◌, ◌+◌, ◌*◌, ◌^◌, ◌↔◌, ℕ, IsTrue, length, false, not, IfNone, IfSome, MatchOption};
 ghost use Rattle.task_graph.specs.Streams.{amount, amount_at};
 ghost use Rattle.slot_plan.specs.Plan.{distance, MayStand};
@@ -9,7 +9,7 @@ use crate::amounts::{is_within, sum_of};
 use plan_device::Device;
 use task_graph::Use;
 
-/// Whether no member of a group is pinned.
+/// Checks whether no member of a group is pinned.
 pub(crate) fn is_free(device: &Device, group: usize) -> bool
     requires { group < length device.now.pins.items }
     ensures { result ≡ not (is_pinned device.now group) }
@@ -20,7 +20,7 @@ pub(crate) fn is_free(device: &Device, group: usize) -> bool
     }
 }
 
-/// Whether a group may be in a slot.
+/// Checks whether a group may be in a slot.
 pub(crate) fn may_stand(device: &Device, group: usize, slot: usize) -> bool
     requires slot { slot < length device.now.slots.items }
     requires group { group < length device.now.pins.items }
@@ -36,7 +36,7 @@ pub(crate) fn may_stand(device: &Device, group: usize, slot: usize) -> bool
     }
 }
 
-/// The distance of two slots.
+/// Returns the distance of two slots.
 pub(crate) fn distance_of(device: &Device, a: u32, b: u32) -> u32
     requires cols { 0 < device.now.cols }
     requires few { device.now.cols ≤ 4 }
@@ -49,7 +49,7 @@ pub(crate) fn distance_of(device: &Device, a: u32, b: u32) -> u32
     (a / cols).abs_diff(b / cols) + (a % cols).abs_diff(b % cols)
 }
 
-/// What a slot holds with one more group, if that is within its capacity.
+/// Returns what a slot holds with one more group, if that is within the slot's capacity.
 pub(crate) fn loaded(
     device: &Device,
     needs: &[Use],
@@ -76,7 +76,7 @@ pub(crate) fn loaded(
     }
 }
 
-/// What a slot holds with one more group, if the group may be there and has room.
+/// Returns what a slot holds with one more group, if the group may be there and has room.
 fn room_in(device: &Device, needs: &[Use], used: &[Use], group: usize, slot: usize) -> Option<Use>
     requires loads { AreLoads device.now needs.now used.now }
     requires group { group < length needs.now }
@@ -91,7 +91,7 @@ fn room_in(device: &Device, needs: &[Use], used: &[Use], group: usize, slot: usi
     loaded(device, needs, used, group, slot)
 }
 
-/// The first slot that has room for a group, and what it holds then.
+/// Finds the first slot that has room for a group, and what the slot holds then.
 pub(crate) fn first_room(
     device: &Device,
     needs: &[Use],

@@ -1,4 +1,4 @@
-//! What a plan uses and costs.
+//! The amounts that a plan uses, and its cost.
 ghost use Rattle.std.specs.Prelude.{◌≡◌, IfOk};
 ghost use Rattle.slot_plan.specs.Grids.{IsGrid};
 ghost use Rattle.slot_plan.specs.Causes.{AreUsed};
@@ -10,7 +10,7 @@ use plan_device::Device;
 use std::alloc::{AllocError, Global};
 use task_graph::{Graph, Use};
 
-/// What the groups of each slot use.
+/// Returns the amounts that the groups of each slot use.
 pub(crate) fn used_by(
     alloc: Global,
     graph: &Graph,
@@ -31,7 +31,7 @@ pub(crate) fn used_by(
     Ok(used)
 }
 
-/// The cost of a plan.
+/// Returns the cost of a plan.
 pub(crate) fn cost_of(graph: &Graph, device: &Device, slots: &[u32]) -> u64
     requires device { IsGrid graph.now device.now }
     requires plan { IsPlanOf graph.now device.now slots.now }

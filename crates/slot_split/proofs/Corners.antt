@@ -1,26 +1,16 @@
 -- First slots of regions: those of regions within regions, at level 0 and at the last level.
 use Rattle.std.proofs.Common.{◌≡◌, ℕ, ◌+◌, ◌-◌, ◌*◌, ◌/◌, ◌%◌, ◌<◌, ◌≤◌, Bool, true, false, List, [], ◌∷◌, ◌++◌, length, get_or, refl, sym, ap, ◌∙◌, arith, ⊎_elim}
-use Rattle.std.specs.Prelude.{if◌then◌else◌, nat_le, min}
-use Rattle.std.proofs.Math.Nat.{div-lt_iff_lt-mul, mod-lt}
+use Rattle.std.specs.Prelude.{if◌then◌else◌, nat_le}
 use Rattle.std.proofs.lemmas.Bool.{cases_lt}
 use Rattle.std.proofs.lemmas.Bool.Decides.{nat_tests}
 use Rattle.std.proofs.lemmas.List.{length_push, get_or_push, get_or_append_left}
-use Rattle.std.proofs.lemmas.Nat.{div-mul-add, mod-mul-add, mul-le}
+use Rattle.std.proofs.lemmas.Nat.{div-mul-add, mod-mul-add, div-add-mod', mod_below, div_below}
 use Rattle.plan_device.specs.declared.device.Device.{Device}
 use Rattle.slot_split.specs.Halving.{part_start, row_cuts, corner, AreCuts}
 use Rattle.slot_split.specs.Regions.{AreCorners}
 use Rattle.slot_split.proofs.Parting.{part_le, part_again}
 
 -- ---- rows and columns of a slot
-
-pub slot_of : (s n : ℕ) → 0 < n → s / n * n + s % n ≡ s
-slot_of s n l = omega arith
-
-pub col_of : (s n : ℕ) → 0 < n → s % n < n
-col_of s n l = mod-lt s l
-
-pub row_of : (s m n : ℕ) → 0 < n → s < m * n → s / n < m
-row_of s m n l h = (div-lt_iff_lt-mul l).1 h
 
 -- ---- how many cuts are of rows
 
@@ -50,23 +40,14 @@ cuts_grow R J K l =
 pub corner_row : (d : Device) (R K s : ℕ) → 0 < d.cols → corner d R K s / d.cols ≡ part_start (row_cuts R K) d.rows (s / d.cols)
 corner_row d R K s l =
     let a = part_le (K - R) d.cols (s % d.cols) in
-    let b = col_of s d.cols l in
+    let b = mod_below s d.cols l in
     div-mul-add (part_start (row_cuts R K) d.rows (s / d.cols)) d.cols (part_start (K - R) d.cols (s % d.cols)) (omega arith)
 
 pub corner_col : (d : Device) (R K s : ℕ) → 0 < d.cols → corner d R K s % d.cols ≡ part_start (K - R) d.cols (s % d.cols)
 corner_col d R K s l =
     let a = part_le (K - R) d.cols (s % d.cols) in
-    let b = col_of s d.cols l in
+    let b = mod_below s d.cols l in
     mod-mul-add (part_start (row_cuts R K) d.rows (s / d.cols)) d.cols (part_start (K - R) d.cols (s % d.cols)) (omega arith)
-
--- it comes no later than any other
-pub corner_le : (d : Device) (R K s : ℕ) → 0 < d.cols → corner d R K s ≤ s
-corner_le d R K s l =
-    let a = part_le (row_cuts R K) d.rows (s / d.cols) in
-    let b = part_le (K - R) d.cols (s % d.cols) in
-    let c = mul-le (part_start (row_cuts R K) d.rows (s / d.cols)) d.cols (s / d.cols) d.cols a (omega arith) in
-    let e = slot_of s d.cols l in
-    omega arith
 
 -- it is in the region of an earlier level that the slot is in, and in its own
 pub corner_again : (d : Device) (R J K s : ℕ) → J ≤ K → 0 < d.cols → corner d R J (corner d R K s) ≡ corner d R J s
@@ -95,35 +76,14 @@ pub corner_last : (d : Device) (R C s : ℕ) → AreCuts d.rows R → AreCuts d.
 corner_last d R C s rows cols some l =
     let a = cuts_many R (R + C) (omega arith) in
     let b : R + C - R ≡ C = omega arith in
-    let x = rows.alone (s / d.cols) (row_of s d.rows d.cols some l) in
-    let y = cols.alone (s % d.cols) (col_of s d.cols some) in
+    let x = rows.alone (s / d.cols) (div_below s d.cols d.rows some l) in
+    let y = cols.alone (s % d.cols) (mod_below s d.cols some) in
     ap (λ (z : ℕ). part_start z d.rows (s / d.cols) * d.cols + part_start (R + C - R) d.cols (s % d.cols)) a
     ∙ (ap (λ (z : ℕ). part_start R d.rows (s / d.cols) * d.cols + part_start z d.cols (s % d.cols)) b
     ∙ (ap (λ (z : ℕ). z * d.cols + part_start C d.cols (s % d.cols)) x
-    ∙ (ap (λ (z : ℕ). s / d.cols * d.cols + z) y ∙ slot_of s d.cols some)))
+    ∙ (ap (λ (z : ℕ). s / d.cols * d.cols + z) y ∙ div-add-mod' s d.cols)))
 
 -- ---- as the code takes them
-
-pub cuts_min : (R K : ℕ) → min K R ≡ row_cuts R K
-cuts_min R K =
-    ⊎_elim
-    (λ (a : R < K). let e = cuts_many R K (omega arith) in omega arith)
-    (λ (a : K ≤ R). let e = cuts_few R K a in omega arith)
-    (cases_lt R K)
-
-pub corner_made : (d : Device) (R K s m row col : ℕ) → m ≡ min K R → row ≡ part_start m d.rows (s / d.cols) → col ≡ part_start (K - m) d.cols (s % d.cols) → row * d.cols + col ≡ corner d R K s
-corner_made d R K s m row col em er ec =
-    let a : m ≡ row_cuts R K = em ∙ cuts_min R K in
-    let b : K - m ≡ K - R =
-    ⊎_elim
-    (λ (l : R < K). let e = cuts_many R K (omega arith) in omega arith)
-    (λ (l : K ≤ R). let e = cuts_few R K l in omega arith)
-    (cases_lt R K) in
-    ap (λ (z : ℕ). z * d.cols + col) (er ∙ ap (λ (z : ℕ). part_start z d.rows (s / d.cols)) a)
-    ∙ ap (λ (z : ℕ). part_start (row_cuts R K) d.rows (s / d.cols) * d.cols + z) (ec ∙ ap (λ (z : ℕ). part_start z d.cols (s % d.cols)) b)
-
-pub few_of : (m n : ℕ) → m ≤ 8 → n ≤ 4 → m * n ≤ 32
-few_of m n lm ln = mul-le m n 8 4 lm ln
 
 -- ---- the first n of a list of first slots
 

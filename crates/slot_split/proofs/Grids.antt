@@ -3,7 +3,7 @@ use Rattle.std.proofs.Common.{◌≡◌, ℕ, ◌+◌, ◌*◌, ◌/◌, ◌%◌
 use Rattle.std.specs.Prelude.{if◌then◌else◌, ◌==◌, ◌&&◌, slice_get}
 use Rattle.std.specs.Option.{option_map}
 use Rattle.std.proofs.lemmas.List.{length-map}
-use Rattle.std.proofs.lemmas.Option.{slice_get-map}
+use Rattle.std.proofs.lemmas.Option.{slice_get-map, none-some, same_Some}
 use Rattle.task_graph.specs.declared.Graph.{Graph}
 use Rattle.task_graph.specs.declared.Use.{Use}
 use Rattle.task_graph.specs.Streams.{amount_at}
@@ -21,16 +21,10 @@ use Rattle.slot_split.proofs.Corners.{corner_again}
 
 -- ---- pins
 
-none_not_some : {A : Type 0} (x : A) → None ≡ Some x → ⊥
-none_not_some x e = cc
-
-some_same : {A : Type 0} (x y : A) → Some x ≡ Some y → x ≡ y
-some_same x y e = cc
-
 pin_back : (f : ℕ → ℕ) (o : Option (Option ℕ)) (u : ℕ) → option_map (option_map f) o ≡ Some (Some u) → (t : ℕ) × (o ≡ Some (Some t)) × (u ≡ f t)
-pin_back f None u e = absurd (none_not_some (Some u) e)
-pin_back f (Some None) u e = absurd (none_not_some u (some_same None (Some u) e))
-pin_back f (Some (Some t)) u e = (t, refl, sym (some_same (f t) u (some_same (Some (f t)) (Some u) e)))
+pin_back f None u e = absurd (none-some (Some u) e)
+pin_back f (Some None) u e = absurd (none-some u (same_Some None (Some u) e))
+pin_back f (Some (Some t)) u e = (t, refl, sym (same_Some (f t) u (same_Some (Some (f t)) (Some u) e)))
 
 pub pin_of_map : (f : ℕ → ℕ) (pins old : List (Option ℕ)) (v u : ℕ) → pins ≡ map (option_map f) old → slice_get pins v ≡ Some (Some u) → (t : ℕ) × (slice_get old v ≡ Some (Some t)) × (u ≡ f t)
 pin_of_map f pins old v u are e = pin_back f (slice_get old v) u (sym (slice_get-map (option_map f) old v) ∙ (sym (ap (λ (xs : List (Option ℕ)). slice_get xs v) are) ∙ e))

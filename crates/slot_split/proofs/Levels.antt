@@ -1,23 +1,19 @@
 -- The least plan of the grid of a level's regions in which groups stay at home is the next level.
-use Rattle.std.proofs.Common.{◌≡◌, ℕ, zero, suc, ◌+◌, ◌-◌, ◌<◌, true, false, List, length, get_or, replicate, refl, sym, ap, subst, ◌∙◌, arith, ⊎_elim, Option, Some, None, Vec}
+use Rattle.std.proofs.Common.{◌≡◌, ℕ, zero, suc, ◌+◌, ◌-◌, ◌<◌, true, false, List, length, get_or, replicate, sym, ap, subst, ◌∙◌, arith, ⊎_elim, Option, Some, None, Vec}
 use Rattle.std.specs.Prelude.{slice_get, MatchOption}
 use Rattle.std.specs.declared.alloc.Global.{Global}
 use Rattle.std.proofs.lemmas.List.{get_or-replicate}
+use Rattle.std.proofs.lemmas.Bool.{cases_Bool}
 use Rattle.task_graph.specs.declared.Graph.{Graph}
 use Rattle.plan_device.specs.declared.device.Device.{Device}
-use Rattle.slot_plan.specs.FirstFit.{is_pin, is_pinned}
+use Rattle.slot_plan.specs.FirstFit.{is_pinned}
 use Rattle.slot_plan.specs.Least.{Beats, IsLeastOf, HasNoneOf}
 use Rattle.slot_plan.specs.Merging.{StayAtHome}
+use Rattle.slot_plan.proofs.Merging.{pin_is}
 use Rattle.slot_split.specs.Halving.{corner, FitsLevel, StaysIn, IsNextLevel, IsLevel, HasNone}
 use Rattle.slot_split.specs.Regions.{AreCorners, IsRegions, IsBehind}
 use Rattle.slot_split.proofs.Corners.{corner_again, corner_start}
 use Rattle.slot_split.proofs.Grids.{same_cost, fits_of_plan, plan_of_fits}
-use Rattle.slot_split.proofs.Sums.{bool_cases, true_not_false}
-
-pin_is : (o : Option (Option ℕ)) → is_pin o ≡ true → (t : ℕ) × (o ≡ Some (Some t))
-pin_is None e = absurd (true_not_false (sym e))
-pin_is (Some None) e = absurd (true_not_false (sym e))
-pin_is (Some (Some t)) e = (t, refl)
 
 -- a pinned group stays in its region by its pin, and a free one by its home
 pub stays_in : (g : Graph) (d r : Device) (R K : ℕ) (p q before : List ℕ) → 0 < d.cols → IsRegions g d R (suc K) r → AreCorners d R K before → FitsLevel g d R K p → FitsLevel g d R (suc K) q → StayAtHome r p before q → StaysIn d R K p q
@@ -32,7 +28,7 @@ stays_in g d r R K p q before some are corners old new home = λ v l.
     ap (corner d R K) (sym ((new.each v l).pinned t.0 t.1))
     ∙ (corner_again d R K (suc K) t.0 (omega arith) some ∙ (old.each v lp).pinned t.0 t.1))
     (λ (e : is_pinned r v ≡ false). sym (corners.value c inside) ∙ sym (home v l e))
-    (bool_cases (is_pinned r v))
+    (cases_Bool (is_pinned r v))
 
 pub home_of : (g : Graph) (d r : Device) (R K : ℕ) (p q before : List ℕ) → AreCorners d R K before → FitsLevel g d R (suc K) q → StaysIn d R K p q → StayAtHome r p before q
 home_of g d r R K p q before corners new stays = λ v l e. sym (stays v l) ∙ sym (corners.value (get_or q v 0) (new.each v l).inside)

@@ -31,10 +31,6 @@ pub first_cut : (k n x : ℕ) → (k ≡ 0 → ⊥) → x < half n → part_star
 first_cut zero n x some l = absurd (some refl)
 first_cut (suc k) n x some l = let e : suc k - 1 ≡ k = omega arith in part_first k n x l ∙ ap (λ (j : ℕ). part_start j (half n) x) (sym e)
 
-pub second_cut : (k n x : ℕ) → (k ≡ 0 → ⊥) → half n ≤ x → part_start k n x ≡ half n + part_start (k - 1) (n - half n) (x - half n)
-second_cut zero n x some l = absurd (some refl)
-second_cut (suc k) n x some l = let e : suc k - 1 ≡ k = omega arith in part_second k n x l ∙ ap (λ (j : ℕ). half n + part_start j (n - half n) (x - half n)) (sym e)
-
 -- ---- when each is alone
 
 alone_step : (k b n x : ℕ) → ((m y : ℕ) → m ≤ b → y < m → part_start k m y ≡ y) → n ≤ b + b → x < n → part_start (suc k) n x ≡ x

@@ -1,9 +1,10 @@
 -- There is one plan by halving at most, and it is a plan.
-use Rattle.std.proofs.Common.{◌≡◌, ℕ, zero, suc, ◌+◌, ◌*◌, ◌<◌, ◌≤◌, Bool, true, false, List, [], ◌∷◌, length, get_or, refl, sym, ap, subst, ◌∙◌, arith, ⊎_elim}
-use Rattle.std.specs.Prelude.{if◌then◌else◌, ◌==◌, ◌&&◌, not, slice_index_or}
-use Rattle.std.proofs.lemmas.Bool.{cases_lt}
+use Rattle.std.proofs.Common.{◌≡◌, ℕ, zero, suc, ◌+◌, ◌*◌, ◌<◌, ◌≤◌, Bool, true, false, List, length, get_or, sym, ap, subst, ◌∙◌, arith, ⊎_elim}
+use Rattle.std.specs.Prelude.{if◌then◌else◌, ◌==◌, ◌&&◌, slice_index_or}
+use Rattle.std.proofs.lemmas.Bool.{cases_lt, cases_Bool, and_parts, eqb-true, not-true}
 use Rattle.std.proofs.lemmas.Grind.{same_number_lists}
 use Rattle.std.proofs.lemmas.Nat.{mul-le}
+use Rattle.slot_split.proofs.Sums.{pick_low}
 use Rattle.task_graph.specs.declared.Graph.{Graph}
 use Rattle.task_graph.specs.Streams.{amount_at}
 use Rattle.task_graph.specs.Arcs.{total}
@@ -14,7 +15,6 @@ use Rattle.slot_plan.specs.Merging.{is_open}
 use Rattle.slot_split.specs.Halving.{corner, capacity_in, AreCuts, FitsLevel, StaysIn, IsNextLevel, IsLevel, HasNone, HasOneHalvingPlan, HalvingGivesPlans, HalvesOrFails, FailsAtOneLevel}
 use Rattle.slot_split.proofs.Corners.{corner_start, corner_last}
 use Rattle.slot_split.proofs.Levels.{level_fits}
-use Rattle.slot_split.proofs.Sums.{bool_cases, true_not_false, first_of, test_same}
 
 -- ---- one list a level
 
@@ -104,14 +104,6 @@ fails_at_one_level = λ g d level other a b.
 
 -- ---- the last level is a plan
 
-open_free : (b : Bool) → not b ≡ true → b ≡ false
-open_free true e = absurd (true_not_false (sym e))
-open_free false e = refl
-
-pick_le : (b : Bool) (x : ℕ) → (if b then x else 0) ≤ x
-pick_le true x = omega arith
-pick_le false x = omega arith
-
 total_single : (n i x : ℕ) (f : ℕ → ℕ) → ((v : ℕ) → v < n → (v ≡ i → ⊥) → f v ≡ 0) → f i ≤ x → total n f ≤ x
 total_single zero i x f others here = omega arith
 total_single (suc n) i x f others here =
@@ -133,10 +125,10 @@ one_slot d R C c k slots some rows cols l =
     (λ s ls ne.
     let t = (corner d R (R + C) s == c) && is_open d s in
     ⊎_elim
-    (λ (e : t ≡ true). absurd (ne (sym (corner_last d R C s rows cols some (omega arith)) ∙ test_same (corner d R (R + C) s) c (first_of (corner d R (R + C) s == c) (is_open d s) e))))
+    (λ (e : t ≡ true). absurd (ne (sym (corner_last d R C s rows cols some (omega arith)) ∙ eqb-true (corner d R (R + C) s) c ((and_parts (corner d R (R + C) s == c) (is_open d s) e).0))))
     (λ (e : t ≡ false). ap (λ (b : Bool). if b then amount_at d.slots.items s k else 0) e)
-    (bool_cases t))
-    (pick_le ((corner d R (R + C) c == c) && is_open d c) (amount_at d.slots.items c k))
+    (cases_Bool t))
+    (pick_low ((corner d R (R + C) c == c) && is_open d c) (amount_at d.slots.items c k))
 
 pub halving_gives_plans : HalvingGivesPlans
 halving_gives_plans = λ g d p device h.
@@ -152,7 +144,7 @@ halving_gives_plans = λ g d p device h.
           let at : w.0 ≡ get_or p v 0 = sym (corner_last d R C w.0 h.row_levels h.col_levels some (let a = w.1.inside in let b = device.slots in omega arith)) ∙ w.1.region in
           record {
             inside = has.inside;
-            free = open_free (slice_index_or d.forbidden.items (get_or p v 0) false) (subst (λ (s : ℕ). is_open d s ≡ true) at w.1.free);
+            free = not-true (slice_index_or d.forbidden.items (get_or p v 0) false) (subst (λ (s : ℕ). is_open d s ≡ true) at w.1.free);
             pinned = λ t e. (
                 let a = device.pins_inside v t e in
                 sym (has.pinned t e) ∙ corner_last d R C t h.row_levels h.col_levels some (let b = device.slots in omega arith));

@@ -1,9 +1,8 @@
 -- What regions have and which are closed, slot by slot.
-use Rattle.std.proofs.Common.{◌≡◌, ℕ, ◌+◌, ◌^◌, ◌<◌, ◌≤◌, ◌⊎◌, inl, inr, Bool, true, false, List, length, get_or, set, replicate, refl, sym, ap, subst, ◌∙◌, arith, add-one, ⊎_elim}
+use Rattle.std.proofs.Common.{◌≡◌, ℕ, ◌+◌, ◌^◌, ◌<◌, ◌≤◌, ◌⊎◌, Bool, true, false, List, length, get_or, set, replicate, refl, sym, ap, subst, ◌∙◌, arith, add-one, ⊎_elim}
 use Rattle.std.specs.Prelude.{if◌then◌else◌, ◌==◌, ◌&&◌, slice_index_or}
-use Rattle.std.proofs.lemmas.Bool.{cases_lt, cases_eq}
-use Rattle.std.proofs.lemmas.Bool.Decides.{nat_tests}
-use Rattle.std.proofs.lemmas.List.{get_or-replicate, get_or-set_same, get_or-set_other}
+use Rattle.std.proofs.lemmas.Bool.{cases_lt, cases_Bool, and_from, and_parts, eq-eqb, eqb-true, ne_eqb, and_left, true≢false}
+use Rattle.std.proofs.lemmas.List.{get_or-replicate}
 use Rattle.task_graph.specs.declared.Use.{Use}
 use Rattle.task_graph.specs.Streams.{amount, amount_at}
 use Rattle.task_graph.specs.Arcs.{total}
@@ -14,64 +13,24 @@ use Rattle.slot_split.specs.Regions.{AreSums, HasOpen, AreClosed}
 
 -- ---- tests
 
-pub bool_cases : (b : Bool) → (b ≡ true) ⊎ (b ≡ false)
-bool_cases true = inl refl
-bool_cases false = inr refl
-
-pub true_not_false : true ≡ false → ⊥
-true_not_false e = cc
-
-pick_low : (b : Bool) (x : ℕ) → (if b then x else 0) ≤ x
+pub pick_low : (b : Bool) (x : ℕ) → (if b then x else 0) ≤ x
 pick_low true x = omega arith
 pick_low false x = omega arith
 
-pub both : (a b : Bool) → a ≡ true → b ≡ true → a && b ≡ true
-both true b e f = f
-both false b e f = absurd (true_not_false (sym e))
-
-pub first_of : (a b : Bool) → a && b ≡ true → a ≡ true
-first_of true b e = refl
-first_of false b e = e
-
-pub second_of : (a b : Bool) → a && b ≡ true → b ≡ true
-second_of true b e = e
-second_of false b e = absurd (true_not_false (sym e))
-
-pub same_test : (a b : ℕ) → a ≡ b → (a == b) ≡ true
-same_test a b e = grind (arith, nat_tests)
-
-pub test_same : (a b : ℕ) → (a == b) ≡ true → a ≡ b
-test_same a b e = grind (arith, nat_tests)
-
-neither : (a b : Bool) → b ≡ false → a && b ≡ false
-neither true b e = e
-neither false b e = refl
-
-apart_test : (a b : ℕ) → (a ≡ b → ⊥) → (a == b) ≡ false
-apart_test a b ne = grind (arith, nat_tests)
-
-not_first : (a b : Bool) → a ≡ false → a && b ≡ false
-not_first true b e = absurd (true_not_false e)
-not_first false b e = refl
-
 -- ---- sums
-
-pub add_none : (d : Device) (sums : List Use) (corner slot c k : ℕ) → is_open d slot ≡ false → amount_at sums c k ≡ amount_at sums c k + (if (corner == c) && is_open d slot then amount_at d.slots.items slot k else 0)
-add_none d sums corner slot c k closed =
-    let e = ap (λ (b : Bool). if b then amount_at d.slots.items slot k else 0) (neither (corner == c) (is_open d slot) closed) in omega arith
 
 pub add_made : (d : Device) (sums : List Use) (corner slot : ℕ) (new : Use) → corner < length sums → is_open d slot ≡ true → ((k : ℕ) → amount new k ≡ amount_at sums corner k + amount_at d.slots.items slot k)
     → (c k : ℕ) → amount_at (set sums corner new) c k ≡ amount_at sums c k + (if (corner == c) && is_open d slot then amount_at d.slots.items slot k else 0)
 add_made d sums corner slot new inside free is c k =
     ⊎_elim
     (λ w.
-    let t = both (corner == c) (is_open d slot) (same_test corner c (sym w.0)) free in
+    let t = and_from (corner == c) (is_open d slot) (eq-eqb corner c (sym w.0)) free in
     let e = ap (λ (b : Bool). if b then amount_at d.slots.items slot k else 0) t in
     let s = ap (λ (i : ℕ). amount_at sums i k) w.0 in
     let a = is k in
     let y = w.1 in omega arith)
     (λ w.
-    let t = not_first (corner == c) (is_open d slot) (apart_test corner c (λ e. w.0 (sym e))) in
+    let t = and_left (corner == c) (is_open d slot) (ne_eqb corner c (λ e. w.0 (sym e))) in
     let e = ap (λ (b : Bool). if b then amount_at d.slots.items slot k else 0) t in
     let y = w.1 in omega arith)
     (amount_set sums corner c k new inside)
@@ -102,25 +61,11 @@ sums_more d corners n sums new small long is h = record {
 
 -- ---- marks
 
-pub mark_none : (d : Device) (closed : List Bool) (corner slot c : ℕ) → is_open d slot ≡ false → slice_index_or closed c false ≡ (if (corner == c) && is_open d slot then false else slice_index_or closed c false)
-mark_none d closed corner slot c e = sym (ap (λ (b : Bool). if b then false else slice_index_or closed c false) (neither (corner == c) (is_open d slot) e))
-
-pub mark_made : (d : Device) (closed : List Bool) (corner slot c : ℕ) → corner < length closed → is_open d slot ≡ true → slice_index_or (set closed corner false) c false ≡ (if (corner == c) && is_open d slot then false else slice_index_or closed c false)
-mark_made d closed corner slot c inside free =
-    ⊎_elim
-    (λ (e : c ≡ corner).
-    let t = both (corner == c) (is_open d slot) (same_test corner c (sym e)) free in
-    ap (λ (i : ℕ). get_or (set closed corner false) i false) e ∙ (get_or-set_same closed corner false false inside ∙ sym (ap (λ (b : Bool). if b then false else slice_index_or closed c false) t)))
-    (λ (ne : c ≡ corner → ⊥).
-    let t = not_first (corner == c) (is_open d slot) (apart_test corner c (λ e. ne (sym e))) in
-    get_or-set_other closed corner c false false ne ∙ sym (ap (λ (b : Bool). if b then false else slice_index_or closed c false) t))
-    (cases_eq c corner)
-
 pub closed_none : (d : Device) (corners : List ℕ) (m : ℕ) → m ≡ length d.slots.items → length (replicate m true) ≡ m → AreClosed d corners 0 (replicate m true)
 closed_none d corners m e long = record {
   long = long ∙ e;
   usable = λ c l. (
-    (λ f. absurd (true_not_false (sym (get_or-replicate m c true false (let a = long in omega arith)) ∙ f))),
+    (λ f. absurd (true≢false (sym (get_or-replicate m c true false (let a = long in omega arith)) ∙ f))),
     (λ has. absurd (let a = has.below in let i : ⊥ = omega arith in i)),
   );
 }
@@ -136,7 +81,7 @@ open_before d corners n c shut h =
     let e : h.slot ≡ n = (let a = h.below in omega arith) in
     let region : get_or corners n 0 ≡ c = subst (λ (s : ℕ). get_or corners s 0 ≡ c) e h.region in
     let free : is_open d n ≡ true = subst (λ (s : ℕ). is_open d s ≡ true) e h.free in
-    absurd (true_not_false (sym (both (get_or corners n 0 == c) (is_open d n) (same_test (get_or corners n 0) c region) free) ∙ shut)))
+    absurd (true≢false (sym (and_from (get_or corners n 0 == c) (is_open d n) (eq-eqb (get_or corners n 0) c region) free) ∙ shut)))
     (cases_lt h.slot n)
 
 pub closed_more : (d : Device) (corners : List ℕ) (n : ℕ) (closed new : List Bool) → length new ≡ length closed
@@ -149,7 +94,7 @@ closed_more d corners n closed new long is h = record {
       let old = h.usable c (let a = l in omega arith) in
       ⊎_elim
       (λ (e : t ≡ true). (
-        (λ f. record { slot = n; below = omega arith; region = test_same (get_or corners n 0) c (first_of (get_or corners n 0 == c) (is_open d n) e); free = second_of (get_or corners n 0 == c) (is_open d n) e }),
+        (λ f. record { slot = n; below = omega arith; region = eqb-true (get_or corners n 0) c ((and_parts (get_or corners n 0 == c) (is_open d n) e).0); free = (and_parts (get_or corners n 0 == c) (is_open d n) e).1 }),
         (λ has. is c ∙ ap (λ (b : Bool). if b then false else slice_index_or closed c false) e),
       ))
       (λ (e : t ≡ false).
@@ -157,5 +102,5 @@ closed_more d corners n closed new long is h = record {
         (λ f. open_later d corners n c (old.0 (sym same ∙ f))),
         (λ has. same ∙ old.1 (open_before d corners n c e has)),
       ))
-      (bool_cases t));
+      (cases_Bool t));
 }

@@ -1,5 +1,5 @@
 -- Why there is no plan by halving.
-use Rattle.std.specs.Prelude.{◌≡◌, ◌<◌}
+use Rattle.std.specs.Prelude.{◌≡◌, ◌<◌, ⊤}
 use Rattle.task_graph.specs.declared.Graph.{Graph}
 use Rattle.plan_device.specs.declared.device.Device.{Device}
 use Rattle.slot_plan.specs.Causes.{free_groups}
@@ -11,4 +11,4 @@ use Rattle.slot_split.specs.Halving.{HasNoHalving}
 abbrev pub IsSplitCause : Graph → Device → SplitFault → Type 0
 IsSplitCause g d (TooMany free) = (free ≡ free_groups d) × (22 < free)
 IsSplitCause g d (NoSplit level) = HasNoHalving g d level
-IsSplitCause g d OutOfMemory = Unit {0}
+IsSplitCause g d OutOfMemory = ⊤

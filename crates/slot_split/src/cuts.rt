@@ -4,7 +4,7 @@ ghost use Rattle.slot_split.specs.Halving.{half as half_of, part_start as part_s
 
 use plan_device::Device;
 
-/// How many of n rows or columns are in the first part.
+/// Returns how many of n rows or columns are in the first part.
 fn half(n: u32) -> u32
     requires { n ≤ 8 }
     ensures { result ≡ half_of n }
@@ -12,7 +12,7 @@ fn half(n: u32) -> u32
     (n + 1) / 2
 }
 
-/// How many cuts part n rows or columns into parts of one.
+/// Returns how many cuts part n rows or columns into parts of one.
 #[tactic(auto, using(crate::proofs::Parting::cuts_0, crate::proofs::Parting::cuts_1, crate::proofs::Parting::cuts_2, crate::proofs::Parting::cuts_3))]
 pub(crate) fn cuts(n: u32) -> u32
     requires some { 0 < n }
@@ -31,7 +31,7 @@ pub(crate) fn cuts(n: u32) -> u32
     }
 }
 
-/// Where the part begins in which one of n rows or columns is after a number of cuts.
+/// Returns where the part begins in which one of n rows or columns is after a number of cuts.
 fn part_start(cuts: u32, n: u32, x: u32) -> u32
     requires few { n ≤ 8 }
     requires inside { x < n }
@@ -49,7 +49,7 @@ fn part_start(cuts: u32, n: u32, x: u32) -> u32
     }
 }
 
-/// The first slot of the region in which a slot is at a level, where `row_levels` cuts part all rows.
+/// Returns the first slot of the region in which a slot is at a level, if `row_levels` cuts part all rows.
 pub(crate) fn corner(device: &Device, row_levels: u32, level: u32, slot: u32) -> u32
     requires rows { device.now.rows ≤ 8 }
     requires some_cols { 0 < device.now.cols }

@@ -11,18 +11,18 @@ ghost use Rattle.slot_split.specs.declared.planning.SplitFault.TheVariants as sp
 use crate::cuts::cuts;
 use crate::regions::{corners_of, regions_of};
 use plan_device::Device;
-use slot_plan::{Plan, free_groups, group_needs, least_at_home, plan_of};
+use slot_plan::{Plan, Regions, free_groups, group_needs, least_at_home, plan_of};
 use std::alloc::{AllocError, Global};
 use task_graph::{Graph, Use};
 
-/// Why there is no plan by halving.
+/// The reason why there is no plan by halving.
 #[derive(Clone, Copy)]
 pub enum SplitFault {
     /// More than 22 groups are free.
     TooMany { free: u32 },
     /// No list of regions fits at this level after those of the levels before.
     NoSplit { level: u32 },
-    /// Memory was refused.
+    /// Memory ran out.
     OutOfMemory,
 }
 
@@ -34,7 +34,7 @@ impl From<AllocError> for SplitFault {
     }
 }
 
-/// The regions of the groups at a level, where `homes` are those at the level before; none where no list of regions fits.
+/// Finds the regions of the groups at a level, if `homes` are those at the level before. Returns `None` if no list of regions fits.
 fn next_homes(
     alloc: Global,
     graph: &Graph,
@@ -42,20 +42,20 @@ fn next_homes(
     needs: &[Use],
     row_levels: u32,
     level: u32,
-    homes: &[u32],
+    homes: Vec<u32>,
 ) -> Result<Option<Vec<u32>>, AllocError>
     requires device { IsDevice graph.now device.now }
     requires needs { AreNeeds graph.now device.now needs.now }
-    requires homes { IsBehind graph.now device.now row_levels level homes.now }
+    requires homes { IsBehind graph.now device.now row_levels level homes.items }
     ensures { IfOk result (λ found. MatchOption found (HasNone graph.now device.now row_levels level) (λ next. IsLevel graph.now device.now row_levels level next.items)) }
 {
-    let before = corners_of(alloc, device, row_levels, level.saturating_sub(1))?;
+    let slots = corners_of(alloc, device, row_levels, level.saturating_sub(1))?;
     let corners = corners_of(alloc, device, row_levels, level)?;
-    let regions = regions_of(alloc, graph, device, &corners)?;
-    least_at_home(alloc, graph, &regions, needs, homes, &before)
+    let grid = regions_of(alloc, graph, device, &corners)?;
+    least_at_home(alloc, graph, &grid, needs, &Regions { homes, slots })
 }
 
-/// The regions of the groups at all levels, one after the other: in the end their slots.
+/// Finds the regions of the groups at all levels, one after the other: in the end their slots.
 fn split_slots(
     alloc: Global,
     graph: &Graph,
@@ -72,7 +72,7 @@ fn split_slots(
     let levels = row_levels + cuts(device.cols);
     let mut homes = vec![in alloc; 0; graph.groups as usize]?;
     for level in 0..levels + 1 {
-        match next_homes(alloc, graph, device, needs, row_levels, level, &homes)? {
+        match next_homes(alloc, graph, device, needs, row_levels, level, homes)? {
             None => return Err(SplitFault::NoSplit { level }),
             Some(next) => homes = next,
         }
@@ -80,7 +80,7 @@ fn split_slots(
     Ok(homes)
 }
 
-/// The plan by halving of a graph on a device that was read for it: level by level the regions are cut in two, rows before
+/// Finds the plan by halving of a graph on a device that was read for it. Level by level the regions are cut in two, rows before
 /// columns, and each level divides the groups at the least cost (AutoBridge's partitioning).
 pub fn split(alloc: Global, graph: &Graph, device: &Device) -> Result<Plan, SplitFault>
     requires { IsDevice graph.now device.now }

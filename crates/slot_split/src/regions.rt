@@ -13,7 +13,7 @@ use slot_plan::{add_at, empty_slots};
 use std::alloc::{AllocError, Global};
 use task_graph::{Graph, Use};
 
-/// The first slots of the regions in which the slots are at a level.
+/// Returns the first slots of the regions in which the slots are at a level.
 pub(crate) fn corners_of(
     alloc: Global,
     device: &Device,
@@ -50,7 +50,7 @@ fn add_open(sums: &mut Vec<Use>, device: &Device, corner: usize, slot: usize)
     sums[corner] = sum;
 }
 
-/// What the regions have: the sums over their slots that are not forbidden.
+/// Returns the amounts that the regions have: the sums over their slots that are not forbidden.
 fn sums_of(alloc: Global, device: &Device, corners: &[u32]) -> Result<Vec<Use>, AllocError>
     requires long { length corners.now ≡ length device.now.slots.items }
     requires few { length device.now.slots.items ≤ 32 }
@@ -66,7 +66,7 @@ fn sums_of(alloc: Global, device: &Device, corners: &[u32]) -> Result<Vec<Use>, 
     Ok(sums)
 }
 
-/// Marks a region as open, if one of its slots is.
+/// Marks a region as open if one of its slots is.
 fn mark_open(closed: &mut Vec<bool>, device: &Device, corner: usize, slot: usize)
     requires inside { corner < length closed.old.items }
     requires slot { slot < length device.now.forbidden.items }
@@ -78,7 +78,7 @@ fn mark_open(closed: &mut Vec<bool>, device: &Device, corner: usize, slot: usize
     }
 }
 
-/// Which slots begin no region that has an open slot.
+/// Marks the slots that begin no region that has an open slot.
 fn closed_of(alloc: Global, device: &Device, corners: &[u32]) -> Result<Vec<bool>, AllocError>
     requires long { length corners.now ≡ length device.now.slots.items }
     requires inside { (s : ℕ) → s < length corners.now → slice_index corners.now s < length corners.now }
@@ -92,7 +92,7 @@ fn closed_of(alloc: Global, device: &Device, corners: &[u32]) -> Result<Vec<bool
     Ok(closed)
 }
 
-/// The region of a pin.
+/// Returns the region of a pin.
 fn region_of(pin: Option<u32>, corners: &[u32]) -> Option<u32>
     requires { IfSome pin (λ slot. slot < length corners.now) }
     ensures { result ≡ option_map (slice_index corners.now) pin }
@@ -103,7 +103,7 @@ fn region_of(pin: Option<u32>, corners: &[u32]) -> Option<u32>
     }
 }
 
-/// The regions to which groups are pinned.
+/// Returns the regions to which groups are pinned.
 fn pins_of(alloc: Global, device: &Device, corners: &[u32]) -> Result<Vec<Option<u32>>, AllocError>
     requires { (v s : ℕ) → slice_get device.now.pins.items v ≡ Some (Some s) → s < length corners.now }
     ensures { IfOk result (λ pins. pins.items ≡ map (option_map (slice_index corners.now)) device.now.pins.items) }
@@ -115,7 +115,7 @@ fn pins_of(alloc: Global, device: &Device, corners: &[u32]) -> Result<Vec<Option
     Ok(pins)
 }
 
-/// A copy of a list of uses.
+/// Returns a copy of a list of uses.
 fn copy_of(alloc: Global, uses: &[Use]) -> Result<Vec<Use>, AllocError>
     ensures { IfOk result (λ copied. copied.items ≡ uses.now) }
 {
@@ -126,7 +126,7 @@ fn copy_of(alloc: Global, uses: &[Use]) -> Result<Vec<Use>, AllocError>
     Ok(copied)
 }
 
-/// The grid of the regions that have these first slots.
+/// Returns the grid of the regions that have these first slots.
 pub(crate) fn regions_of(
     alloc: Global,
     graph: &Graph,

@@ -1,104 +1,91 @@
--- From how a command was carried out to what the call answers.
-use Rattle.std.proofs.Common.{◌≡◌, ◌≢◌, ◌⊎◌, ℕ, List, Ok, Err, refl, sym, ◌∙◌, inl, inr}
-use Rattle.plan_device.specs.declared.fault.DeviceFault.TheVariants as device_fault
-use Rattle.run_data.specs.declared.data.DataFault.TheVariants.{J1, J2, J3, J4, OutOfMemory}
-use Rattle.vlog_tree.specs.declared.fault.VFault.TheVariants as verilog_fault
-use Rattle.command_source.specs.Meaning.{refusal_of}
-use Rattle.command_source.specs.Outside.{Outside}
-use Rattle.command_source.specs.Refusal.{Refusal, Memory, IsFixed}
-use Rattle.command_source.specs.Refusal as spec
-use Rattle.command_source.specs.Status.{status_of}
-use Rattle.command_source.specs.Told.{IsToldAs}
-use Rattle.command_source.specs.declared.refusal.Refusal.{Refusal as CodeRefusal}
-use Rattle.command_source.specs.declared.refusal.Refusal.TheVariants as code
-use Rattle.command_source.specs.declared.refusal.DumpFault.TheVariants as dump_fault
-use Rattle.command_source.specs.declared.status.Status.{Status}
-use Rattle.command_source.specs.declared.status.Status.TheVariants as status
-use Rattle.tapa_drive.specs.Answer.{HasCause, HasPartOf, Leaves, IsAnswer}
-use Rattle.tapa_drive.specs.Carried.{IsCarriedOut}
+-- From how a command was carried out and told to what the program answers.
+use Rattle.std.proofs.Common.{◌≡◌, ◌≢◌, ◌⊎◌, ℕ, List, [], Option, Some, refl, sym, subst, ◌∙◌, inl, inr}
+use Rattle.std.proofs.lemmas.List.{append-nil}
+use Rattle.tapa_words.specs.Words.{Command, Asks, AskNothing}
+use Rattle.tapa_words.specs.Meaning.{IsRefusedBy, command}
+use Rattle.tapa_words.specs.declared.command.Command.{Command as CodeCommand}
+use Rattle.tapa_words.specs.declared.command.WordsFault.{WordsFault}
+use Rattle.tapa_words.specs.declared.command.WordsFault.TheVariants as fault
+use Rattle.command_answers.specs.Answer.{Answer}
+use Rattle.command_answers.specs.Ends.{End, Done, Refused, Unwritten, NoMemory, Usage, Ends, IsCarriedOut, ComesTo}
+use Rattle.command_answers.specs.Files.{Held}
+use Rattle.command_answers.specs.Outside.{Outside, Written}
+use Rattle.command_answers.specs.Refusal as why
+use Rattle.command_answers.specs.Refusal.{Refusal}
+use Rattle.command_answers.specs.Told.{IsToldAs, IsFixed, name_at, status_of}
+use Rattle.command_answers.specs.declared.file.File.{File}
+use Rattle.command_answers.specs.declared.status.Status.{Status}
+use Rattle.command_answers.specs.declared.status.Status.TheVariants.{Ok, Write}
+use Rattle.tapa_drive.specs.Answer.{IsReported, IsAnswer, words_end}
+use Rattle.tapa_drive.specs.Means.{held_of, Means}
 
--- no refusal has the status of done work
-never : (why : Refusal) → status_of why ≢ status.Ok
-never spec.Usage e = cc
-never (spec.Read file) e = cc
-never spec.Write e = cc
-never (spec.TooLong file most) e = cc
-never (spec.Source file place rule) e = cc
-never (spec.Data file fault) e = cc
-never (spec.Ticks most) e = cc
-never (spec.Stopped lines) e = cc
-never (spec.Device file fault) e = cc
-never (spec.TooManyPlans slots free) e = cc
-never spec.NoPlan e = cc
-never (spec.NoRoom label) e = cc
-never (spec.NoHalving level) e = cc
-never (spec.Verilog file fault) e = cc
-never (spec.DesignData file fault) e = cc
-never (spec.Undone most) e = cc
-never (spec.Dump file fault) e = cc
-never spec.Memory e = cc
+-- a command was carried out, and so the same one was by its parts
+pub carried_as : (c d : CodeCommand) (before after : Outside) (end : End) → c ≡ d → IsCarriedOut (held_of (command d)) (Means (command d)) before after end → IsCarriedOut (held_of (command c)) (Means (command c)) before after end
+carried_as c d before after end e h = subst (λ (x : CodeCommand). IsCarriedOut (held_of (command x)) (Means (command x)) before after end) (sym e) h
 
-module _ (words : List (List ℕ)) (before after : Outside) where
-  pub done : {A : Type 0} (x : A) → IsCarriedOut {A = A} words before after (Ok x) → IsAnswer words before after status.Ok
-  done x h = record { ok = λ e. h.done; told = λ n. absurd (n refl); reads = h.reads }
+write_is_not_ok : Write ≢ Ok
+write_is_not_ok e = cc
 
-  module _ (result : Status) where
-    abbrev IsTold : Refusal → Type 0
-    IsTold why = IsToldAs why result before.err after.err
+-- an end that is not done work is not told by the status of done work
+not_ok : (name : List ℕ) (end : End) (s : Status) (old new : Written) → status_of end ≢ Ok → IsToldAs name end s old new → s ≢ Ok
+not_ok name end s old new other (inl t) e = other (sym t.0 ∙ e)
+not_ok name end s old new other (inr t) e = write_is_not_ok (sym t.0 ∙ e)
 
-    abbrev Says : Type 0
-    Says = (why : Refusal) × IsTold why × HasCause words before after why × Leaves words before after why
+memory_is_not_ok : status_of NoMemory ≢ Ok
+memory_is_not_ok e = cc
 
-    -- a refusal is told, or want of memory in its place
-    either : (why : Refusal) → HasCause words before after why → Leaves words before after why → HasPartOf words before after → IsTold why ⊎ IsTold Memory → Says
-    either why cause leaves part t = elim t [ inl a ↦ (why, a, cause, leaves) | inr a ↦ (Memory, a, tt, part) ]
+usage_is_not_ok : status_of Usage ≢ Ok
+usage_is_not_ok e = cc
 
-    says : (r : CodeRefusal) → IsTold (refusal_of r) ⊎ IsTold Memory → (IsFixed (refusal_of r) → IsTold (refusal_of r)) → HasCause words before after (refusal_of r) → Leaves words before after (refusal_of r) → Says
-    says code.Usage t f cause leaves = either (refusal_of code.Usage) cause leaves (inl leaves) t
-    says (code.Read file) t f cause leaves = either (refusal_of (code.Read file)) cause leaves (inl leaves) t
-    says code.Write t f cause leaves = either (refusal_of code.Write) cause leaves (inr leaves) t
-    says (code.TooLong file most) t f cause leaves = either (refusal_of (code.TooLong file most)) cause leaves (inl leaves) t
-    says (code.Source file place rule) t f cause leaves = either (refusal_of (code.Source file place rule)) cause leaves (inl leaves) t
-    says (code.Data file J1) t f cause leaves = either (refusal_of (code.Data file J1)) cause leaves (inl leaves) t
-    says (code.Data file (J2 key)) t f cause leaves = either (refusal_of (code.Data file (J2 key))) cause leaves (inl leaves) t
-    says (code.Data file (J3 key)) t f cause leaves = either (refusal_of (code.Data file (J3 key))) cause leaves (inl leaves) t
-    says (code.Data file (J4 key)) t f cause leaves = either (refusal_of (code.Data file (J4 key))) cause leaves (inl leaves) t
-    says (code.Data file OutOfMemory) t f cause leaves = either (refusal_of (code.Data file OutOfMemory)) cause leaves leaves t
-    says (code.Ticks most) t f cause leaves = either (refusal_of (code.Ticks most)) cause leaves (inl leaves) t
-    says (code.Stopped lines) t f cause leaves = (refusal_of (code.Stopped lines), f tt, cause, leaves)
-    says (code.Device file device_fault.J1) t f cause leaves = either (refusal_of (code.Device file device_fault.J1)) cause leaves (inl leaves) t
-    says (code.Device file (device_fault.J2 key)) t f cause leaves = either (refusal_of (code.Device file (device_fault.J2 key))) cause leaves (inl leaves) t
-    says (code.Device file (device_fault.J3 key)) t f cause leaves = either (refusal_of (code.Device file (device_fault.J3 key))) cause leaves (inl leaves) t
-    says (code.Device file (device_fault.K1 key)) t f cause leaves = either (refusal_of (code.Device file (device_fault.K1 key))) cause leaves (inl leaves) t
-    says (code.Device file (device_fault.K2 name)) t f cause leaves = either (refusal_of (code.Device file (device_fault.K2 name))) cause leaves (inl leaves) t
-    says (code.Device file (device_fault.K3 label)) t f cause leaves = either (refusal_of (code.Device file (device_fault.K3 label))) cause leaves (inl leaves) t
-    says (code.Device file (device_fault.K4 label)) t f cause leaves = either (refusal_of (code.Device file (device_fault.K4 label))) cause leaves (inl leaves) t
-    says (code.Device file device_fault.OutOfMemory) t f cause leaves = either (refusal_of (code.Device file device_fault.OutOfMemory)) cause leaves leaves t
-    says (code.TooManyPlans slots free) t f cause leaves = either (refusal_of (code.TooManyPlans slots free)) cause leaves (inl leaves) t
-    says code.NoPlan t f cause leaves = either (refusal_of code.NoPlan) cause leaves (inl leaves) t
-    says (code.NoRoom label) t f cause leaves = either (refusal_of (code.NoRoom label)) cause leaves (inl leaves) t
-    says (code.NoHalving level) t f cause leaves = either (refusal_of (code.NoHalving level)) cause leaves (inl leaves) t
-    says (code.Verilog file (verilog_fault.V1 place)) t f cause leaves = either (refusal_of (code.Verilog file (verilog_fault.V1 place))) cause leaves (inl leaves) t
-    says (code.Verilog file (verilog_fault.V2 name)) t f cause leaves = either (refusal_of (code.Verilog file (verilog_fault.V2 name))) cause leaves (inl leaves) t
-    says (code.Verilog file (verilog_fault.V3 name)) t f cause leaves = either (refusal_of (code.Verilog file (verilog_fault.V3 name))) cause leaves (inl leaves) t
-    says (code.Verilog file (verilog_fault.V4 name)) t f cause leaves = either (refusal_of (code.Verilog file (verilog_fault.V4 name))) cause leaves (inl leaves) t
-    says (code.Verilog file (verilog_fault.V5 name)) t f cause leaves = either (refusal_of (code.Verilog file (verilog_fault.V5 name))) cause leaves (inl leaves) t
-    says (code.Verilog file (verilog_fault.V6 name)) t f cause leaves = either (refusal_of (code.Verilog file (verilog_fault.V6 name))) cause leaves (inl leaves) t
-    says (code.Verilog file verilog_fault.OutOfMemory) t f cause leaves = either (refusal_of (code.Verilog file verilog_fault.OutOfMemory)) cause leaves leaves t
-    says (code.DesignData file J1) t f cause leaves = either (refusal_of (code.DesignData file J1)) cause leaves (inl leaves) t
-    says (code.DesignData file (J2 key)) t f cause leaves = either (refusal_of (code.DesignData file (J2 key))) cause leaves (inl leaves) t
-    says (code.DesignData file (J3 key)) t f cause leaves = either (refusal_of (code.DesignData file (J3 key))) cause leaves (inl leaves) t
-    says (code.DesignData file (J4 key)) t f cause leaves = either (refusal_of (code.DesignData file (J4 key))) cause leaves (inl leaves) t
-    says (code.DesignData file OutOfMemory) t f cause leaves = either (refusal_of (code.DesignData file OutOfMemory)) cause leaves leaves t
-    says (code.Undone most) t f cause leaves = either (refusal_of (code.Undone most)) cause leaves (inr leaves) t
-    says (code.Dump file (dump_fault.NoDump place)) t f cause leaves = either (refusal_of (code.Dump file (dump_fault.NoDump place))) cause leaves (inl leaves) t
-    says (code.Dump file (dump_fault.NoNet name)) t f cause leaves = either (refusal_of (code.Dump file (dump_fault.NoNet name))) cause leaves (inl leaves) t
-    says code.Memory t f cause leaves = either (refusal_of code.Memory) cause leaves leaves t
+pub refused_is_not_ok : (name : List ℕ) (end : End) (s : Status) (old new : Written) → status_of end ≢ Ok → IsToldAs name end s old new ⊎ IsToldAs [] NoMemory s old new → s ≢ Ok
+refused_is_not_ok name end s old new other (inl t) e = not_ok name end s old new other t e
+refused_is_not_ok name end s old new other (inr t) e = not_ok [] NoMemory s old new memory_is_not_ok t e
 
-    not_ok : (why : Refusal) → IsTold why → result ≢ status.Ok
-    not_ok why t e = elim t [ inl a ↦ never why (sym a.0 ∙ e) | inr a ↦ absurd (let both : status.Write ≡ status.Ok = sym a.0 ∙ e in cc) ]
+pub words_are_not_ok : (f : WordsFault) (s : Status) (old new : Written) → IsToldAs [] (words_end f) s old new → s ≢ Ok
+words_are_not_ok fault.Usage s old new t e = not_ok [] Usage s old new usage_is_not_ok t e
+words_are_not_ok fault.OutOfMemory s old new t e = not_ok [] NoMemory s old new memory_is_not_ok t e
 
-    pub refused : {A : Type 0} (r : CodeRefusal) → IsCarriedOut {A = A} words before after (Err r) → IsTold (refusal_of r) ⊎ IsTold Memory → (IsFixed (refusal_of r) → IsTold (refusal_of r)) → IsAnswer words before after result
-    refused r h t f =
-        let all = says r t f h.cause h.leaves in
-        record { ok = λ e. absurd (not_ok all.0 all.1 e); told = λ n. all; reads = h.reads }
+module _ (words : List (List ℕ)) (before after : Outside) (errors told : Written) (result : Status) where
+  -- the words could not be read
+  pub refused_words : (f : WordsFault) → IsRefusedBy words f → after ≡ before → IsToldAs [] (words_end f) result errors told → IsAnswer words before after errors told result
+  refused_words fault.Usage none same t = record { says = inr (same, inl (none, t)) }
+  refused_words fault.OutOfMemory none same t = record { says = inr (same, inr t) }
+
+  module _ (c : Command) (asked : Asks words c) where
+    -- the work is done
+    pub answered_done : IsCarriedOut (held_of c) (Means c) before after Done → result ≡ Ok → told ≡ errors → IsAnswer words before after errors told result
+    answered_done carried ok none = record { says = inl (c, asked, (Done, carried, (ok, none))) }
+
+    abbrev Name : End → List ℕ
+    Name end = name_at (held_of c) end
+
+    no_memory : (end : End) → end ≢ Unwritten → IsCarriedOut (held_of c) (Means c) before after end → end ≢ Done → Ends (ComesTo (held_of c) (Means c) before.store after.store) before.out after.out NoMemory
+    no_memory (Refused w) apart carried other = elim carried.ends [
+      | inl (text, comes, a) ↦ inr (text, Some w, comes, (text, [], sym (append-nil text), a))
+      | inr (comes, same) ↦ inl same
+    ]
+    no_memory NoMemory apart carried other = carried.ends
+    no_memory Unwritten apart carried other = absurd (apart refl)
+    no_memory Done apart carried other = absurd (other refl)
+    no_memory Usage apart carried other = absurd carried.ends
+
+    told_so : (end : End) → end ≢ Done → IsCarriedOut (held_of c) (Means c) before after end → IsToldAs (Name end) end result errors told → IsAnswer words before after errors told result
+    told_so (Refused w) other carried t = record { says = inl (c, asked, (Refused w, carried, t)) }
+    told_so Unwritten other carried t = record { says = inl (c, asked, (Unwritten, carried, t)) }
+    told_so NoMemory other carried t = record { says = inl (c, asked, (NoMemory, carried, t)) }
+    told_so Done other carried t = absurd (other refl)
+    told_so Usage other carried t = absurd carried.ends
+
+    told_less : (end : End) → end ≢ Done → end ≢ Unwritten → IsCarriedOut (held_of c) (Means c) before after end → IsToldAs [] NoMemory result errors told → IsAnswer words before after errors told result
+    told_less end other apart carried t =
+        record { says = inl (c, asked, (NoMemory, record { ends = no_memory end apart carried other; reads = carried.reads }, t)) }
+
+    -- the work is refused
+    pub answered_refused : (end : End) → end ≢ Done → IsCarriedOut (held_of c) (Means c) before after end → IsToldAs (Name end) end result errors told ⊎ IsToldAs [] NoMemory result errors told
+        → (IsFixed end → IsToldAs (Name end) end result errors told) → IsAnswer words before after errors told result
+    answered_refused end other carried (inl t) fixed = told_so end other carried t
+    answered_refused Unwritten other carried (inr t) fixed = told_so Unwritten other carried (fixed tt)
+    answered_refused (Refused w) other carried (inr t) fixed = told_less (Refused w) other (λ e. absurd cc) carried t
+    answered_refused NoMemory other carried (inr t) fixed = told_less NoMemory other (λ e. absurd cc) carried t
+    answered_refused Done other carried (inr t) fixed = absurd (other refl)
+    answered_refused Usage other carried (inr t) fixed = absurd carried.ends

@@ -8,3 +8,4 @@ pub mod Uppers
 pub mod Tasks
 pub mod Parts
 pub mod Programs
+pub mod Writers

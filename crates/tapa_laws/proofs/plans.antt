@@ -6,3 +6,5 @@ pub mod Over
 pub mod Building
 pub mod Planning
 pub mod OnePlan
+pub mod OneFirstFit
+pub mod OnePlanOf

@@ -8,3 +8,4 @@ pub mod Words
 pub mod Invokes
 pub mod FormFits
 pub mod Copied
+pub mod KeptLines

@@ -1,3 +1,4 @@
 pub mod OneGraph
 pub mod OneDevice
 pub mod OnePlan
+pub mod OnePlanOf

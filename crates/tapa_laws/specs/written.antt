@@ -1,1 +1,2 @@
 pub mod WrittenLexemes
+pub mod Lines

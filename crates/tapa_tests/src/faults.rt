@@ -75,7 +75,6 @@ fn reports_are_cut_at_lines(rt: HostRuntime) -> Result<(), Fail> {
     let alloc = rt.alloc();
     let words = ["run", "r.cpp", "VecAdd", "d.json"];
     let report = VECADD_REPORT.as_bytes();
-    let mut shown = 0;
     for call in 0..7u64 {
         let failed = said_with(
             &rt,
@@ -90,10 +89,9 @@ fn reports_are_cut_at_lines(rt: HostRuntime) -> Result<(), Fail> {
         assert_eq!(rt; failed.status, Status::Write);
         let held = failed.out.bytes();
         assert!(rt; report.starts_with(held));
-        assert!(rt; held.is_empty() == (call == 0));
-        assert!(rt; call == 0 || held.len() > shown);
+        assert_eq!(rt; lines(held), call);
         assert!(rt; call == 0 || held.ends_with(b"\n"));
-        shown = held.len();
+        assert_eq!(rt; failed.err.bytes(), b"tapa: cannot write\n".as_slice());
     }
     Ok(())
 }
@@ -270,10 +268,15 @@ const DONE_AT_ONCE: &str =
     "module t_X ( input clk , input rst , output done ) ; assign done = 1'd1 ; endmodule";
 
 // The commands that read files, each with its files.
-fn reading() -> [Asked; 5] {
+fn reading() -> [Asked; 6] {
     [
         Asked {
             words: &["run", "r.cpp", "VecAdd", "d.json"],
+            source: VECADD,
+            given: VECADD_DATA,
+        },
+        Asked {
+            words: &["run", "r.cpp", "VecAdd", "d.json", "--workers", "2"],
             source: VECADD,
             given: VECADD_DATA,
         },

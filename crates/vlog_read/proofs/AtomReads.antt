@@ -1,6 +1,7 @@
 -- Words of atoms.
 use Rattle.std.proofs.Common.{◌≡◌, ◌⊎◌, inl, inr, ℕ, ◌≤◌, Bool, true, false, cond, nat_le, List, [], ◌∷◌, ◌++◌, length, codes, Option, Some, None, bytes_eq, refl, sym, ap, subst, ◌∙◌, arith}
 use Rattle.std.proofs.lemmas.Bool.Decides.{nat_tests}
+use Rattle.std.proofs.lemmas.Bool.{le-leb}
 use Rattle.vlog_tree.specs.declared.tree.Atom.{Atom}
 use Rattle.vlog_tree.specs.declared.tree.Atom.TheVariants.{Net, Part as PartSelect, Literal}
 use Rattle.vlog_tree.specs.declared.tree.BinaryOp.{BinaryOp}
@@ -146,9 +147,6 @@ module _ (cs : List ModuleTree) where
   le_of : (a b : ℕ) → nat_le a b ≡ true → a ≤ b
   le_of a b h = grind (arith, nat_tests)
 
-  of_le : (a b : ℕ) → a ≤ b → nat_le a b ≡ true
-  of_le a b h = grind (arith, nat_tests)
-
   abbrev Joins : ModuleDraft → Word → List Atom → Left
   Joins d y atoms i = Words (codes "," ∷ []) (AnAtom cs d (Joined y atoms)) i ⊎ ((nat_le 2 (length atoms) ≡ true) × ItemBehind cs (codes "}" ∷ codes ";" ∷ []) d (Assign y (Concat atoms)) i)
 
@@ -162,7 +160,7 @@ module _ (cs : List ModuleTree) where
       there i (inr (two, rest)) = ([], i, refl, le_of 2 (length atoms) two, rest)
 
       back : (i : List Word) → MoreAtoms cs d y atoms i → Joins d y atoms i
-      back i ([], j, e, two, (k, close, rest)) = inr (of_le 2 (length atoms) two, (k, e ∙ close, rest))
+      back i ([], j, e, two, (k, close, rest)) = inr (le-leb 2 (length atoms) two, (k, e ∙ close, rest))
       back i (a ∷ more, j, (x, (t, comma, atom), each), two, rest) = inl (t, comma, inl (a, x, atom, (more, j, each, two, rest)))
 
   pub atom_end_read : (d : ModuleDraft) (p : Purpose) (a : Atom) → IsRead cs (atom_end d p a) ⊥ (AtomBehind cs d p a)

@@ -1,8 +1,10 @@
 -- The modules with which a reader may end have the form of modules.
-use Rattle.std.proofs.Common.{◌≡◌, ℕ, zero, suc, ◌≤◌, min, Bool, true, false, ◌&&◌, if◌then◌else◌, List, [], ◌∷◌, ◌++◌, length, map, codes, refl, sym, ap, subst, ◌∙◌, arith}
+use Rattle.std.proofs.Common.{◌≡◌, ℕ, zero, suc, ◌≤◌, min, Bool, true, false, ◌&&◌, if◌then◌else◌, List, [], ◌∷◌, ◌++◌, map, codes, refl, sym, ap, subst, ◌∙◌, arith}
 use Rattle.std.specs.Prelude.{◌^◌, nat_le, nat_lt}
 use Rattle.std.specs.List.{list_all, AllByRecursion}
-use Rattle.std.proofs.lemmas.Bool.Decides.{nat_tests}
+use Rattle.std.proofs.lemmas.Bool.{le-leb}
+use Rattle.std.proofs.lemmas.List.{length-map}
+use Rattle.vlog_tree.proofs.Clamped.{and_same}
 use Rattle.vlog_tree.specs.declared.tree.Atom.{Atom}
 use Rattle.vlog_tree.specs.declared.tree.Atom.TheVariants.{Net, Part, Literal}
 use Rattle.vlog_tree.specs.declared.tree.Value.{Value}
@@ -33,23 +35,13 @@ use Rattle.vlog_read.proofs.Behind.{IsBehind, design_of}
 
 -- ---- cutting numbers leaves the form
 
-of_le : (a b : ℕ) → a ≤ b → nat_le a b ≡ true
-of_le a b h = grind (arith, nat_tests)
-
 one_same : (w most : ℕ) → 1 ≤ most → nat_le 1 (min w most) ≡ nat_le 1 w
 one_same zero most h = let e : min 0 most ≡ 0 = omega arith in ap (nat_le 1) e
-one_same (suc w) most h = of_le 1 (min (suc w) most) (omega arith) ∙ sym (of_le 1 (suc w) (omega arith))
-
-and_same : {a b c d : Bool} → a ≡ c → b ≡ d → (a && b) ≡ (c && d)
-and_same {a} {b} {c} {d} e f = ap (λ x. x && b) e ∙ ap (λ y. c && y) f
+one_same (suc w) most h = le-leb 1 (min (suc w) most) (omega arith) ∙ sym (le-leb 1 (suc w) (omega arith))
 
 all_same : {A : Type 0} (f : A → A) (P : A → Bool) → ((x : A) → P (f x) ≡ P x) → (xs : List A) → list_all P (map f xs) ≡ list_all P xs
 all_same f P h [] = refl
 all_same f P h (x ∷ xs) = and_same (h x) (all_same f P h xs)
-
-length_same : {A : Type 0} (f : A → A) (xs : List A) → length (map f xs) ≡ length xs
-length_same f [] = refl
-length_same f (x ∷ xs) = ap suc (length_same f xs)
 
 literal_formed : (b : Bool) (x y : Atom) → is_atom x ≡ true → is_atom y ≡ true → is_atom (if b then x else y) ≡ true
 literal_formed true x y h k = h
@@ -65,7 +57,7 @@ value_same (Plain a) = atom_same a
 value_same (Invert a) = atom_same a
 value_same (Binary a op b) = and_same (atom_same a) (atom_same b)
 value_same (Choose c a b) = and_same (and_same (atom_same c) (atom_same a)) (atom_same b)
-value_same (Concat atoms) = and_same (ap (nat_le 2) (length_same clamped_atom atoms)) (all_same clamped_atom is_atom atom_same atoms)
+value_same (Concat atoms) = and_same (ap (nat_le 2) (length-map atoms clamped_atom)) (all_same clamped_atom is_atom atom_same atoms)
 value_same (Repeat n a) = atom_same a
 value_same (Cell m x) = refl
 
@@ -101,7 +93,7 @@ port_same p = ap (λ b. b && is_name p.name) (one_same p.width 129 (omega arith)
 
 module_same : (m : ModuleTree) → is_module (clamped m) ≡ is_module m
 module_same m =
-    and_same (and_same (ap (λ n. is_name m.name && nat_le 1 n) (length_same clamped_port m.ports)) (all_same clamped_port is_port port_same m.ports)) (all_same clamped_item is_item item_same m.items)
+    and_same (and_same (ap (λ n. is_name m.name && nat_le 1 n) (length-map m.ports clamped_port)) (all_same clamped_port is_port port_same m.ports)) (all_same clamped_item is_item item_same m.items)
 
 clamped_formed : (m : ModuleTree) → IsModule m → IsModule (clamped m)
 unfolding IsModule

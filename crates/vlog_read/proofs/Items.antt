@@ -1,5 +1,6 @@
 -- Keywords that begin items, and names.
-use Rattle.std.proofs.Common.{◌≡◌, Bool, true, false, ◌||◌, bytes_eq, codes, None, refl, sym, ap, ◌∙◌}
+use Rattle.std.proofs.Common.{◌≡◌, Bool, true, false, bytes_eq, codes, None, refl, sym, ap, ◌∙◌}
+use Rattle.std.proofs.lemmas.Bool.{or_parts}
 use Rattle.vlog_tree.specs.Names.{is_name}
 use Rattle.vlog_tree.specs.Spelling.{Word}
 use Rattle.vlog_lex.proofs.OneBlock.{NoName, keywords}
@@ -31,10 +32,6 @@ begins_no_name w begins = by_test (is_name w) refl
     by_test : (t : Bool) → is_name w ≡ t → is_name w ≡ false
     by_test true e = absurd (let f : true ≡ false = sym begins ∙ name_begins_none w e in cc)
     by_test false e = e
-
-or_parts : (a b : Bool) → (a || b) ≡ false → (a ≡ false) × (b ≡ false)
-or_parts false b h = (refl, h)
-or_parts true b h = cc
 
 pub no_item : (d : ModuleDraft) (w : Word) → begins_item w ≡ false → item_word d w ≡ None
 no_item d w h =

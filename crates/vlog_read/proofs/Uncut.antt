@@ -2,7 +2,7 @@
 use Rattle.std.proofs.Common.{◌≡◌, ℕ, zero, suc, ◌+◌, ◌-◌, ◌*◌, ◌^◌, ◌≤◌, min, inl, inr, Bool, true, false, cond, ◌&&◌, List, [], ◌∷◌, Option, Some, None, refl, sym, ap, ◌∙◌, arith, map}
 use Rattle.std.specs.Prelude.{nat_le, nat_lt, ◌==◌, sum, not}
 use Rattle.std.specs.List.{list_all, flat_map}
-use Rattle.std.proofs.lemmas.Bool.{and_parts, eqb-true, lt-ltb, ltb-true}
+use Rattle.std.proofs.lemmas.Bool.{and_parts, eqb-true, lt-ltb, ltb-true, not-false}
 use Rattle.std.proofs.lemmas.Bool.Decides.{nat_tests}
 use Rattle.std.proofs.Math.Nat.{pow-le-pow_right}
 use Rattle.vlog_tree.specs.declared.tree.Atom.{Atom}
@@ -24,10 +24,6 @@ use Rattle.vlog_tree.specs.V3.{is_width, is_cell_count, net_fits, memory_fits, a
 use Rattle.vlog_tree.specs.Clamped.{clamped_atom, clamped_value, clamped_step, clamped_item, clamped_port, clamped}
 use Rattle.vlog_tree.proofs.Clamped.{width_is, cells_is, width_low}
 use Rattle.tapa_base.proofs.Lists.{has_left, has_right, has_flat}
-
-not_not : (a : Bool) → not a ≡ false → a ≡ true
-not_not true h = refl
-not_not false h = cc
 
 right_here : (b : Bool) (x : Name) (o : Option Name) → cond b (Some x) o ≡ None → b ≡ false
 right_here true x o h = cc
@@ -143,28 +139,28 @@ module _ (ds : List Declaration) where
   step_is End h = refl
   step_is (NonblockingAssign x a) h =
       let all = net_fits ds x && has_bits ds (bits_of ds x) a in
-      ap (λ b. NonblockingAssign x b) (bits_is (bits_of ds x) a (and_parts (net_fits ds x) (has_bits ds (bits_of ds x) a) (not_not all (h (x, not all) (inl refl)))).1)
+      ap (λ b. NonblockingAssign x b) (bits_is (bits_of ds x) a (and_parts (net_fits ds x) (has_bits ds (bits_of ds x) a) (not-false all (h (x, not all) (inl refl)))).1)
   step_is (MemoryAssign m x a) h =
       let all = memory_fits ds m && net_fits ds x && has_bits ds (bits_of ds m) a in
-      ap (λ b. MemoryAssign m x b) (bits_is (bits_of ds m) a (and_parts (memory_fits ds m && net_fits ds x) (has_bits ds (bits_of ds m) a) (not_not all (h (m, not all) (inl refl)))).1)
+      ap (λ b. MemoryAssign m x b) (bits_is (bits_of ds m) a (and_parts (memory_fits ds m && net_fits ds x) (has_bits ds (bits_of ds m) a) (not-false all (h (m, not all) (inl refl)))).1)
 
   item_is : (ms : List ModuleTree) (x : Item) → AreRight (item_widths ms ds x) → clamped_item x ≡ x
   unfolding item_widths
-  item_is ms (Wire w x) h = ap (λ n. Wire n x) (width_is w (not_not (is_width w) (h (x, not (is_width w)) (inl refl))))
-  item_is ms (Reg w x) h = ap (λ n. Reg n x) (width_is w (not_not (is_width w) (h (x, not (is_width w)) (inl refl))))
+  item_is ms (Wire w x) h = ap (λ n. Wire n x) (width_is w (not-false (is_width w) (h (x, not (is_width w)) (inl refl))))
+  item_is ms (Reg w x) h = ap (λ n. Reg n x) (width_is w (not-false (is_width w) (h (x, not (is_width w)) (inl refl))))
   item_is ms (Memory w x n) h =
-      let p = and_parts (is_width w) (is_cell_count n) (not_not (is_width w && is_cell_count n) (h (x, not (is_width w && is_cell_count n)) (inl refl))) in
+      let p = and_parts (is_width w) (is_cell_count n) (not-false (is_width w && is_cell_count n) (h (x, not (is_width w && is_cell_count n)) (inl refl))) in
       ap (λ k. Memory k x (min n 1048577)) (width_is w p.0) ∙ ap (λ k. Memory w x k) (cells_is n p.1)
   item_is ms (Assign x v) h =
       let all = net_fits ds x && value_fits ds (bits_of ds x) v in
-      let p = and_parts (net_fits ds x) (value_fits ds (bits_of ds x) v) (not_not all (h (x, not all) (inl refl))) in
+      let p = and_parts (net_fits ds x) (value_fits ds (bits_of ds x) v) (not-false all (h (x, not all) (inl refl))) in
       ap (λ e. Assign x e) (value_is (bits_of ds x) (width_low (bits_of ds x) p.0) v p.1)
   item_is ms (Always b) h = ap Always (map_is clamped_step b (λ s has. step_is s (λ u k. h u (has_flat (step_widths ds) b s u has k))))
   item_is ms (Instance m i connections) h = refl
 
 port_is : (p : PortDecl) → ((u : NameUse) → Has (port_widths p) u → u.1 ≡ false) → clamped_port p ≡ p
 unfolding port_widths
-port_is p h = let e = width_is p.width (not_not (is_width p.width) (h (p.name, not (is_width p.width)) (inl refl))) in λ i. record { direction = p.direction; width = e i; name = p.name }
+port_is p h = let e = width_is p.width (not-false (is_width p.width) (h (p.name, not (is_width p.width)) (inl refl))) in λ i. record { direction = p.direction; width = e i; name = p.name }
 
 module_is : (ms : List ModuleTree) (m : ModuleTree) → ((u : NameUse) → Has (module_widths ms m) u → u.1 ≡ false) → clamped m ≡ m
 unfolding module_widths

@@ -1,5 +1,5 @@
 -- The first word that no design goes on with.
-use Rattle.std.specs.Prelude.{◌≡◌, ℕ, ◌+◌, ◌<◌, ◌≤◌, List, ◌++◌, length, take}
+use Rattle.std.specs.Prelude.{◌≡◌, ℕ, ◌+◌, ◌<◌, ◌≤◌, List, ◌++◌, length, take, ⊤}
 use Rattle.vlog_tree.specs.Form.{ModuleTree}
 use Rattle.vlog_tree.specs.Spelling.{Word}
 use Rattle.vlog_lex.specs.Grammar.{SpellsDesign}
@@ -19,4 +19,4 @@ pub record IsFirstRefused (words : List Word) (passed : ℕ) : Type 0 where
 
 abbrev pub Refuses : List Word → ParseFault → Type 0
 Refuses words (Refused passed) = IsFirstRefused words passed
-Refuses words OutOfMemory = Unit {0}
+Refuses words OutOfMemory = ⊤

@@ -1,5 +1,5 @@
 -- Which texts are refused, and where.
-use Rattle.std.specs.Prelude.{◌≡◌, ◌⊎◌, ℕ, List, [], ◌∷◌, ◌++◌, Option, Some, None, slice_get}
+use Rattle.std.specs.Prelude.{◌≡◌, ◌⊎◌, ℕ, List, [], ◌∷◌, ◌++◌, Option, Some, None, slice_get, ⊤}
 use Rattle.tapa_base.specs.declared.text.Place.{Place}
 use Rattle.tapa_syntax.specs.Characters.{place_of}
 use Rattle.vlog_tree.specs.declared.fault.VFault.{VFault}
@@ -47,7 +47,7 @@ RefusesText text (V3 x) = RefusesTree text (V3 x)
 RefusesText text (V4 x) = RefusesTree text (V4 x)
 RefusesText text (V5 x) = RefusesTree text (V5 x)
 RefusesText text (V6 x) = RefusesTree text (V6 x)
-RefusesText text OutOfMemory = Unit {0}
+RefusesText text OutOfMemory = ⊤
 
 -- the number of bytes before a word, and before the end where there is no word
 abbrev pub from_of : Option Lexeme → ℕ → ℕ

@@ -10,7 +10,7 @@ use tapa_base::Text;
 use vlog_lex::{Coming, Listed, Parts, is_name_word, name_of};
 use vlog_tree::{Block, Item, Step};
 
-/// The end of a part: after it an `else` may come, unless it is one.
+/// Ends a part of a block. After the part an `else` may come, unless the part is one.
 fn part_ended(
     alloc: Global,
     draft: Held<ModuleDraft>,
@@ -29,7 +29,7 @@ fn part_ended(
     }
 }
 
-/// An `end`: of the innermost part that is open, or of the block where none is.
+/// Reads an `end`: of the innermost part that is open, or of the block if no part is.
 fn ended(alloc: Global, draft: Held<ModuleDraft>, steps: Held<Steps>) -> Result<Reader, AllocError>
     ensures { IfOk result (λ r. r ≡ spec.ended draft steps) }
 {
@@ -43,7 +43,7 @@ fn ended(alloc: Global, draft: Held<ModuleDraft>, steps: Held<Steps>) -> Result<
     }
 }
 
-/// Where a step may come, or the end of a part.
+/// Reads the word at which a step may begin, or a part may end.
 pub fn step_start(
     alloc: Global,
     draft: Held<ModuleDraft>,
@@ -67,7 +67,7 @@ pub fn step_start(
     }
 }
 
-/// After the end of the part of an `if`: its `else`, or what comes after the `if`.
+/// Reads the word after the part of an `if`: its `else`, or the word after the `if`.
 pub fn after_end(
     alloc: Global,
     draft: Held<ModuleDraft>,
@@ -83,7 +83,7 @@ pub fn after_end(
     step_start(alloc, draft, steps.with_step(Step::End)?, word)
 }
 
-/// The name that an `if` tests (IEEE 1364-2005, 9.4).
+/// Reads the name that an `if` tests (IEEE 1364-2005, 9.4).
 pub fn if_name(
     alloc: Global,
     draft: Held<ModuleDraft>,
@@ -100,7 +100,7 @@ pub fn if_name(
     Ok(Some(Reader::block(Coming::ParenBegin, BlockState::StepStart(draft, steps))))
 }
 
-/// Behind the name of what a step assigns: a register, or a memory.
+/// Reads the word after the name that a step assigns: that of a register, or of a memory.
 pub fn step_target(
     alloc: Global,
     draft: Held<ModuleDraft>,
@@ -120,7 +120,7 @@ pub fn step_target(
     }
 }
 
-/// The net that is the index of a memory.
+/// Reads the net that is the index of a memory.
 pub fn step_index(
     alloc: Global,
     draft: Held<ModuleDraft>,

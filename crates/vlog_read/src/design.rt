@@ -30,12 +30,12 @@ use std::alloc::{AllocError, Global};
 use vlog_lex::{Coming, Lexeme, Listed};
 use vlog_tree::Module;
 
-/// Why words are no design.
+/// The reason why words are not a design.
 #[derive(Drop)]
 pub enum ParseFault {
-    /// How many words come before the first that no design goes on with: all, where more would have to come.
+    /// The number of words before the first that no design continues with: all words, if they end too early.
     Refused(usize),
-    /// Memory is short. Nothing is said of the words.
+    /// Memory ran out. Nothing is said of the words.
     OutOfMemory,
 }
 
@@ -49,7 +49,7 @@ impl From<AllocError> for ParseFault {
     }
 }
 
-/// One word more between modules, or up to the items of one.
+/// Reads a word between modules, or up to the items of one.
 fn head_next(alloc: Global, state: HeadState, word: &[u8]) -> Result<Option<Reader>, AllocError>
     ensures { IfOk result (λ o. o ≡ spec.head_next state word.now) }
 {
@@ -66,7 +66,7 @@ fn head_next(alloc: Global, state: HeadState, word: &[u8]) -> Result<Option<Read
     }
 }
 
-/// One word more among items.
+/// Reads a word among items.
 fn item_next(alloc: Global, state: ItemState, word: &[u8]) -> Result<Option<Reader>, AllocError>
     requires { IsFormed (read.behind Coming.Nothing (State.Item state)) }
     ensures { IfOk result (λ o. o ≡ spec.item_next state word.now) }
@@ -84,7 +84,7 @@ fn item_next(alloc: Global, state: ItemState, word: &[u8]) -> Result<Option<Read
     }
 }
 
-/// One word more in an assignment, or in an atom.
+/// Reads a word in an assignment, or in an atom.
 fn value_word(alloc: Global, state: ValueState, word: &[u8]) -> Result<Option<Reader>, AllocError>
     ensures { IfOk result (λ o. o ≡ spec.value_word state word.now) }
 {
@@ -108,7 +108,7 @@ fn value_word(alloc: Global, state: ValueState, word: &[u8]) -> Result<Option<Re
     }
 }
 
-/// One word more in a block.
+/// Reads a word in a block.
 fn block_next(alloc: Global, state: BlockState, word: &[u8]) -> Result<Option<Reader>, AllocError>
     ensures { IfOk result (λ o. o ≡ spec.block_next state word.now) }
 {
@@ -125,7 +125,7 @@ fn block_next(alloc: Global, state: BlockState, word: &[u8]) -> Result<Option<Re
     }
 }
 
-/// One word more where it is chosen.
+/// Reads a word that chooses.
 fn state_next(alloc: Global, state: State, word: &[u8]) -> Result<Option<Reader>, AllocError>
     requires { IsFormed (read.behind Coming.Nothing state) }
     ensures { IfOk result (λ o. o ≡ spec.state_next state word.now) }
@@ -138,7 +138,7 @@ fn state_next(alloc: Global, state: State, word: &[u8]) -> Result<Option<Reader>
     }
 }
 
-/// One word more; none where no design goes on with it.
+/// Reads a word. Returns `None` if no design continues with the word.
 fn next(alloc: Global, reader: Reader, word: &[u8]) -> Result<Option<Reader>, AllocError>
     requires { IsFormed reader }
     ensures { IfOk result (λ o. o ≡ spec.next reader word.now) }
@@ -150,7 +150,7 @@ fn next(alloc: Global, reader: Reader, word: &[u8]) -> Result<Option<Reader>, Al
     state_next(alloc, state, word)
 }
 
-/// The modules between which a reader is, where there is one.
+/// Returns the modules if a reader is between modules, and there is at least one.
 fn whole_head(state: HeadState) -> Option<Listed<Module>>
     ensures { result ≡ spec.whole_head state }
 {
@@ -165,7 +165,7 @@ fn whole_head(state: HeadState) -> Option<Listed<Module>>
     }
 }
 
-/// The modules, where a design may end in a state.
+/// Returns the modules, if a design may end in a state.
 fn whole_state(state: State) -> Option<Listed<Module>>
     ensures { result ≡ spec.whole_state state }
 {
@@ -186,7 +186,7 @@ fn whole_state(state: State) -> Option<Listed<Module>>
     }
 }
 
-/// The modules, where a design may end.
+/// Returns the modules, if a design may end.
 fn whole(reader: Reader) -> Option<Listed<Module>>
     ensures { result ≡ spec.whole reader }
 {
@@ -198,7 +198,7 @@ fn whole(reader: Reader) -> Option<Listed<Module>>
     whole_state(state)
 }
 
-/// The modules after the last word, or `Refused(passed)` where the text ends too early.
+/// Returns the modules after the last word, or `Refused(passed)` if the text ends too early.
 fn told(reader: Reader, passed: usize) -> Result<Vec<Module>, ParseFault>
     ensures tree { IfOk result (λ modules. spec.whole reader ≡ Some modules.items) }
     ensures refused { IfErr result (λ e. (spec.whole reader ≡ None) × (e ≡ ParseFault.Refused passed)) }
@@ -209,7 +209,7 @@ fn told(reader: Reader, passed: usize) -> Result<Vec<Module>, ParseFault>
     }
 }
 
-/// The bytes of a word.
+/// Returns the bytes of a word.
 #[tactic(auto, unfolding(vlog_lex::specs::Scanned::word_of))]
 fn word_at(text: &[u8], lexeme: Lexeme) -> &[u8]
     ensures { result.now ≡ word_of text.now lexeme }
@@ -222,8 +222,8 @@ fn word_at(text: &[u8], lexeme: Lexeme) -> &[u8]
     }
 }
 
-/// The modules of the words of a text, with numbers cut where the rule on widths refuses all that are larger; or else how many
-/// words come before the first that no design goes on with. One pass, without recursion.
+/// Returns the modules of the words of a text, with numbers capped at a size that the rule on widths refuses. Returns the number of words
+/// before the first that no design continues with, if there is one. One pass, without recursion.
 pub fn parse(alloc: Global, text: &[u8], lexemes: &[Lexeme]) -> Result<Vec<Module>, ParseFault>
     ensures tree { IfOk result (λ modules. (ms : List ModuleTree) × SpellsDesign ms (words_at text.now lexemes.now) × (modules.items ≡ map clamped ms)) }
     ensures refused { IfErr result (λ e. Refuses (words_at text.now lexemes.now) e) }

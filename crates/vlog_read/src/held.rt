@@ -20,7 +20,7 @@ impl<T> Model for Held<T> {
 }
 
 impl<T> Held<T> {
-    /// The value alone.
+    /// Returns the value alone.
     pub fn into_inner(self) -> T
         ensures { result ≡ self }
     {
@@ -30,7 +30,7 @@ impl<T> Held<T> {
 }
 
 impl<T: Drop> Held<T> {
-    /// Holds a value. Want of memory is the only error.
+    /// Moves a value into memory of its own.
     pub fn new(alloc: Global, value: T) -> Result<Held<T>, AllocError>
         ensures { IfOk result (λ h. h ≡ value) }
     {

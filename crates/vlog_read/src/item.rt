@@ -14,7 +14,7 @@ use tapa_base::Text;
 use vlog_lex::{Coming, Listed, cells_behind, is_name_word, is_number, name_of};
 use vlog_tree::{Connection, Connections, Item};
 
-/// Whether a word is a keyword that begins an item, or ends the module.
+/// Checks whether a word is a keyword that begins an item, or ends the module.
 fn begins_item(word: &[u8]) -> bool
     ensures { result ≡ spec.begins_item word.now }
 {
@@ -25,7 +25,7 @@ fn begins_item(word: &[u8]) -> bool
         || word == b"endmodule".as_slice()
 }
 
-/// An item that a keyword begins, or the end of the module.
+/// Reads a keyword that begins an item, or ends the module.
 fn item_word(
     alloc: Global,
     draft: Held<ModuleDraft>,
@@ -59,7 +59,7 @@ fn item_word(
     }
 }
 
-/// Where an item may come, or the end of the module. Most words here are keywords, which are seen to be no names at once.
+/// Reads the word at which an item may begin, or the module may end. Most words here are keywords, which are tested first.
 #[tactic(auto, using(crate::proofs::Items::no_item))]
 pub fn item_start(
     alloc: Global,
@@ -79,7 +79,7 @@ pub fn item_start(
     Ok(None)
 }
 
-/// Behind the name of a register: its end, or the range that makes a memory of it.
+/// Reads the word after the name of a register: the end of the item, or the begin of the range that makes a memory of it.
 pub fn reg_next(
     draft: Held<ModuleDraft>,
     width: u32,
@@ -97,7 +97,7 @@ pub fn reg_next(
     }
 }
 
-/// The last cell of a memory.
+/// Reads the number of the last cell of a memory.
 pub fn cells_last(
     draft: Held<ModuleDraft>,
     width: u32,
@@ -114,7 +114,7 @@ pub fn cells_last(
     Ok(Some(Reader::item_behind(Coming::BracketSemicolon, draft, memory)?))
 }
 
-/// The name of an instance.
+/// Reads the name of an instance.
 pub fn instance_name(
     alloc: Global,
     draft: Held<ModuleDraft>,
@@ -136,7 +136,7 @@ pub fn instance_name(
     Ok(Some(Reader::item(Coming::ParenDot, ItemState::ConnectionPort(draft, joining))))
 }
 
-/// The port that is connected by its name (IEEE 1364-2005, 12.3.6).
+/// Reads the port that is connected by its name (IEEE 1364-2005, 12.3.6).
 pub fn connection_port(
     alloc: Global,
     draft: Held<ModuleDraft>,
@@ -155,7 +155,7 @@ pub fn connection_port(
     )))
 }
 
-/// The net that a port is connected to.
+/// Reads the net that a port is connected to.
 pub fn connection_net(
     alloc: Global,
     draft: Held<ModuleDraft>,
@@ -176,7 +176,7 @@ pub fn connection_net(
     )))
 }
 
-/// The instance that was read.
+/// Returns the reader after an instance.
 fn joined(joining: Held<Joining>) -> Item
     ensures { result ≡ read.joined joining }
 {
@@ -192,7 +192,7 @@ fn joined(joining: Held<Joining>) -> Item
     }
 }
 
-/// Behind a connection: one more, or the end of the instance.
+/// Reads the word after a connection: one more connection follows, or the instance ends.
 pub fn connection_next(
     draft: Held<ModuleDraft>,
     joining: Held<Joining>,

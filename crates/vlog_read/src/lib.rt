@@ -12,5 +12,5 @@ mod reading;
 mod state;
 mod value;
 
-pub use laws::{law_one_fault, law_one_place, law_printed};
+pub use laws::{law_one_fault, law_printed, law_v1_at_one_place};
 pub use reading::read;

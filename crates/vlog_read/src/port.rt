@@ -11,7 +11,7 @@ use tapa_base::Text;
 use vlog_lex::{Coming, Listed, is_name_word, is_number, name_of, width_behind};
 use vlog_tree::{Direction, Item, Module, PortDecl};
 
-/// Where a module may come.
+/// Reads the word at which a module may begin.
 pub fn between(modules: Listed<Module>, word: &[u8]) -> Option<Reader>
     ensures { result ≡ spec.between modules word.now }
 {
@@ -22,7 +22,7 @@ pub fn between(modules: Listed<Module>, word: &[u8]) -> Option<Reader>
     }
 }
 
-/// The name of a module.
+/// Reads the name of a module.
 pub fn module_name(
     alloc: Global,
     modules: Listed<Module>,
@@ -38,7 +38,7 @@ pub fn module_name(
     Ok(Some(Reader::head(Coming::LeftParen, HeadState::PortStart(draft))))
 }
 
-/// Where a port must come.
+/// Reads the word at which a port must begin.
 pub fn port_start(draft: Held<ModuleDraft>, word: &[u8]) -> Option<Reader>
     ensures { result ≡ spec.port_start draft word.now }
 {
@@ -57,7 +57,7 @@ pub fn port_start(draft: Held<ModuleDraft>, word: &[u8]) -> Option<Reader>
     }
 }
 
-/// Behind a port: one more, or the end of the list.
+/// Reads the word after a port: one more port, or the end of the list.
 pub fn port_next(draft: Held<ModuleDraft>, word: &[u8]) -> Option<Reader>
     ensures { result ≡ spec.port_next draft word.now }
 {
@@ -70,7 +70,7 @@ pub fn port_next(draft: Held<ModuleDraft>, word: &[u8]) -> Option<Reader>
     }
 }
 
-/// The last bit of a range.
+/// Reads the last bit of a range.
 pub fn range_high(draft: Held<ModuleDraft>, declared: Declared, word: &[u8]) -> Option<Reader>
     ensures { result ≡ spec.range_high draft declared word.now }
 {
@@ -85,7 +85,7 @@ pub fn range_high(draft: Held<ModuleDraft>, declared: Declared, word: &[u8]) -> 
     }
 }
 
-/// A reader after the name of a port.
+/// Returns a reader after the name of a port.
 fn port_named(
     draft: Held<ModuleDraft>,
     direction: Direction,
@@ -102,7 +102,7 @@ fn port_named(
     Ok(Reader::head(Coming::Nothing, HeadState::PortNext(draft)))
 }
 
-/// A reader after a range and a name.
+/// Returns a reader after a range and a name.
 fn named(
     draft: Held<ModuleDraft>,
     declared: Declared,
@@ -119,7 +119,7 @@ fn named(
     }
 }
 
-/// The name that is declared.
+/// Reads the name that is declared.
 pub fn declared_name(
     alloc: Global,
     draft: Held<ModuleDraft>,
@@ -136,7 +136,7 @@ pub fn declared_name(
     Ok(Some(named(draft, declared, width, name)?))
 }
 
-/// A range, or at once the name that is declared.
+/// Reads the begin of a range, or the name that is declared without one.
 pub fn range_or_name(
     alloc: Global,
     draft: Held<ModuleDraft>,

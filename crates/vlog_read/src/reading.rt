@@ -15,7 +15,8 @@ use vlog_design::Design;
 use vlog_lex::{Words, place_at, scan};
 use vlog_tree::{Module, VFault};
 
-/// The number of bytes before the next word, after the given number of words; or before the end of what is cut into words.
+/// Returns the number of bytes before the next word, after the given number of words, or before the end of the part that is cut into
+/// words.
 fn bytes_before(words: &Words, passed: usize) -> u32
     ensures { result ≡ refused_at words.now.lexemes.items passed words.now.end }
 {
@@ -25,7 +26,7 @@ fn bytes_before(words: &Words, passed: usize) -> u32
     }
 }
 
-/// The fault of the first word that is refused, after the given number of words.
+/// Returns the fault of the first word that is refused, after the given number of words.
 fn refused(text: &[u8], words: &Words, passed: usize) -> VFault
     requires few { length text.now < 2 ^ 32 - 1 }
     requires scan { IsScan text.now words.now.lexemes.items words.now.end }
@@ -36,7 +37,7 @@ fn refused(text: &[u8], words: &Words, passed: usize) -> VFault
     VFault::V1(place_at(text, at))
 }
 
-/// The design of words that spell modules, or the fault at the first byte that begins no word.
+/// Returns the design of words that spell modules, or the fault at the first byte that begins no word.
 fn checked(
     alloc: Global,
     text: &[u8],
@@ -56,9 +57,9 @@ fn checked(
     Design::of(alloc, modules)
 }
 
-/// The design of a text, which is its one tree; or else why there is none. `VFault::V1` has the place of the first word that no
-/// design goes on with, of the first byte that begins no word, or after the last byte where more would have to come: some design
-/// begins with the words before it. `V2` to `V6` have the first name by the tree. Numbers may have any number of digits.
+/// Returns the design of a text, which is its one tree, or the fault of the text. `VFault::V1` has the place of the first word that no
+/// design continues with, of the first byte that begins no word, or after the last byte if the text ends too early: some design begins
+/// with the words before that place. `V2` to `V6` have the first name by the tree. Numbers may have any number of digits.
 pub fn read(alloc: Global, text: &[u8]) -> Result<Design, VFault>
     requires { length text.now < 2 ^ 32 - 1 }
     ensures refused { IfErr result (λ e. RefusesText text.now e) }

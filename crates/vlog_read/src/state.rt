@@ -1,4 +1,4 @@
-// What is read so far, and what may come next.
+// The modules as far as they are read, and the states in which the next word is read.
 
 ghost use Rattle.std.specs.Prelude.{◌≡◌, IfOk, OnOk};
 ghost use Rattle.vlog_tree.specs.Form.{IsModule};
@@ -10,7 +10,7 @@ use tapa_base::Text;
 use vlog_lex::{Coming, Listed, Parts};
 use vlog_tree::{Atom, BinaryOp, Connection, Item, Module, PortDecl, Step};
 
-/// Modules that are whole, and the module that is read, as far as it is.
+/// The modules that are whole, and the module that is being read, as far as it is read.
 #[derive(Drop)]
 pub struct ModuleDraft {
     pub modules: Listed<Module>,
@@ -34,7 +34,7 @@ pub struct Joining {
     pub connections: Listed<Connection>,
 }
 
-/// What a range and a name declare.
+/// The kind of declaration that a range and a name belong to.
 #[derive(Clone, Copy)]
 pub enum Declared {
     Input,
@@ -43,10 +43,10 @@ pub enum Declared {
     Reg,
 }
 
-/// What an atom is read for.
+/// The place of an atom in a value or a step.
 #[derive(Drop)]
 pub enum Purpose {
-    /// The first atom of what drives a net.
+    /// The first atom of the value that drives a net.
     First(Text),
     Inverted(Text),
     Right(Text, Atom, BinaryOp),
@@ -58,7 +58,7 @@ pub enum Purpose {
     Stored(Held<Steps>, Text, Text),
 }
 
-/// What is chosen by the next word between modules, and up to the items of one.
+/// A choice by the next word between modules, and up to the items of one.
 #[derive(Drop)]
 pub enum HeadState {
     Between(Listed<Module>),
@@ -70,7 +70,7 @@ pub enum HeadState {
     PortNext(Held<ModuleDraft>),
 }
 
-/// What is chosen by the next word among items.
+/// A choice by the next word among items.
 #[derive(Drop)]
 pub enum ItemState {
     ItemStart(Held<ModuleDraft>),
@@ -82,7 +82,7 @@ pub enum ItemState {
     ConnectionNext(Held<ModuleDraft>, Held<Joining>),
 }
 
-/// What is chosen by the next word in an assignment, and in an atom.
+/// A choice by the next word in an assignment, and in an atom.
 #[derive(Drop)]
 pub enum ValueState {
     AssignName(Held<ModuleDraft>),
@@ -97,7 +97,7 @@ pub enum ValueState {
     AtomEnd(Held<ModuleDraft>, Held<Purpose>, Held<Atom>),
 }
 
-/// What is chosen by the next word in a block.
+/// A choice by the next word in a block.
 #[derive(Drop)]
 pub enum BlockState {
     StepStart(Held<ModuleDraft>, Held<Steps>),
@@ -107,7 +107,7 @@ pub enum BlockState {
     StepIndex(Held<ModuleDraft>, Held<Steps>, Text),
 }
 
-/// What is chosen by the next word.
+/// A choice by the next word.
 #[derive(Drop)]
 pub enum State {
     Head(HeadState),
@@ -116,7 +116,7 @@ pub enum State {
     Block(BlockState),
 }
 
-/// What must come, and what is chosen after that. It is moved at each word, so what is read so far is kept elsewhere.
+/// The words that must come, and the choice after them. A reader is moved at each word, so its parts are in memory of their own.
 #[derive(Drop)]
 pub struct Reader {
     pub coming: Coming,
@@ -125,7 +125,7 @@ pub struct Reader {
 
 // Readers in which certain words must come, and then a choice of one of the four sorts.
 impl Reader {
-    /// A reader in the head of a module, before these words.
+    /// Returns a reader in the head of a module, before these words.
     pub fn head(coming: Coming, state: HeadState) -> Reader
         ensures { result ≡ spec.behind coming (State.Head state) }
     {
@@ -133,7 +133,7 @@ impl Reader {
         Reader { coming, state }
     }
 
-    /// A reader among the items, before these words.
+    /// Returns a reader among the items, before these words.
     pub fn item(coming: Coming, state: ItemState) -> Reader
         ensures { result ≡ spec.behind coming (State.Item state) }
     {
@@ -141,7 +141,7 @@ impl Reader {
         Reader { coming, state }
     }
 
-    /// A reader in a value, before these words.
+    /// Returns a reader in a value, before these words.
     pub fn value(coming: Coming, state: ValueState) -> Reader
         ensures { result ≡ spec.behind coming (State.Value state) }
     {
@@ -149,7 +149,7 @@ impl Reader {
         Reader { coming, state }
     }
 
-    /// A reader in an `always` block, before these words.
+    /// Returns a reader in an `always` block, before these words.
     pub fn block(coming: Coming, state: BlockState) -> Reader
         ensures { result ≡ spec.behind coming (State.Block state) }
     {
@@ -157,7 +157,7 @@ impl Reader {
         Reader { coming, state }
     }
 
-    /// A reader before an atom.
+    /// Returns a reader before these words and an atom.
     pub fn atom(
         alloc: Global,
         coming: Coming,
@@ -170,7 +170,7 @@ impl Reader {
         Ok(Reader::value(coming, ValueState::AtomStart(draft, purpose)))
     }
 
-    /// A reader after an item, before the words that end it.
+    /// Returns a reader after an item, before the words that end the item.
     pub fn item_behind(
         coming: Coming,
         draft: Held<ModuleDraft>,
@@ -185,17 +185,17 @@ impl Reader {
     }
 }
 
-// A state is let go part by part: all at once is more than one function holds.
+// A state is dropped part by part: one function cannot hold it whole.
 
-/// Lets go what a reader in a head holds.
+/// Drops the state of a reader in a head.
 pub fn discard_head(_state: HeadState) {}
 
-/// Lets go what a reader among items holds.
+/// Drops the state of a reader among items.
 pub fn discard_item(_state: ItemState) {}
 
 fn discard_purpose(_draft: Held<ModuleDraft>, _purpose: Held<Purpose>) {}
 
-/// Lets go what a reader in a value holds.
+/// Drops the state of a reader in a value.
 pub fn discard_value(state: ValueState) {
     match state {
         ValueState::AssignName(_draft) => {}
@@ -211,10 +211,10 @@ pub fn discard_value(state: ValueState) {
     }
 }
 
-/// Lets go what a reader in a block holds.
+/// Drops the state of a reader in a block.
 pub fn discard_block(_state: BlockState) {}
 
-/// Lets go what a reader holds.
+/// Drops the state of a reader.
 pub fn discard(state: State) {
     match state {
         State::Head(state) => discard_head(state),
@@ -225,7 +225,7 @@ pub fn discard(state: State) {
 }
 
 impl Reader {
-    /// The reader after this word, where it must come.
+    /// Returns the reader after this word, which must be the first of the words that come. Returns `None` for another word.
     pub fn expected(self, word: &[u8]) -> Option<Reader>
         ensures { result ≡ spec.expected self.coming self.state word.now }
     {
@@ -241,7 +241,7 @@ impl Reader {
 }
 
 impl ModuleDraft {
-    /// A module of which the name is read.
+    /// Begins a module, after its name.
     pub fn begun(alloc: Global, modules: Listed<Module>, name: Text) -> ModuleDraft
         ensures { result ≡ spec.begun modules name }
     {
@@ -253,7 +253,7 @@ impl ModuleDraft {
         }
     }
 
-    /// One more port.
+    /// Adds a port.
     pub fn push_port(&mut self, port: PortDecl) -> Result<(), AllocError>
         ensures { OnOk result (self.new ≡ spec.with_port self.old port) }
     {
@@ -261,7 +261,7 @@ impl ModuleDraft {
         Ok(())
     }
 
-    /// One more item.
+    /// Adds an item.
     pub fn push_item(&mut self, item: Item) -> Result<(), AllocError>
         ensures { OnOk result (self.new ≡ spec.with_item self.old item) }
     {
@@ -269,7 +269,7 @@ impl ModuleDraft {
         Ok(())
     }
 
-    /// The modules with the one that was read.
+    /// Returns the modules with the one that was read.
     pub fn finished(self) -> Result<Listed<Module>, AllocError>
         requires { IsModule (spec.module_of self) }
         ensures { IfOk result (λ ms. ms ≡ spec.finished self) }
@@ -285,7 +285,7 @@ impl ModuleDraft {
 }
 
 impl Steps {
-    /// No steps yet, and nothing open.
+    /// Begins a block: no steps, and no open part.
     pub fn new(alloc: Global) -> Steps
         ensures { result ≡ spec.no_steps }
     {
@@ -295,7 +295,7 @@ impl Steps {
         }
     }
 
-    /// One more step, in the part that is open.
+    /// Adds a step in the part that is open.
     pub fn push(&mut self, step: Step) -> Result<(), AllocError>
         ensures { OnOk result (self.new ≡ spec.with_step self.old step) }
     {
@@ -303,7 +303,7 @@ impl Steps {
         Ok(())
     }
 
-    /// One more step, which opens a part.
+    /// Adds a step that opens a part.
     pub fn push_open(&mut self, step: Step, is_else: bool) -> Result<(), AllocError>
         ensures { OnOk result (self.new ≡ spec.opened self.old step is_else) }
     {
@@ -314,7 +314,7 @@ impl Steps {
 }
 
 impl Held<Steps> {
-    /// The steps with one more, in the part that is open.
+    /// Returns the steps with one more in the part that is open.
     pub fn with_step(self, step: Step) -> Result<Held<Steps>, AllocError>
         ensures { IfOk result (λ s. s ≡ spec.with_step self step) }
     {
@@ -323,7 +323,7 @@ impl Held<Steps> {
         Ok(Held { held })
     }
 
-    /// The steps with one more, which opens a part.
+    /// Returns the steps with one more, which opens a part.
     pub fn opened(self, step: Step, is_else: bool) -> Result<Held<Steps>, AllocError>
         ensures { IfOk result (λ s. s ≡ spec.opened self step is_else) }
     {
@@ -334,7 +334,7 @@ impl Held<Steps> {
 }
 
 impl Joining {
-    /// One more connection.
+    /// Adds a connection.
     pub fn push(&mut self, connection: Connection) -> Result<(), AllocError>
         ensures { OnOk result (self.new ≡ spec.with_connection self.old connection) }
     {
@@ -344,7 +344,7 @@ impl Joining {
 }
 
 impl Held<ModuleDraft> {
-    /// The draft with one more port.
+    /// Returns the draft with one more port.
     pub fn with_port(self, port: PortDecl) -> Result<Held<ModuleDraft>, AllocError>
         ensures { IfOk result (λ d. d ≡ spec.with_port self port) }
     {
@@ -355,7 +355,7 @@ impl Held<ModuleDraft> {
 }
 
 impl Held<Joining> {
-    /// The instance with one more connection.
+    /// Returns the instance with one more connection.
     pub fn with_connection(self, connection: Connection) -> Result<Held<Joining>, AllocError>
         ensures { IfOk result (λ q. q ≡ spec.with_connection self connection) }
     {

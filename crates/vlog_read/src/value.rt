@@ -1,4 +1,4 @@
-// Atoms, and what drives a net.
+// Atoms, and the values that drive nets.
 
 ghost use Rattle.std.specs.Prelude.{◌≡◌, IfOk};
 ghost use Rattle.vlog_read.specs.ValueReading as spec;
@@ -10,7 +10,7 @@ use tapa_base::Text;
 use vlog_lex::{Coming, Listed, is_name_word, is_number, literal_of, name_of, width_at};
 use vlog_tree::{Atom, Atoms, BinaryOp, Item, Step, Value};
 
-/// A reader after what drives a net, and the words that end it.
+/// Returns the reader after the value that drives a net, before the words that end the value.
 fn driven(
     draft: Held<ModuleDraft>,
     coming: Coming,
@@ -22,7 +22,7 @@ fn driven(
     Reader::item_behind(coming, draft, Item::Assign { net, value })
 }
 
-/// The net that is driven.
+/// Reads the net that is driven.
 pub fn assign_name(
     alloc: Global,
     draft: Held<ModuleDraft>,
@@ -37,7 +37,7 @@ pub fn assign_name(
     Ok(Some(Reader::value(Coming::Equals, ValueState::ValueStart(draft, net))))
 }
 
-/// Where an atom must come: a name, which may go on, or a literal.
+/// Reads the first word of an atom: a name, after which the atom may go on, or a literal.
 pub fn atom_start(
     alloc: Global,
     draft: Held<ModuleDraft>,
@@ -59,7 +59,7 @@ pub fn atom_start(
     }
 }
 
-/// Where must come what drives a net.
+/// Reads the first word of the value that drives a net.
 pub fn value_start(
     alloc: Global,
     draft: Held<ModuleDraft>,
@@ -79,7 +79,7 @@ pub fn value_start(
     }
 }
 
-/// Behind a brace: a number of copies, or the first atom of a concatenation.
+/// Reads the word after a brace: a number of copies, or the first word of a concatenation's first atom.
 pub fn brace_start(
     alloc: Global,
     draft: Held<ModuleDraft>,
@@ -96,7 +96,7 @@ pub fn brace_start(
     atom_start(alloc, draft, purpose, word)
 }
 
-/// The operator of arithmetic that a word is, if it is one.
+/// Returns the operator of arithmetic that a word spells, if any.
 fn arithmetic_of(word: &[u8]) -> Option<BinaryOp>
     ensures { result ≡ spec.arithmetic_of word.now }
 {
@@ -115,7 +115,7 @@ fn arithmetic_of(word: &[u8]) -> Option<BinaryOp>
     }
 }
 
-/// The operator on bits, or the shift, that a word is, if it is one.
+/// Returns the operator on bits, or the shift, that a word spells, if any.
 fn bits_of(word: &[u8]) -> Option<BinaryOp>
     ensures { result ≡ spec.bits_of word.now }
 {
@@ -134,7 +134,7 @@ fn bits_of(word: &[u8]) -> Option<BinaryOp>
     }
 }
 
-/// The comparison that a word is, if it is one.
+/// Returns the comparison that a word spells, if any.
 fn comparison_of(word: &[u8]) -> Option<BinaryOp>
     ensures { result ≡ spec.comparison_of word.now }
 {
@@ -149,7 +149,7 @@ fn comparison_of(word: &[u8]) -> Option<BinaryOp>
     }
 }
 
-/// The operator that a word is, if it is one.
+/// Returns the operator that a word spells, if any.
 fn operator_of(word: &[u8]) -> Option<BinaryOp>
     ensures { result ≡ spec.operator_of word.now }
 {
@@ -162,7 +162,7 @@ fn operator_of(word: &[u8]) -> Option<BinaryOp>
     comparison_of(word)
 }
 
-/// Behind the first atom of what drives a net.
+/// Reads the word after the first atom of a value.
 pub fn value_next(
     alloc: Global,
     draft: Held<ModuleDraft>,
@@ -188,7 +188,7 @@ pub fn value_next(
     }
 }
 
-/// After an atom of a concatenation: one more, or the end after two at least.
+/// Reads the word after an atom of a concatenation: one more atom follows, or the end after two atoms at least.
 pub fn concat_next(
     alloc: Global,
     draft: Held<ModuleDraft>,
@@ -209,95 +209,16 @@ pub fn concat_next(
     }
 }
 
-/// The word after what drives a net.
-fn driven_by(
-    draft: Held<ModuleDraft>,
-    coming: Coming,
-    net: Text,
-    value: Value,
-    word: &[u8],
-) -> Result<Option<Reader>, AllocError>
-    ensures { IfOk result (λ o. o ≡ spec.expected coming (spec.driven draft coming net value).state word.now) }
-{
-    let reader = driven(draft, coming, net, value)?;
-    Ok(reader.expected(word))
-}
-
-/// The semicolon after what drives a net.
-fn ended(
-    draft: Held<ModuleDraft>,
-    net: Text,
-    value: Value,
-    word: &[u8],
-) -> Result<Option<Reader>, AllocError>
-    ensures { IfOk result (λ o. o ≡ spec.expected Coming.Semicolon (spec.driven draft Coming.Semicolon net value).state word.now) }
-{
-    driven_by(draft, Coming::Semicolon, net, value, word)
-}
-
-/// The semicolon after a step.
-fn stepped(
-    draft: Held<ModuleDraft>,
-    steps: Held<Steps>,
-    step: Step,
-    word: &[u8],
-) -> Result<Option<Reader>, AllocError>
-    ensures { IfOk result (λ o. o ≡ spec.expected Coming.Semicolon (spec.step_behind draft steps step).state word.now) }
+/// Returns the reader after a step, before its semicolon.
+fn stepped(draft: Held<ModuleDraft>, steps: Held<Steps>, step: Step) -> Result<Reader, AllocError>
+    ensures { IfOk result (λ r. r ≡ spec.step_behind draft steps step) }
 {
     let steps = steps.with_step(step)?;
-    let reader = Reader::block(Coming::Semicolon, BlockState::StepStart(draft, steps));
-    Ok(reader.expected(word))
+    Ok(Reader::block(Coming::Semicolon, BlockState::StepStart(draft, steps)))
 }
 
-fn binary(left: Atom, op: BinaryOp, right: Atom) -> Value
-    ensures { result ≡ Value.Binary left op right }
-{
-    Value::Binary { left, op, right }
-}
-
-fn choose(condition: Atom, yes: Atom, no: Atom) -> Value
-    ensures { result ≡ Value.Choose condition yes no }
-{
-    Value::Choose { condition, yes, no }
-}
-
-fn assign(register: Text, value: Atom) -> Step
-    ensures { result ≡ Step.NonblockingAssign register value }
-{
-    Step::NonblockingAssign { register, value }
-}
-
-fn store(memory: Text, index: Text, value: Atom) -> Step
-    ensures { result ≡ Step.MemoryAssign memory index value }
-{
-    Step::MemoryAssign {
-        memory,
-        index,
-        value,
-    }
-}
-
-/// The colon after the first of two atoms between which one is chosen.
-fn first_chosen(
-    alloc: Global,
-    draft: Held<ModuleDraft>,
-    net: Text,
-    condition: Atom,
-    yes: Atom,
-    word: &[u8],
-) -> Result<Option<Reader>, AllocError>
-    ensures { IfOk result (λ o. o ≡ spec.atom_end draft (Purpose.Yes net condition) yes word.now) }
-{
-    let reader = Reader::atom(
-        alloc,
-        Coming::Colon,
-        draft,
-        Purpose::No(net, condition, yes),
-    )?;
-    Ok(reader.expected(word))
-}
-
-/// Behind an atom that is whole.
+/// Reads the word after an atom that is whole. After the first atom of a value, and after one of a concatenation, the word chooses;
+/// otherwise a certain word must come.
 pub fn atom_end(
     alloc: Global,
     draft: Held<ModuleDraft>,
@@ -307,31 +228,62 @@ pub fn atom_end(
 ) -> Result<Option<Reader>, AllocError>
     ensures { IfOk result (λ o. o ≡ spec.atom_end draft purpose atom word.now) }
 {
-    let purpose = purpose.into_inner();
-    match purpose {
-        Purpose::First(net) => value_next(alloc, draft, net, atom, word),
-        Purpose::Inverted(net) => ended(draft, net, Value::Invert(atom), word),
-        Purpose::Right(net, left, op) => ended(draft, net, binary(left, op, atom), word),
-        Purpose::Yes(net, condition) => first_chosen(alloc, draft, net, condition, atom, word),
-        Purpose::No(net, condition, yes) => {
-            ended(draft, net, choose(condition, yes, atom), word)
-        }
+    let reader = match purpose.into_inner() {
+        Purpose::First(net) => return value_next(alloc, draft, net, atom, word),
         Purpose::Joined(net, atoms) => {
-            let atoms = atoms.with(atom)?;
-            concat_next(alloc, draft, net, atoms, word)
+            return concat_next(alloc, draft, net, atoms.with(atom)?, word);
+        }
+        Purpose::Inverted(net) => driven(draft, Coming::Semicolon, net, Value::Invert(atom))?,
+        Purpose::Right(net, left, op) => {
+            let right = atom;
+            driven(
+                draft,
+                Coming::Semicolon,
+                net,
+                Value::Binary { left, op, right },
+            )?
+        }
+        Purpose::Yes(net, condition) => {
+            Reader::atom(
+                alloc,
+                Coming::Colon,
+                draft,
+                Purpose::No(net, condition, atom),
+            )?
+        }
+        Purpose::No(net, condition, yes) => {
+            let no = atom;
+            driven(
+                draft,
+                Coming::Semicolon,
+                net,
+                Value::Choose { condition, yes, no },
+            )?
         }
         Purpose::Copied(net, count) => {
-            let value = Value::Repeat { count, atom };
-            driven_by(draft, Coming::BracesEnd, net, value, word)
+            driven(draft, Coming::BracesEnd, net, Value::Repeat { count, atom })?
         }
-        Purpose::Assigned(steps, register) => stepped(draft, steps, assign(register, atom), word),
+        Purpose::Assigned(steps, register) => {
+            let value = atom;
+            stepped(draft, steps, Step::NonblockingAssign { register, value })?
+        }
         Purpose::Stored(steps, memory, index) => {
-            stepped(draft, steps, store(memory, index, atom), word)
+            let value = atom;
+            stepped(
+                draft,
+                steps,
+                Step::MemoryAssign {
+                    memory,
+                    index,
+                    value,
+                },
+            )?
         }
-    }
+    };
+    Ok(reader.expected(word))
 }
 
-/// After a name that begins an atom: a part of the net, the cell of a memory, or the whole net.
+/// Reads the word after a name that begins an atom: the atom is a part of the net, the cell of a memory, or the whole net.
 pub fn atom_next(
     alloc: Global,
     draft: Held<ModuleDraft>,
@@ -348,7 +300,7 @@ pub fn atom_next(
     }
 }
 
-/// The index of a memory, whose cell alone drives the net.
+/// Reads the index of a memory, whose cell is a whole value.
 fn cell_index(
     alloc: Global,
     draft: Held<ModuleDraft>,
@@ -372,7 +324,7 @@ fn cell_index(
     }
 }
 
-/// Behind a bracket: the high bit of a part, or the index of a memory.
+/// Reads the word after a bracket: the high bit of a part, or the index of a memory.
 pub fn atom_high(
     alloc: Global,
     draft: Held<ModuleDraft>,
@@ -392,7 +344,7 @@ pub fn atom_high(
     cell_index(alloc, draft, purpose, name, word)
 }
 
-/// The low bit of a part.
+/// Reads the low bit of a part.
 pub fn atom_low(
     alloc: Global,
     draft: Held<ModuleDraft>,

@@ -1,5 +1,5 @@
 -- The elements of channels' modules fit: names, widths and drivers.
-use Rattle.std.proofs.Common.{◌≡◌, ℕ, ◌+◌, ◌-◌, ◌*◌, ◌/◌, ◌%◌, ◌^◌, ◌<◌, ◌≤◌, Bool, true, false, cond, eqb, List, [], ◌∷◌, Some, inl, inr, refl, sym, ap, subst, ◌∙◌, arith, ⊎_elim, map}
+use Rattle.std.proofs.Common.{◌≡◌, ℕ, ◌+◌, ◌-◌, ◌*◌, ◌/◌, ◌%◌, ◌^◌, ◌<◌, ◌≤◌, Bool, true, false, cond, eqb, List, [], ◌∷◌, Some, inl, inr, refl, sym, ap, subst, ◌∙◌, arith, rules, ⊎_elim, map}
 use Rattle.std.specs.Prelude.{codes, nat_le}
 use Rattle.std.specs.Int.Count.{count_leading_zeros}
 use Rattle.std.proofs.lemmas.Bool.{eq-eqb, ne_eqb, cases_eq, le-leb}
@@ -36,43 +36,7 @@ module _ (ms : List ModuleTree) (bits : ℕ) (w : is_width bits ≡ true) where
   unfolding clk rst
   step_fits = record {
     names = refl;
-    widths = (
-      refl,
-      (
-        w,
-        (
-          refl,
-          (
-            refl,
-            (
-              w,
-              (
-                refl,
-                (
-                  (refl, refl),
-                  (
-                    (w, refl),
-                    (
-                      (refl, refl),
-                      (
-                        (refl, ((refl, omega arith), (tt, (refl, (tt, tt))))),
-                        (
-                          (refl, tt),
-                          (
-                            (refl, ((refl, omega arith), (tt, (refl, (tt, tt))))),
-                            tt,
-                          ),
-                        ),
-                      ),
-                    ),
-                  ),
-                ),
-              ),
-            ),
-          ),
-        ),
-      ),
-    );
+    widths = search rules;
     links = refl;
     blocks = refl;
   }
@@ -81,41 +45,7 @@ module _ (ms : List ModuleTree) (bits : ℕ) (w : is_width bits ≡ true) where
   unfolding clk rst connection_uses connection_driven
   even_fits half e f = record {
     names = rw (f, e) refl;
-    widths =
-        rw e (
-          refl,
-          (
-            w,
-            (
-              refl,
-              (
-                refl,
-                (
-                  w,
-                  (
-                    refl,
-                    (
-                      refl,
-                      (
-                        w,
-                        (
-                          refl,
-                          (
-                            (refl, (refl, (refl, (refl, (refl, (refl, (refl, (refl, tt)))))))),
-                            (
-                              (refl, (refl, (refl, (refl, (refl, (refl, (refl, (refl, tt)))))))),
-                              tt,
-                            ),
-                          ),
-                        ),
-                      ),
-                    ),
-                  ),
-                ),
-              ),
-            ),
-          ),
-        );
+    widths = rw e (search rules);
     links = rw e refl;
     blocks = refl;
   }
@@ -124,53 +54,7 @@ module _ (ms : List ModuleTree) (bits : ℕ) (w : is_width bits ≡ true) where
   unfolding clk rst connection_uses connection_driven
   odd_fits half step e f g h = record {
     names = rw (f, h, e, g) refl;
-    widths =
-        rw (e, g) (
-          refl,
-          (
-            w,
-            (
-              refl,
-              (
-                refl,
-                (
-                  w,
-                  (
-                    refl,
-                    (
-                      refl,
-                      (
-                        w,
-                        (
-                          refl,
-                          (
-                            refl,
-                            (
-                              w,
-                              (
-                                refl,
-                                (
-                                  (refl, (refl, (refl, (refl, (refl, (refl, (refl, (refl, tt)))))))),
-                                  (
-                                    (refl, (refl, (refl, (refl, (refl, (refl, (refl, (refl, tt)))))))),
-                                    (
-                                      (refl, (refl, (refl, (refl, (refl, (refl, (refl, (refl, tt)))))))),
-                                      tt,
-                                    ),
-                                  ),
-                                ),
-                              ),
-                            ),
-                          ),
-                        ),
-                      ),
-                    ),
-                  ),
-                ),
-              ),
-            ),
-          ),
-        );
+    widths = rw (e, g) (search rules);
     links = rw (e, g) refl;
     blocks = refl;
   }
@@ -179,35 +63,7 @@ module _ (ms : List ModuleTree) (bits : ℕ) (w : is_width bits ≡ true) where
   unfolding clk rst connection_uses connection_driven
   plain_fits fifo e f = record {
     names = rw (f, e) refl;
-    widths =
-        rw e (
-          w,
-          (
-            refl,
-            (
-              refl,
-              (
-                refl,
-                (
-                  (refl, refl),
-                  (
-                    refl,
-                    (
-                      w,
-                      (
-                        (refl, (refl, refl)),
-                        (
-                          (refl, (refl, (refl, (refl, (refl, (refl, (refl, (refl, tt)))))))),
-                          tt,
-                        ),
-                      ),
-                    ),
-                  ),
-                ),
-              ),
-            ),
-          ),
-        );
+    widths = rw e (search rules);
     links = rw e refl;
     blocks = refl;
   }
@@ -217,47 +73,7 @@ module _ (ms : List ModuleTree) (bits : ℕ) (w : is_width bits ≡ true) where
   unfolding clk rst connection_uses connection_driven
   relayed_fits relay fifo e f g h = record {
     names = rw (f, h, e, g) refl;
-    widths =
-        rw (e, g) (
-          w,
-          (
-            refl,
-            (
-              refl,
-              (
-                refl,
-                (
-                  (refl, refl),
-                  (
-                    refl,
-                    (
-                      w,
-                      (
-                        (refl, (refl, refl)),
-                        (
-                          refl,
-                          (
-                            w,
-                            (
-                              refl,
-                              (
-                                (refl, (refl, (refl, (refl, (refl, (refl, (refl, (refl, tt)))))))),
-                                (
-                                  (refl, (refl, (refl, (refl, (refl, (refl, (refl, (refl, tt)))))))),
-                                  tt,
-                                ),
-                              ),
-                            ),
-                          ),
-                        ),
-                      ),
-                    ),
-                  ),
-                ),
-              ),
-            ),
-          ),
-        );
+    widths = rw (e, g) (search rules);
     links = rw (e, g) refl;
     blocks = refl;
   }

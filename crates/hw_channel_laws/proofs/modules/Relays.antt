@@ -1,27 +1,35 @@
 -- The lines of relays are the equations of relays.
-use Rattle.std.proofs.Common.{◌≡◌, ℕ, suc, ◌+◌, ◌/◌, ◌%◌, ◌^◌, ◌<◌, Bool, true, false, cond, eqb, List, ◌∷◌, Some, inl, inr, refl, sym, ap, ◌∙◌, arith, ⊎_elim}
+use Rattle.std.proofs.Common.{◌≡◌, ℕ, suc, ◌+◌, ◌/◌, ◌%◌, ◌^◌, ◌<◌, Bool, true, false, cond, eqb, List, [], ◌∷◌, Some, inl, inr, refl, sym, ap, ◌∙◌, arith, ⊎_elim}
 use Rattle.std.specs.Prelude.{codes, slice_get, count_by}
 use Rattle.std.specs.List.{list_any}
+use Rattle.std.specs.Cmp.Lexicographic.{bytes_decides}
 use Rattle.std.proofs.lemmas.Bool.{eq-eqb, ne_eqb, cases_eq}
+use Rattle.vlog_tree.specs.declared.tree.Atom.{Atom}
 use Rattle.vlog_tree.specs.declared.tree.Atom.TheVariants.{Net, Literal}
 use Rattle.vlog_tree.specs.declared.tree.Step.{Step}
+use Rattle.vlog_tree.specs.declared.tree.Step.TheVariants.{End, NonblockingAssign}
 use Rattle.vlog_tree.specs.declared.tree.Connection.{Connection}
 use Rattle.vlog_tree.specs.declared.tree.Item.TheVariants.{Reg, Always, Instance}
 use Rattle.vlog_tree.specs.Form.{ModuleTree}
 use Rattle.tapa_base.specs.Lists.{Has}
 use Rattle.vlog_tree.specs.Labels.{rst}
 use Rattle.vlog_tree.specs.Table.{Name, module_named}
-use Rattle.vlog_tree.specs.Cycle.{Cycle, Path, Follows, Runs, module_at, child_of, and_then}
+use Rattle.vlog_tree.specs.Cycle.{Cycle, Path, Sizes, Follows, Runs, module_at, child_of, and_then, atom_value, run_steps}
 use Rattle.vlog_tree.specs.V4.{step_assigns, is_block_of}
 use Rattle.vlog_module_laws.specs.Blocks.{IsOwnBlock}
-use Rattle.vlog_module_laws.proofs.Lines.{line, connection_holds}
-use Rattle.hw_build.specs.Elements.{built, copied, reset_or}
-use Rattle.hw_build.proofs.Meaning.{has_got, driven_is, reset_is, copied_is}
+use Rattle.vlog_module_laws.proofs.Lines.{line, connection_holds, register_takes}
+use Rattle.hw_build.specs.Elements.{built, reset_or}
+use Rattle.hw_build.proofs.Meaning.{has_got, driven_is, reset_is}
 use Rattle.hw_channel_laws.specs.signals.Signals.{Signal}
 use Rattle.hw_channel_laws.specs.signals.Relay.{RelayPorts, IsStep, IsRow, IsRelay, Step as OneStep, Row as TwoParts}
 use Rattle.hw_channel_lines.specs.Names.{relay_name}
-use Rattle.hw_channel_lines.specs.Texts.{step_elements, step_tree, even_tree, odd_tree, row_tree, of_net, first_part, second_of_two, second_of_three, third_part, AreRelays, One, More}
+use Rattle.hw_channel_lines.specs.Texts.{set_where, step_elements, step_tree, even_tree, odd_tree, row_tree, of_net, first_part, second_of_two, second_of_three, third_part, AreRelays, One, More}
 use Rattle.hw_channel_laws.specs.modules.Ports.{relay_ports, AreFoundIn}
+
+-- a register that is set where a bit is 1 keeps its number in other cycles
+set_net : (s : Sizes) (old : Cycle) (x : Name) (next : Atom) (b : Bool) → (run_steps s old (b ∷ []) (NonblockingAssign x next ∷ End ∷ []) old).net x ≡ cond b (atom_value old next) (old.net x)
+set_net s old x next true = ap (λ b. cond b (atom_value old next) (old.net x)) ((bytes_decides x x).1 refl)
+set_net s old x next false = refl
 
 module _ (name : Name) (bits : ℕ) (run : ℕ → Cycle) (f : Follows (built name (step_elements bits)) run) where
   abbrev m : ModuleTree
@@ -29,6 +37,9 @@ module _ (name : Name) (bits : ℕ) (run : ℕ → Cycle) (f : Follows (built na
 
   own : (i : ℕ) (x : Name) (b : List Step) → slice_get m.items i ≡ Some (Always b) → list_any (step_assigns x) b ≡ true → count_by (is_block_of x) m.items ≡ 1 → IsOwnBlock m.items x b
   own i x b e f g = record { has = has_got m.items i (Always b) e; assigns = f; alone = omega (arith, g) }
+
+  abbrev token_steps : List Step
+  token_steps = set_where (codes "token") (codes "put") (Net (codes "din"))
 
   pub is_step : (rst_of : Signal) → ((n : ℕ) → (run n).net rst ≡ rst_of n) → IsStep rst_of (relay_ports run)
   is_step rst_of same = record {
@@ -38,7 +49,9 @@ module _ (name : Name) (bits : ℕ) (run : ℕ → Cycle) (f : Follows (built na
         ∙ ap (λ r. cond (eqb r 1) 0 ((run n).net (codes "put"))) (same n);
     din_goes = λ n.
         driven_is m run f 4 (codes "din_late") (of_net (codes "token")) refl (suc n)
-        ∙ copied_is m run f bits (codes "token") (Net (codes "din")) (inr (inl refl)) (own 7 (codes "token") (copied (codes "token") (Net (codes "din"))) refl refl refl) n;
+        ∙ register_takes m run f bits (codes "token") token_steps (inr (inl refl)) (own 7 (codes "token") token_steps refl refl refl) n
+        ∙ set_net f.sizes (run n) (codes "token") (Net (codes "din")) (eqb ((run n).net (codes "put")) 1)
+        ∙ ap (cond (eqb ((run n).net (codes "put")) 1) ((run n).net (codes "din"))) (sym (driven_is m run f 4 (codes "din_late") (of_net (codes "token")) refl n));
     rdy_goes = λ n.
         driven_is m run f 5 (codes "rdy") (of_net (codes "room")) refl (suc n)
         ∙ reset_is m run f 1 (codes "room") (Literal 1 0) (Net (codes "rdy_early")) (inr (inr (inl refl))) (own 8 (codes "room") (reset_or (codes "room") (Literal 1 0) (Net (codes "rdy_early"))) refl refl refl) n

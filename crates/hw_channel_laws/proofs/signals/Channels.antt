@@ -1,5 +1,5 @@
 -- A FIFO behind delays of both sides meets the channel contract.
-use Rattle.std.proofs.Common.{◌≡◌, ℕ, zero, suc, ◌+◌, ◌-◌, ◌*◌, ◌<◌, ◌≤◌, true, false, ◌&&◌, cond, eqb, ltb, List, [], ◌∷◌, ◌++◌, length, Some, sym, ap, ◌∙◌, subst, arith, ⊎_elim}
+use Rattle.std.proofs.Common.{◌≡◌, ℕ, zero, suc, ◌+◌, ◌-◌, ◌*◌, ◌<◌, ◌≤◌, Bool, true, false, ◌&&◌, cond, eqb, ltb, List, [], ◌∷◌, ◌++◌, length, Some, refl, sym, ap, ◌∙◌, subst, arith, ⊎_elim}
 use Rattle.std.specs.Prelude.{slice_get}
 use Rattle.std.proofs.lemmas.Bool.{lt-ltb, le-ltb, ltb-true, eqb-true, and_parts, cases_lt, cases_Bool, cond-true, cond-false}
 use Rattle.tapa_base.specs.Operators.{bit}
@@ -10,10 +10,15 @@ use Rattle.hw_channel_laws.proofs.signals.Pointers.{told, bit_is}
 use Rattle.hw_channel_laws.proofs.signals.Tokens.{carried_none, carried_next, longer, grows_to, keeps_to, rises_to, times_same, ones_few, ones_first}
 use Rattle.hw_channel_laws.proofs.signals.Relays.{Late}
 
+-- where a token is put in, its number is all that matters
+put_in : (b : Bool) (xs : List ℕ) (x y : ℕ) → (b ≡ true → x ≡ y) → cond b (xs ++ x ∷ []) xs ≡ cond b (xs ++ y ∷ []) xs
+put_in true xs x y e = ap (λ z. xs ++ z ∷ []) (e refl)
+put_in false xs x y e = refl
+
 -- what the wires and the relay say of a channel and its FIFO
 pub record Linked (late : ℕ) (c : ChannelPorts) (f : FifoPorts) : Type 0 where
   pub put : Late late (λ n. bit (both c.wr c.rdy n)) f.put
-  pub din : (n : ℕ) → late ≤ n → f.din n ≡ c.din (n - late)
+  pub din : (n : ℕ) → late < n → both c.wr c.rdy (n - late) ≡ true → f.din n ≡ c.din (n - late)
   pub rdy : Late late f.rdy c.rdy
   pub has : (n : ℕ) → c.has n ≡ f.has n
   pub dout : (n : ℕ) → c.dout n ≡ f.dout n
@@ -43,7 +48,7 @@ module _ (depth late places : ℕ) (fits : depth + 2 * late ≤ places) (c : Cha
       let put : puts f n ≡ both c.wr c.rdy m =
       ap (λ x. eqb x 1) (l.put n (omega arith) ∙ cond-true (ltb late n) (bit (both c.wr c.rdy m)) 0 (lt-ltb late n lt)) ∙ bit_is (both c.wr c.rdy m) in
       ap (λ b. cond b (entered f n ++ f.din n ∷ []) (entered f n)) put
-      ∙ ap (λ x. cond (both c.wr c.rdy m) (entered f n ++ x ∷ []) (entered f n)) (l.din n (omega (arith, lt)))
+      ∙ put_in (both c.wr c.rdy m) (entered f n) (f.din n) (c.din m) (l.din n lt)
       ∙ ap (λ xs. cond (both c.wr c.rdy m) (xs ++ c.din m ∷ []) xs) was
       ∙ sym (carried_next (both c.wr c.rdy) c.din m some) ∙ ap w (sym z))
       (λ le.

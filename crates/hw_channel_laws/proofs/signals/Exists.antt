@@ -50,7 +50,7 @@ module _ (s : FifoSizes) (late : ℕ) (rst wr din take : Signal) where
         count = cond (eqb (rst n) 1) 0 (next_count s (puts_now n t) (pops_now n t) t.count);
         cells = λ a. cond (puts_now n t && eqb a t.tail) (din_at n t late) (t.cells a);
         full = λ i. cond (eqb (rst n) 1) 0 (put_at n t i);
-        token = λ i. din_at n t i;
+        token = λ i. cond (eqb (put_at n t i) 1) (din_at n t i) (t.token i);
         room = λ i. cond (eqb (rst n) 1) 0 (rdy_at t (suc i));
       }
 

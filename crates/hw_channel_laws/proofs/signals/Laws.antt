@@ -13,7 +13,7 @@ use Rattle.hw_channel_laws.proofs.signals.Channels.{Linked, meets, always_room}
 plain_linked : (c : ChannelPorts) (f : FifoPorts) → IsPlain c f → Linked 0 c f
 plain_linked c f h = record {
   put = late_none (λ n. bit (both c.wr c.rdy n)) f.put 0 refl h.put_is;
-  din = λ n le. let z : n ≡ n - 0 = omega arith in h.din_is n ∙ ap c.din z;
+  din = λ n le wrote. let z : n ≡ n - 0 = omega arith in h.din_is n ∙ ap c.din z;
   rdy = late_none f.rdy c.rdy 0 refl h.rdy_is;
   has = h.has_is;
   dout = h.dout_is;
@@ -30,7 +30,7 @@ module _ (depth late : ℕ) (rst : Signal) (reset : Resets rst) (c : ChannelPort
       let j = h.joined in
       record {
         put = late_same p.put p.put_late (λ n. bit (both c.wr c.rdy n)) f.put late j.put_is j.put_late d.put_late;
-        din = λ n le. j.din_late n ∙ d.din_late n le ∙ j.din_is (n - late);
+        din = λ n le wrote. j.din_late n ∙ d.din_late n le (j.put_is (n - late) ∙ ap bit wrote) ∙ j.din_is (n - late);
         rdy = late_same p.rdy_early p.rdy f.rdy c.rdy late j.rdy_early j.rdy_is d.rdy;
         has = j.has_is;
         dout = j.dout_is;

@@ -1,6 +1,6 @@
 -- Delays add up along a relay.
-use Rattle.std.proofs.Common.{◌≡◌, ℕ, zero, suc, ◌+◌, ◌-◌, ◌<◌, ◌≤◌, cond, eqb, ltb, refl, sym, ap, ◌∙◌, arith, ⊎_elim}
-use Rattle.std.proofs.lemmas.Bool.{lt-ltb, le-ltb, cases_lt, cond-true, cond-false}
+use Rattle.std.proofs.Common.{◌≡◌, ℕ, zero, suc, ◌+◌, ◌-◌, ◌<◌, cond, eqb, ltb, refl, sym, ap, ◌∙◌, arith, ⊎_elim}
+use Rattle.std.proofs.lemmas.Bool.{lt-ltb, le-ltb, eq-eqb, cases_lt, cond-true, cond-false}
 use Rattle.hw_channel_laws.specs.signals.Signals.{Signal, Resets}
 use Rattle.hw_channel_laws.specs.signals.Relay.{RelayPorts, IsStraight, IsStep, IsRow, IsRelay, Straight, Step, Row, Delays}
 
@@ -43,18 +43,20 @@ module _ (rst : Signal) (reset : Resets rst) where
   straight : (late : ℕ) (p : RelayPorts) → late ≡ 0 → IsStraight p → Delays late p
   straight late p e h = record {
     put_late = late_none p.put p.put_late late e h.put_is;
-    din_late = λ n le. let z : n ≡ n - late = omega (arith, e) in h.din_is n ∙ ap p.din z;
+    din_late = λ n le put. let z : n ≡ n - late = omega (arith, e) in h.din_is n ∙ ap p.din z;
     rdy = late_none p.rdy_early p.rdy late e h.rdy_is;
   }
 
-  token_one : (p : RelayPorts) → IsStep rst p → (late n : ℕ) → late ≡ 1 → late ≤ n → p.din_late n ≡ p.din (n - late)
-  token_one p h late zero e le = absurd (omega arith)
-  token_one p h late (suc n) e le = let z : n ≡ suc n - late = omega (arith, e) in h.din_goes n ∙ ap p.din z
+  token_one : (p : RelayPorts) → IsStep rst p → (late n : ℕ) → late ≡ 1 → late < n → p.put (n - late) ≡ 1 → p.din_late n ≡ p.din (n - late)
+  token_one p h late zero e le put = absurd (omega arith)
+  token_one p h late (suc n) e le put =
+      let z : n ≡ suc n - late = omega (arith, e) in
+      h.din_goes n ∙ cond-true (eqb (p.put n) 1) (p.din n) (p.din_late n) (eq-eqb (p.put n) 1 (ap p.put z ∙ put)) ∙ ap p.din z
 
   one : (late : ℕ) (p : RelayPorts) → late ≡ 1 → IsStep rst p → Delays late p
   one late p e h = record {
     put_late = late_one rst reset p.put p.put_late late e h.put_goes;
-    din_late = λ n le. token_one p h late n e le;
+    din_late = λ n le put. token_one p h late n e le put;
     rdy = late_one rst reset p.rdy_early p.rdy late e h.rdy_goes;
   }
 
@@ -63,9 +65,13 @@ module _ (rst : Signal) (reset : Resets rst) where
     put_late = late_row p.put second.put p.put_late a b late e
         (late_same first.put first.put_late p.put second.put a h.put_first h.put_second front.put_late)
         (late_same second.put second.put_late second.put p.put_late b (λ n. refl) h.put_last back.put_late);
-    din_late = λ n le.
+    din_late = λ n le put.
         let z : n - b - a ≡ n - late = omega (arith, e) in
-        h.din_last n ∙ back.din_late n (omega (arith, e, le)) ∙ h.din_second (n - b) ∙ front.din_late (n - b) (omega (arith, e, le)) ∙ h.din_first (n - b - a) ∙ ap p.din z;
+        let far : a < n - b = omega (arith, e, le) in
+        let put_in : first.put (n - b - a) ≡ 1 = h.put_first (n - b - a) ∙ ap p.put z ∙ put in
+        let between : second.put (n - b) ≡ 1 =
+        h.put_second (n - b) ∙ front.put_late (n - b) (omega (arith, far)) ∙ cond-true (ltb a (n - b)) (first.put (n - b - a)) 0 (lt-ltb a (n - b) far) ∙ put_in in
+        h.din_last n ∙ back.din_late n (omega (arith, e, le)) between ∙ h.din_second (n - b) ∙ front.din_late (n - b) far put_in ∙ h.din_first (n - b - a) ∙ ap p.din z;
     rdy = late_row p.rdy_early first.rdy_early p.rdy b a late (omega (arith, e))
         (late_same second.rdy_early second.rdy p.rdy_early first.rdy_early b h.rdy_first h.rdy_second back.rdy)
         (late_same first.rdy_early first.rdy first.rdy_early p.rdy a (λ n. refl) h.rdy_last front.rdy);

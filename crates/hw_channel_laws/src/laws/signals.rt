@@ -10,7 +10,7 @@ pub fn law_fifo()
     ensures { FifoLaw }
 {}
 
-/// Each net of a relay of n steps is its source n cycles ago.
+/// Each net of a relay of n steps is its source n cycles ago: its data where a token was put in, the others in every cycle.
 pub fn law_relay()
     ensures { RelayLaw }
 {}

@@ -1,5 +1,5 @@
 -- A machine stands at the act that its count makes next, and stands there until it is answered.
-use Rattle.std.proofs.Common.{◌≡◌, ℕ, suc, ◌<◌, ◌≤◌, List, [], ◌∷◌, Bool, true, false, ◌&&◌, Option, Some, None, refl, sym, ap, ◌∙◌, arith}
+use Rattle.std.proofs.Common.{◌≡◌, ℕ, suc, ◌<◌, List, [], ◌∷◌, Bool, true, false, ◌&&◌, Option, Some, None, refl, sym, ap, ◌∙◌, arith}
 use Rattle.std.specs.Prelude.{slice_get, nat_lt, if◌then◌else◌}
 use Rattle.tapa_base.specs.declared.token.Token.{Token}
 use Rattle.kahn_model.specs.declared.tick.Action.{Action}
@@ -12,17 +12,14 @@ use Rattle.kahn_model.specs.Behavior.{Behavior, Finished, OutOfTurns, Act, Await
 use Rattle.kahn_model.specs.Counts.{next, IsSupplied}
 use Rattle.kahn_model.specs.Network.{Network, IsNetwork}
 use Rattle.kahn_model.specs.Timed.{Clock, moves, next_moves, tick_moves, past_of, count_at}
-use Rattle.kahn_model.specs.Trace.{State, act_at, at_streams}
+use Rattle.kahn_model.specs.Trace.{State}
 use Rattle.kahn_model.proofs.Clocked.{clock_founded, count_up}
 use Rattle.kahn_model.proofs.Count.{next_same}
 use Rattle.kahn_model.proofs.Local.{fed_is_here}
 use Rattle.task_fsm.specs.Machine.{StateForm}
-use Rattle.task_fsm.specs.Run.{StateStep, Performs, Awaits, Completes, Halts, step_at}
-use Rattle.hw_lines.specs.Machine.{step_in}
-use Rattle.hw_lines.specs.Signals.{Streams, History, Part}
+use Rattle.task_fsm.specs.Run.{step_at}
 use Rattle.hw_network_laws.specs.network.Asked.{act_of_tick, act_of_step, MachinesStandAtNext, RequestsStay}
-use Rattle.hw_network_laws.specs.network.Clocked.{IsClocked}
-use Rattle.hw_network_laws.specs.network.Pace.{memory_of}
+use Rattle.circuit_meaning.specs.Pace.{memory_of}
 use Rattle.hw_network_laws.proofs.network.Ahead.{ahead, first_is, first_tick, next_is}
 use Rattle.hw_network_laws.proofs.network.Cycle.{alive, rest as rest_in, stood}
 use Rattle.hw_network_laws.proofs.network.Rest.{Continues, IsAlive, ticks_left}

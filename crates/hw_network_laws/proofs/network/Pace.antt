@@ -14,7 +14,7 @@ use Rattle.kahn_model.proofs.Order.{prefix_length}
 use Rattle.kahn_model.proofs.Taken.{taken_begins}
 use Rattle.kahn_model.proofs.Clocked.{and_parts, clock_founded, count_up, count_le}
 use Rattle.hw_network_laws.specs.network.Timed.{IsMadeIn, IsNextTick}
-use Rattle.hw_network_laws.specs.network.Pace.{memory_of, MakesIn, is_ready, times, on_their_way, KeepsPace}
+use Rattle.circuit_meaning.specs.Pace.{memory_of, MakesIn, is_ready, times, on_their_way, KeepsPace}
 use Rattle.hw_network_laws.proofs.network.Made.{made_more, made_stay, written_more}
 use Rattle.hw_network_laws.proofs.network.Timed.{one_next, and_both, moves_by_row, moved_tick, stays}
 

@@ -2,7 +2,6 @@
 use Rattle.std.specs.Prelude.{◌≡◌, ℕ, suc, ◌<◌, false, Option, Some, None, if◌then◌else◌}
 use Rattle.kahn_model.specs.declared.tick.Action.{Action}
 use Rattle.kahn_model.specs.declared.tick.Tick.{Tick}
-use Rattle.kahn_model.specs.declared.tick.Tick.TheVariants.{Did, Take, See, End}
 use Rattle.kahn_model.specs.Counts.{next}
 use Rattle.kahn_model.specs.Network.{Network, IsNetwork}
 use Rattle.kahn_model.specs.Timed.{Clock, count_at}
@@ -11,15 +10,8 @@ use Rattle.task_fsm.specs.Run.{StateStep, Performs, Awaits, Completes, Halts}
 use Rattle.hw_lines.specs.Machine.{step_in}
 use Rattle.hw_lines.specs.Signals.{Streams, History, Part}
 use Rattle.hw_network_laws.specs.network.Clocked.{IsClocked}
-use Rattle.hw_network_laws.specs.network.Pace.{memory_of}
-
--- the act of a tick, if it is one: it waits for no token
-abbrev pub act_of_tick : Option Tick → Option Action
-act_of_tick None = None
-act_of_tick (Some (Did a)) = Some a
-act_of_tick (Some (Take s t)) = None
-act_of_tick (Some (See s t)) = None
-act_of_tick (Some End) = None
+use Rattle.circuit_meaning.specs.Pace.{memory_of}
+pub use Rattle.circuit_meaning.specs.Asked.{act_of_tick}
 
 abbrev pub act_of_step : (ℕ → ℕ) → StateStep → Option Action
 act_of_step f (Performs a pc σ) = Some (act_at f a)

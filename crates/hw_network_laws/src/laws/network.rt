@@ -4,7 +4,7 @@ ghost use Rattle.hw_network_laws.specs.network.Asked.{MachinesStandAtNext, Reque
 ghost use Rattle.hw_network_laws.specs.network.Clocked.{ClockedNetworksKeepTime, ClockedNetworksCarryKahn};
 ghost use Rattle.hw_network_laws.specs.network.Joined.{ClockedNetworksAreDone};
 ghost use Rattle.hw_network_laws.specs.network.Timed.{TimedCountsGoByRows};
-ghost use Rattle.hw_network_laws.specs.network.Pace.{TimedCountsKeepPace};
+ghost use Rattle.circuit_meaning.specs.Pace.{TimedCountsKeepPace, AnsweredCountsArePrompt};
 ghost use Rattle.hw_network_laws.specs.network.Cells.{MemoriesHoldCells};
 ghost use Rattle.hw_network_laws.specs.network.Ports.{InstancesHavePorts, LoweredMachinesUsePorts, PortsAreStreams, WiredInstancesAreLinked};
 ghost use Rattle.hw_network_laws.specs.network.Run.{ClockedNetworksRun};
@@ -43,6 +43,12 @@ pub fn law_timed_counts_go_by_rows()
 /// are never more than its depth and twice its latency.
 pub fn law_timed_counts_keep_pace()
     ensures { TimedCountsKeepPace }
+{}
+
+/// If no latency is greater than M, and each request of a memory is answered within M cycles, each allowed tick is made within M cycles. So the timed
+/// counts pass a reachable count of A ticks by cycle 1 + A * (M + 1), whatever memories do of which nothing is requested.
+pub fn law_answered_counts_are_prompt()
+    ensures { AnsweredCountsArePrompt }
 {}
 
 /// In each cycle a machine that has not ended is at the act that its count makes next, whether it is made in the cycle or not; and

@@ -30,6 +30,7 @@ use Rattle.task_fsm.specs.MachineKinds.{IsOfKind, IsTypedState}
 use Rattle.task_fsm.specs.Ranges.{Ranges, NamesWithin, IsInRange}
 use Rattle.task_fsm.specs.Run.{value}
 use Rattle.hw_lines.specs.declared.nets.Choice.TheVariants.{Reads, ArrayIndex}
+use Rattle.hw_lines.specs.declared.nets.Net.{Net as LineNet}
 use Rattle.hw_lines.specs.declared.nets.Net.TheVariants.{State as StateNet, Ended, At, Array, Answer, Raw, ReadInside, ReadOn}
 use Rattle.hw_lines.specs.Nets.{name, front, value_front, index_front, read_front}
 use Rattle.hw_lines.specs.Shape.{Shape, kinds_in, array_kind, array_cells, index_bits, state_count, state_bits, form_at}
@@ -208,18 +209,19 @@ module _ (S : Shape) (title : Name) (run : ℕ → Cycle) (f : Follows (built ti
           let x : p < length (reads_at S k) = got_low (reads_at S k) p r got in
           let y : length (reads_at S k) ≤ read_numbers S = most_of (λ j. length (reads_at S j)) (state_count S) k l in omega (arith, x, y)
 
-      abbrev spot_entry : Entry
-      spot_entry = record { condition = name (ReadOn k p); value = low_bits (index_bits S a) (read_index p k r).atom }
+      -- its entry, under the condition of a net
+      abbrev spot_entry : LineNet → Entry
+      spot_entry x = record { condition = name x; value = low_bits (index_bits S a) (read_index p k r).atom }
 
-      given : spot_of S p a k (slice_get (reads_at S k) p) ≡ spot_entry ∷ []
-      given = ap (spot_of S p a k) got ∙ only_entry a (spot_entry ∷ [])
+      given : (x : LineNet) → spot_of S x p a k (slice_get (reads_at S k) p) ≡ spot_entry x ∷ []
+      given x = ap (spot_of S x p a k) got ∙ only_entry a (spot_entry x ∷ [])
 
-      own_entry : Has (spot_of S p a k (slice_get (reads_at S k) p)) spot_entry
-      own_entry = subst (λ es. Has es spot_entry) (sym given) (inl refl)
+      own_entry : (x : LineNet) → Has (spot_of S x p a k (slice_get (reads_at S k) p)) (spot_entry x)
+      own_entry x = subst (λ es. Has es (spot_entry x)) (sym (given x)) (inl refl)
 
-      alone : (d : Entry) → Has (spot_of S p a k (slice_get (reads_at S k) p)) d → spot_entry ≡ d
-      alone d h = only (subst (λ es. Has es d) given h) where
-        only : Has (spot_entry ∷ []) d → spot_entry ≡ d
+      alone : (x : LineNet) (d : Entry) → Has (spot_of S x p a k (slice_get (reads_at S k) p)) d → spot_entry x ≡ d
+      alone x d h = only (subst (λ es. Has es d) (given x) h) where
+        only : Has (spot_entry x ∷ []) d → spot_entry x ≡ d
         only (inl e) = e
         only (inr e) = absurd e
 
@@ -245,7 +247,7 @@ module _ (S : Shape) (title : Name) (run : ℕ → Cycle) (f : Follows (built ti
       answers : IsAmong (answered S p a) (all S)
       answers e h =
           answered_in S p a inside there e
-          (subst (λ es. Has es e) (sym (not_none (entries S (Reads p a)) spot_entry (answered S p a) (has_each (effect S (Reads p a)) (state_count S) k spot_entry is.low own_entry))) h)
+          (subst (λ es. Has es e) (sym (not_none (entries S (Reads p a)) (spot_entry (ReadOn k p)) (answered S p a) (has_each (effect S (Reads p a)) (state_count S) k (spot_entry (ReadOn k p)) is.low (own_entry (ReadOn k p))))) h)
 
       abbrev last_two : List Element
       last_two =
@@ -292,12 +294,13 @@ module _ (S : Shape) (title : Name) (run : ℕ → Cycle) (f : Follows (built ti
           let few = is.few a in
           let bits : array_cells S a - 1 < 2 ^ index_bits S a = fits_bits (array_cells S a - 1) (omega (arith, few)) in
           let on : (run n).net (name (ReadOn k p)) ≡ 1 = on_is ∙ ap one_if e in
-          let set : (run n).net root ≡ 1 = any_on S title run f (Reads p a) any_among n k is.low spot_entry own_entry on in
+          let set : (run n).net root ≡ 1 = any_on S title run f (Reads p a) any_among n k is.low (spot_entry (ReadOn k p)) (own_entry (ReadOn k p)) on in
           let some : 0 < index_bits S a = has_bits (array_cells S a - 1) (omega (arith, few)) in
           let low_is : atom_value (run n) (low_bits (index_bits S a) (read_index p k r).atom) ≡ v =
           low_bits_is f.sizes (run n) 64 v (index_bits S a) (read_index p k r).atom shown some ∙ mod-eq_of_lt (omega (arith, low, bits)) in
           let spot : (run n).net (choice (front (ArrayIndex p a)) (entries S (ArrayIndex p a))) ≡ v =
-          pick_on S title run f (ArrayIndex p a) (index_bits S a) pick_among n k v is.here is.low (λ d h. inr (subst (λ (z : Entry). atom_value (run n) z.value ≡ v) (alone d h) low_is)) spot_entry own_entry on in
+          pick_on S title run f (ArrayIndex p a) (index_bits S a) pick_among n k v is.here is.low (λ d h. inr (subst (λ (z : Entry). atom_value (run n) z.value ≡ v) (alone (At k) d h) low_is)) (spot_entry (At k)) (own_entry (At k))
+          (at_here S title run f n k is.low is.here) in
           let cells : f.sizes.cells (name (Array a)) ≡ array_cells S a = cells_declared title (task_elements S) run f (bits_of (array_kind S a)) (name (Array a)) (array_cells S a) (array_there a there) in
           let raw : (run n).net (name (Raw p a)) ≡ (run n).cell (name (Array a)) v =
           wire_driven title (task_elements S) run f (bits_of (array_kind S a)) (name (Raw p a)) (Cell (name (Array a)) (choice (front (ArrayIndex p a)) (entries S (ArrayIndex p a)))) raw_there n
@@ -306,8 +309,8 @@ module _ (S : Shape) (title : Name) (run : ℕ → Cycle) (f : Follows (built ti
           answer_is ∙ ap (λ z. cond (eqb z 1) ((run n).net (name (Raw p a))) 0) set ∙ raw ∙ sym (cell_is ∙ ap (λ z. cond z ((run n).cell (name (Array a)) v) 0) e)
       here false e =
           let off : (run n).net (name (ReadOn k p)) ≡ 0 = on_is ∙ ap one_if e in
-          let some : 0 < length (entries S (Reads p a)) = some_length (entries S (Reads p a)) spot_entry (has_each (effect S (Reads p a)) (state_count S) k spot_entry is.low own_entry) in
-          let clear : (run n).net root ≡ 0 = any_off S title run f (Reads p a) any_among n k is.here some (λ d h. subst (λ (z : Entry). (run n).net z.condition ≡ 0) (alone d h) off) in
+          let some : 0 < length (entries S (Reads p a)) = some_length (entries S (Reads p a)) (spot_entry (ReadOn k p)) (has_each (effect S (Reads p a)) (state_count S) k (spot_entry (ReadOn k p)) is.low (own_entry (ReadOn k p))) in
+          let clear : (run n).net root ≡ 0 = any_off S title run f (Reads p a) any_among n k is.here some (λ d h. subst (λ (z : Entry). (run n).net z.condition ≡ 0) (alone (ReadOn k p) d h) off) in
           answer_is ∙ ap (λ z. cond (eqb z 1) ((run n).net (name (Raw p a))) 0) clear ∙ sym (cell_is ∙ ap (λ z. cond z ((run n).cell (name (Array a)) v) 0) e)
 
       read_shown : AnswerShown f.sizes (run n) K σ p r

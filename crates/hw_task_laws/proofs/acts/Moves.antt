@@ -17,16 +17,17 @@ use Rattle.vlog_tree.specs.Form.{ModuleTree}
 use Rattle.tapa_base.specs.Lists.{Has}
 use Rattle.vlog_tree.specs.Labels.{rst}
 use Rattle.vlog_tree.specs.Table.{Name, one_if}
-use Rattle.vlog_tree.specs.Cycle.{Cycle, Follows, Sizes, put, run_steps, atom_value}
+use Rattle.vlog_tree.specs.Cycle.{Cycle, Follows, atom_value}
 use Rattle.vlog_tree.specs.V4.{step_assigns}
 use Rattle.tapa_base.proofs.Lists.{has_flat, has_right}
-use Rattle.vlog_module_laws.specs.Forms.{set_block}
+use Rattle.vlog_module_laws.specs.Forms.{set_block, reset_block}
 use Rattle.vlog_module_laws.specs.Blocks.{IsOwnBlock}
 use Rattle.vlog_module_laws.proofs.Lines.{register_takes}
+use Rattle.vlog_module_laws.proofs.Forms.{reset_leaves, set_leaves}
 use Rattle.hw_build.specs.Elements.{Wire, Register, Block, built, reset_or}
 use Rattle.hw_build.specs.Fitting.{AreFitting, stored_names}
 use Rattle.hw_build.proofs.Driven.{wire_driven, line_there, block_is_own}
-use Rattle.hw_build.proofs.Meaning.{reset_is, reset_set_is}
+use Rattle.hw_build.proofs.Meaning.{reset_is}
 use Rattle.hw_build.specs.Scope.{each}
 use Rattle.hw_build.specs.Choices.{Entry, any_elements, pick_elements}
 use Rattle.hw_build.specs.Fits.{IsAmong}
@@ -37,13 +38,13 @@ use Rattle.task_fsm.specs.Ranges.{Ranges, IsInRange}
 use Rattle.task_fsm.specs.Run.{value}
 use Rattle.task_fsm.proofs.Steps.{value_fits}
 use Rattle.hw_lines.specs.declared.nets.Choice.{Choice}
-use Rattle.hw_lines.specs.declared.nets.Choice.TheVariants.{ToState, ToEnd, Set, NextValue}
+use Rattle.hw_lines.specs.declared.nets.Choice.TheVariants.{ToState, ToEnd, Set, NextValue, Clear}
 use Rattle.hw_lines.specs.declared.nets.Net.TheVariants.{State as StateNet, Ended, Variable, Has as HasNet, Rdy, Ack, Datum, Eot as EotNet, At, Next, Value}
 use Rattle.hw_lines.specs.Nets.{name, front, value_front}
 use Rattle.hw_lines.specs.Shape.{Shape, kinds_in, array_cells, register_kind, state_count, state_bits, form_at}
 use Rattle.hw_lines.specs.States.{net, number_of, next_of, next_wires, next_atom, value_wires, value_of, into_of, counting, more_wires}
-use Rattle.hw_lines.specs.Effects.{effect, entries}
-use Rattle.hw_lines.specs.Texts.{variable, array, any, pick, root, variable_choices, array_choices, register_block, first_value, variable_block, array_block, blocks, task_elements}
+use Rattle.hw_lines.specs.Effects.{effect, entries, first_value}
+use Rattle.hw_lines.specs.Texts.{variable, array, any, pick, root, variable_choices, array_choices, register_block, variable_block, array_block, blocks, task_elements, reset_of}
 use Rattle.hw_task_laws.specs.acts.Reads.{IsIn}
 use Rattle.hw_task_laws.specs.acts.Moves.{place_after, set_next, StateMoves, StateGoesOn, RegistersGoOn}
 use Rattle.hw_lines.proofs.Members.{all, held_in, choices_in, blocks_in, next_in, more_in, among_left, among_right, among_each}
@@ -52,7 +53,7 @@ use Rattle.hw_task_laws.proofs.wires.Computed.{choose_bit}
 use Rattle.hw_task_laws.proofs.acts.Answered.{value_shown}
 
 -- the only entry that a state gives
-alone : (es : List Entry) (e d : Entry) → es ≡ e ∷ [] → Has es d → e ≡ d
+pub alone : (es : List Entry) (e d : Entry) → es ≡ e ∷ [] → Has es d → e ≡ d
 alone es e d is h = only (subst (λ l. Has l d) is h) where
   only : Has (e ∷ []) d → e ≡ d
   only (inl s) = s
@@ -158,15 +159,8 @@ state_moves S title run f R σ n k is = moves S title run f R σ n k is
 same_name : (x : Name) → bytes_eq x x ≡ true
 same_name x = (bytes_decides x x).1 refl
 
-put_here : (x : Name) (v : ℕ) (c : Cycle) → (put x v c).net x ≡ v
-put_here x v c = ap (λ b. cond b v (c.net x)) (same_name x)
-
-set_net : (s : Sizes) (old : Cycle) (x : Name) (first : Atom) (b : Bool) → (run_steps s old (b ∷ []) (NonblockingAssign x first ∷ End ∷ []) old).net x ≡ cond b (atom_value old first) (old.net x)
-set_net s old x first true = put_here x (atom_value old first) old
-set_net s old x first false = refl
-
-assigned : (x : Name) (first : Atom) (more : List Step) → list_any (step_assigns x) (If rst ∷ NonblockingAssign x first ∷ more) ≡ true
-assigned x first more = ap (λ b. b || list_any (step_assigns x) more) (same_name x)
+assigned : (reset x : Name) (first : Atom) (more : List Step) → list_any (step_assigns x) (If reset ∷ NonblockingAssign x first ∷ more) ≡ true
+assigned reset x first more = ap (λ b. b || list_any (step_assigns x) more) (same_name x)
 
 module _ (S : Shape) (title : Name) (run : ℕ → Cycle) (f : Follows (built title (task_elements S)) run) (ms : List ModuleTree) (fit : AreFitting ms (task_elements S)) (n : ℕ) where
   abbrev m : ModuleTree
@@ -175,9 +169,10 @@ module _ (S : Shape) (title : Name) (run : ℕ → Cycle) (f : Follows (built ti
   register_line : (w : ℕ) (x : Name) → Has (all S) (Register w x) → Has m.items (Reg w x)
   register_line w x h = line_there title (task_elements S) (Register w x) (Reg w x) h (inl refl)
 
-  own : (w : ℕ) (x : Name) (first : Atom) (more : List Step) → Has (all S) (Register w x) → Has (all S) (Block (If rst ∷ NonblockingAssign x first ∷ more)) → IsOwnBlock m.items x (If rst ∷ NonblockingAssign x first ∷ more)
-  own w x first more h b =
-      block_is_own ms title (task_elements S) fit (If rst ∷ NonblockingAssign x first ∷ more) x b (has_flat stored_names (task_elements S) (Register w x) x h (inl refl)) (assigned x first more)
+  own : (w : ℕ) (reset x : Name) (first : Atom) (more : List Step) → Has (all S) (Register w x) → Has (all S) (Block (If reset ∷ NonblockingAssign x first ∷ more))
+      → IsOwnBlock m.items x (If reset ∷ NonblockingAssign x first ∷ more)
+  own w reset x first more h b =
+      block_is_own ms title (task_elements S) fit (If reset ∷ NonblockingAssign x first ∷ more) x b (has_flat stored_names (task_elements S) (Register w x) x h (inl refl)) (assigned reset x first more)
 
   state_there : Has (all S) (Register (state_bits S) (name StateNet))
   state_there = held_in S (Register (state_bits S) (name StateNet)) (inl refl)
@@ -188,7 +183,7 @@ module _ (S : Shape) (title : Name) (run : ℕ → Cycle) (f : Follows (built ti
   state_next : (run (suc n)).net (name StateNet) ≡ cond (eqb ((run n).net rst) 1) 0 ((run n).net (root S ToState))
   state_next =
       reset_is m run f (state_bits S) (name StateNet) (Literal (state_bits S) 0) (Net (root S ToState)) (register_line (state_bits S) (name StateNet) state_there)
-      (own (state_bits S) (name StateNet) (Literal (state_bits S) 0) (Else ∷ NonblockingAssign (name StateNet) (Net (root S ToState)) ∷ End ∷ []) state_there state_block) n
+      (own (state_bits S) rst (name StateNet) (Literal (state_bits S) 0) (Else ∷ NonblockingAssign (name StateNet) (Net (root S ToState)) ∷ End ∷ []) state_there state_block) n
 
   variables : IsAmong (each (variable S) (length S.registers)) (all S)
   variables =
@@ -202,25 +197,28 @@ module _ (S : Shape) (title : Name) (run : ℕ → Cycle) (f : Follows (built ti
   variable_blocks =
       among_left (each (variable_block S) (length S.registers)) (each (array_block S) (length S.arrays)) (all S)
       (among_right
-      (Block (reset_or (name StateNet) (Literal (state_bits S) 0) (Net (root S ToState))) ∷ Block (register_block (name Ended) (Literal 1 0) (entries S ToEnd) (root S ToEnd) (Literal 1 1)) ∷ [])
+      (Block (reset_or (name StateNet) (Literal (state_bits S) 0) (Net (root S ToState))) ∷ Block (register_block rst (name Ended) (Literal 1 0) (entries S ToEnd) (root S ToEnd) (Literal 1 1)) ∷ [])
       (each (variable_block S) (length S.registers) ++ each (array_block S) (length S.arrays)) (all S) (blocks_in S))
 
-  block_there : (r : ℕ) → r < length S.registers → Has (all S) (Block (register_block (name (Variable r)) (first_value S r) (entries S (Set r)) (root S (Set r)) (Net (root S (NextValue r)))))
-  block_there r h =
-      among_each (variable_block S) (length S.registers) r (all S) h variable_blocks (Block (register_block (name (Variable r)) (first_value S r) (entries S (Set r)) (root S (Set r)) (Net (root S (NextValue r))))) (inl refl)
+  abbrev register_steps : ℕ → List Step
+  register_steps r = register_block (reset_of r (entries S (Clear r))) (name (Variable r)) (first_value S r) (entries S (Set r)) (root S (Set r)) (Net (root S (NextValue r)))
+
+  block_there : (r : ℕ) → r < length S.registers → Has (all S) (Block (register_steps r))
+  block_there r h = among_each (variable_block S) (length S.registers) r (all S) h variable_blocks (Block (register_steps r)) (inl refl)
 
   -- a register with its block
-  goes_on : (w : ℕ) (x : Name) (first : Atom) (es : List Entry) (set next : Name) → Has (all S) (Register w x) → Has (all S) (Block (register_block x first es set (Net next)))
-      → (run (suc n)).net x ≡ set_next es (run n) x first set next
-  goes_on w x first [] set next h b =
-      register_takes m run f w x (set_block rst x first) (register_line w x h) (own w x first (End ∷ []) h b) n ∙ set_net f.sizes (run n) x first (eqb ((run n).net rst) 1)
-  goes_on w x first (e ∷ es) set next h b =
-      reset_set_is m run f w x first set (Net next) (register_line w x h) (own w x first (Else ∷ If set ∷ NonblockingAssign x (Net next) ∷ End ∷ End ∷ []) h b) n
+  goes_on : (w : ℕ) (reset x : Name) (first : Atom) (es : List Entry) (set next : Name) → Has (all S) (Register w x) → Has (all S) (Block (register_block reset x first es set (Net next)))
+      → (run (suc n)).net x ≡ set_next es (run n) reset x first set next
+  goes_on w reset x first [] set next h b =
+      register_takes m run f w x (set_block reset x first) (register_line w x h) (own w reset x first (End ∷ []) h b) n ∙ set_leaves f.sizes (run n) (run n) reset x first
+  goes_on w reset x first (e ∷ es) set next h b =
+      register_takes m run f w x (reset_block reset set x first (Net next)) (register_line w x h) (own w reset x first (Else ∷ If set ∷ NonblockingAssign x (Net next) ∷ End ∷ End ∷ []) h b) n
+      ∙ reset_leaves f.sizes (run n) (run n) reset set x first (Net next)
 
 pub state_goes_on : StateGoesOn
 state_goes_on S title run f ms fit n = state_next S title run f ms fit n
 
 pub registers_go_on : RegistersGoOn
 registers_go_on S title run f ms fit n r h =
-    goes_on S title run f ms fit n (bits_of (register_kind S r)) (name (Variable r)) (first_value S r) (entries S (Set r)) (root S (Set r)) (root S (NextValue r))
+    goes_on S title run f ms fit n (bits_of (register_kind S r)) (reset_of r (entries S (Clear r))) (name (Variable r)) (first_value S r) (entries S (Set r)) (root S (Set r)) (root S (NextValue r))
     (variable_there S title run f ms fit n r h) (block_there S title run f ms fit n r h)

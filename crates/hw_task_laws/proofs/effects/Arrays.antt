@@ -17,6 +17,7 @@ use Rattle.vlog_tree.specs.declared.tree.Step.{Step}
 use Rattle.vlog_tree.specs.declared.tree.Item.TheVariants.{Memory as MemoryLine}
 use Rattle.vlog_tree.specs.Form.{ModuleTree}
 use Rattle.tapa_base.specs.Lists.{Has}
+use Rattle.vlog_tree.specs.Labels.{rst}
 use Rattle.vlog_tree.specs.Table.{Name, one_if}
 use Rattle.vlog_tree.specs.Cycle.{Cycle, Follows, atom_value}
 use Rattle.vlog_tree.specs.V4.{step_assigns}
@@ -38,6 +39,7 @@ use Rattle.task_fsm.specs.MachineKinds.{IsOfKind, IsTypedState}
 use Rattle.task_fsm.specs.Ranges.{IsInRange}
 use Rattle.task_fsm.specs.Run.{value, step, put_into, is_last, clear_step}
 use Rattle.hw_lines.specs.declared.nets.Choice.TheVariants.{ToState, ToEnd, Stores, WriteIndex, WriteData}
+use Rattle.hw_lines.specs.declared.nets.Net.{Net}
 use Rattle.hw_lines.specs.declared.nets.Net.TheVariants.{State as StateNet, Ended, Variable, Array, At, Inside, Into}
 use Rattle.hw_lines.specs.Nets.{name}
 use Rattle.hw_lines.specs.Shape.{Shape, kinds_in, array_kind, array_cells, index_bits, register_kind, state_count, state_bits, form_at}
@@ -163,7 +165,7 @@ module _ (S : Shape) (title : Name) (run : ℕ → Cycle) (f : Follows (built ti
   block_there e h =
       among_each (array_block S) (length S.arrays) a (all S) there
       (among_right
-      ((Block (reset_or (name StateNet) (Literal (state_bits S) 0) (NetAtom (root S ToState))) ∷ Block (register_block (name Ended) (Literal 1 0) (entries S ToEnd) (root S ToEnd) (Literal 1 1)) ∷ [])
+      ((Block (reset_or (name StateNet) (Literal (state_bits S) 0) (NetAtom (root S ToState))) ∷ Block (register_block rst (name Ended) (Literal 1 0) (entries S ToEnd) (root S ToEnd) (Literal 1 1)) ∷ [])
       ++ each (variable_block S) (length S.registers))
       (each (array_block S) (length S.arrays)) (all S) (blocks_in S))
       (Block block) (subst (λ es. Has es (Block block)) (sym (not_none (entries S (Stores a)) e (Block block ∷ []) h)) (inl refl))
@@ -216,7 +218,7 @@ module _ (S : Shape) (title : Name) (run : ℕ → Cycle) (f : Follows (built ti
     off e h clear = left S title run f ms fit few n a i there inside (λ d g. clear) ∙ old_is
 
     -- a state that stores elsewhere or nowhere
-    kept : places S a k (form_at S k) ≡ [] → (run (suc n)).cell (name (Array a)) i ≡ cell σ.arrays a i
+    kept : places S (Into k) a k (form_at S k) ≡ [] → (run (suc n)).cell (name (Array a)) i ≡ cell σ.arrays a i
     kept none =
         left S title run f ms fit few n a i there inside
         (λ d h. none_clear S title run f n k is.shows.here is.shows.low (Stores a) (any_among S title run f ms fit few n a i there inside) (some (entries S (Stores a)) d h) none)
@@ -229,24 +231,30 @@ module _ (S : Shape) (title : Name) (run : ℕ → Cycle) (f : Follows (built ti
     low_row = subst (λ z. a < z) (sym is.sizes.arrays) there
 
     -- one that stores the value v at index j of array y
-    module _ (y w j v : ℕ) (p q : Atom) (placed : places S a k (form_at S k) ≡ at y a (entry (Into k) (low_bits (index_bits S a) p))) (filled : contents S a k (form_at S k) ≡ at y a (entry (Into k) q))
+    module _ (y w j v : ℕ) (p q : Atom) (placed : (x : Net) → places S x a k (form_at S k) ≡ at y a (entry x (low_bits (index_bits S a) p))) (filled : contents S a k (form_at S k) ≡ at y a (entry (At k) q))
         (shown : Shows f.sizes (run n) p w j) (into : y ≡ a → (run n).net (name (Into k)) ≡ one_if (nat_lt j (array_cells S a))) (valued : atom_value (run n) q ≡ v) where
-      abbrev place_entry : Entry
-      place_entry = record { condition = name (Into k); value = low_bits (index_bits S a) p }
+      abbrev place_entry : Net → Entry
+      place_entry x = record { condition = name x; value = low_bits (index_bits S a) p }
 
       abbrev content_entry : Entry
-      content_entry = record { condition = name (Into k); value = q }
+      content_entry = record { condition = name (At k); value = q }
 
       here_is : y ≡ a → (b : Bool) → nat_lt j (array_cells S a) ≡ b → (run (suc n)).cell (name (Array a)) i ≡ cell (with_cell σ.arrays a j v) a i
       here_is e b is_b = by_bit b is_b where
-        only_place : effect S (WriteIndex a) k ≡ place_entry ∷ []
-        only_place = placed ∙ at_same y a (entry (Into k) (low_bits (index_bits S a) p)) e
+        only_store : effect S (Stores a) k ≡ place_entry (Into k) ∷ []
+        only_store = placed (Into k) ∙ at_same y a (entry (Into k) (low_bits (index_bits S a) p)) e
+
+        only_place : effect S (WriteIndex a) k ≡ place_entry (At k) ∷ []
+        only_place = placed (At k) ∙ at_same y a (entry (At k) (low_bits (index_bits S a) p)) e
 
         only_content : effect S (WriteData a) k ≡ content_entry ∷ []
-        only_content = filled ∙ at_same y a (entry (Into k) q) e
+        only_content = filled ∙ at_same y a (entry (At k) q) e
 
-        has_one : Has (entries S (Stores a)) place_entry
-        has_one = has_each (effect S (Stores a)) (state_count S) k place_entry is.shows.low (subst (λ l. Has l place_entry) (sym only_place) (inl refl))
+        has_one : Has (entries S (Stores a)) (place_entry (Into k))
+        has_one = has_each (effect S (Stores a)) (state_count S) k (place_entry (Into k)) is.shows.low (subst (λ l. Has l (place_entry (Into k))) (sym only_store) (inl refl))
+
+        here_on : (run n).net (name (At k)) ≡ 1
+        here_on = at_here S title run f n k is.shows.low is.shows.here
 
         by_bit : (b : Bool) → nat_lt j (array_cells S a) ≡ b → (run (suc n)).cell (name (Array a)) i ≡ cell (with_cell σ.arrays a j v) a i
         by_bit true h =
@@ -256,13 +264,13 @@ module _ (S : Shape) (title : Name) (run : ℕ → Cycle) (f : Follows (built ti
             let some : 0 < index_bits S a = has_bits (array_cells S a - 1) (omega (arith, most)) in
             let small : j < 2 ^ index_bits S a = omega (arith, low, top) in
             let on : (run n).net (name (Into k)) ≡ 1 = into e ∙ ap one_if h in
-            let set : (run n).net (root S (Stores a)) ≡ 1 = only_set S title run f n k is.shows.here is.shows.low (Stores a) (any_among S title run f ms fit few n a i there inside) place_entry only_place on in
+            let set : (run n).net (root S (Stores a)) ≡ 1 = only_set S title run f n k is.shows.here is.shows.low (Stores a) (any_among S title run f ms fit few n a i there inside) (place_entry (Into k)) only_store on in
             let index : (run n).net (root S (WriteIndex a)) ≡ j =
-            only_picked S title run f n k is.shows.here is.shows.low (WriteIndex a) (index_bits S a) (place_among S title run f ms fit few n a i there inside) place_entry only_place on
+            only_picked S title run f n k is.shows.here is.shows.low (WriteIndex a) (index_bits S a) (place_among S title run f ms fit few n a i there inside) (place_entry (At k)) only_place here_on
             ∙ low_bits_is f.sizes (run n) w j (index_bits S a) p shown some ∙ mod-eq_of_lt small in
-            let got : (run n).net (root S (WriteData a)) ≡ v = only_picked S title run f n k is.shows.here is.shows.low (WriteData a) (bits_of (array_kind S a)) (content_among S title run f ms fit few n a i there inside) content_entry only_content on ∙ valued in
+            let got : (run n).net (root S (WriteData a)) ≡ v = only_picked S title run f n k is.shows.here is.shows.low (WriteData a) (bits_of (array_kind S a)) (content_among S title run f ms fit few n a i there inside) content_entry only_content here_on ∙ valued in
             let row : j < cells_of σ a = subst (λ z. j < z) (sym (is.sizes.rows a there)) low in
-            stores S title run f ms fit few n a i there inside place_entry has_one
+            stores S title run f ms fit few n a i there inside (place_entry (Into k)) has_one
             ∙ ap (λ z. cond (eqb z 1 && eqb i ((run n).net (root S (WriteIndex a))) && ltb ((run n).net (root S (WriteIndex a))) (f.sizes.cells (name (Array a)))) ((run n).net (root S (WriteData a))) old) set
             ∙ ap (λ z. cond (true && eqb i z && ltb z (f.sizes.cells (name (Array a)))) ((run n).net (root S (WriteData a))) old) index
             ∙ ap (λ z. cond (true && eqb i j && ltb j z) ((run n).net (root S (WriteData a))) old) (cells_are S title run f ms fit few n a i there inside) ∙ ap (λ z. cond (true && eqb i j && z) ((run n).net (root S (WriteData a))) old) h
@@ -271,16 +279,16 @@ module _ (S : Shape) (title : Name) (run : ℕ → Cycle) (f : Follows (built ti
         by_bit false h =
             let past : array_cells S a ≤ j = ltb-false j (array_cells S a) h in
             let row : cells_of σ a ≤ j = subst (λ z. z ≤ j) (sym (is.sizes.rows a there)) past in
-            off place_entry has_one (only_clear S title run f n k is.shows.here is.shows.low (Stores a) (any_among S title run f ms fit few n a i there inside) place_entry only_place (into e ∙ ap one_if h)) ∙ cell_past σ.arrays a i j v low_row row
+            off (place_entry (Into k)) has_one (only_clear S title run f n k is.shows.here is.shows.low (Stores a) (any_among S title run f ms fit few n a i there inside) (place_entry (Into k)) only_store (into e ∙ ap one_if h)) ∙ cell_past σ.arrays a i j v low_row row
 
       stored_there : (run (suc n)).cell (name (Array a)) i ≡ cell (with_cell σ.arrays y j v) a i
       stored_there =
           ⊎_elim (λ (e : y ≡ a). here_is e (nat_lt j (array_cells S a)) refl ∙ ap (λ z. cell (with_cell σ.arrays z j v) a i) (sym e))
-          (λ (e : y ≡ a → ⊥). kept (placed ∙ at_other y a (entry (Into k) (low_bits (index_bits S a) p)) e) ∙ cell_other σ.arrays y a i j v e) (cases_eq y a)
+          (λ (e : y ≡ a → ⊥). kept (placed (Into k) ∙ at_other y a (entry (Into k) (low_bits (index_bits S a) p)) e) ∙ cell_other σ.arrays y a i j v e) (cases_eq y a)
 
-    stays : (g : StateForm) → form_at S k ≡ g → places S a k g ≡ [] → (held_after (step g k σ) σ (found_by S run n (step g k σ))).arrays ≡ σ.arrays
+    stays : (g : StateForm) → form_at S k ≡ g → places S (Into k) a k g ≡ [] → (held_after (step g k σ) σ (found_by S run n (step g k σ))).arrays ≡ σ.arrays
         → (run (suc n)).cell (name (Array a)) i ≡ cell (held_by S run n σ (step g k σ)).arrays a i
-    stays g same none e = kept (ap (places S a k) same ∙ none) ∙ same_arrays (allowed S run n (step g k σ)) (held_after (step g k σ) σ (found_by S run n (step g k σ))) σ a i e
+    stays g same none e = kept (ap (places S (Into k) a k) same ∙ none) ∙ same_arrays (allowed S run n (step g k σ)) (held_after (step g k σ) σ (found_by S run n (step g k σ))) σ a i e
 
     cell_at : (y : ℕ) (j e : Expression) (next : ℕ) → form_at S k ≡ CellAt y j e next → (run (suc n)).cell (name (Array a)) i ≡ cell (with_cell σ.arrays y (value j σ) (value e σ)) a i
     cell_at y j e next same =
@@ -288,7 +296,7 @@ module _ (S : Shape) (title : Name) (run : ℕ → Cycle) (f : Follows (built ti
         let t' : IsOfKind (kinds_in S) (index_of (form_at S k)) U64 = subst (λ z. IsOfKind (kinds_in S) (index_of z) U64) (sym same) t.0 in
         let shown : Shows f.sizes (run n) (index_wires S k).atom 64 (value j σ) =
         subst (λ z. Shows f.sizes (run n) (index_wires S k).atom 64 (value (index_of z) σ)) same (index_shown S title run f n (ranges_in S) σ k is.shows t') in
-        stored_there y 64 (value j σ) (value e σ) (index_wires S k).atom (value_wires S k).atom (ap (places S a k) same) (ap (contents S a k) same) shown
+        stored_there y 64 (value j σ) (value e σ) (index_wires S k).atom (value_wires S k).atom (λ x. ap (places S x a k) same) (ap (contents S a k) same) shown
         (λ h. into_is (CellAt y j e next) same y (index_wires S k).atom 64 (value j σ) [] refl shown.value ∙ ap (λ z. one_if (nat_lt (value j σ) (array_cells S z))) h)
         ((value_shown S title run f n (ranges_in S) σ k is.shows).value ∙ ap (λ z. value (value_of z) σ) same)
 
@@ -296,7 +304,7 @@ module _ (S : Shape) (title : Name) (run : ℕ → Cycle) (f : Follows (built ti
     clear_at y c next same =
         let g : IsInRange (ranges_in S) (ClearAt y c next) = subst (IsInRange (ranges_in S)) same is.shows.ranged in
         let shown = is.shows.registers c g.1 in
-        stored_there y (bits_of (register_kind S c)) (slice_index σ.vars c) 0 (net (Variable c)) (Literal (bits_of (array_kind S a)) 0) (ap (places S a k) same) (ap (contents S a k) same) shown
+        stored_there y (bits_of (register_kind S c)) (slice_index σ.vars c) 0 (net (Variable c)) (Literal (bits_of (array_kind S a)) 0) (λ x. ap (places S x a k) same) (ap (contents S a k) same) shown
         (λ h. into_is (ClearAt y c next) same y (net (Variable c)) 32 (slice_index σ.vars c) (counting S k y c) refl shown.value ∙ ap (λ z. one_if (nat_lt (slice_index σ.vars c) (array_cells S z))) h) refl
 
     array_is : (g : StateForm) → form_at S k ≡ g → (run (suc n)).cell (name (Array a)) i ≡ cell (held_by S run n σ (step g k σ)).arrays a i

@@ -9,6 +9,7 @@ use Rattle.vlog_tree.specs.declared.tree.Atom.{Atom}
 use Rattle.vlog_tree.specs.declared.tree.Atom.TheVariants.{Net as NetAtom, Literal}
 use Rattle.vlog_tree.specs.declared.tree.Value.TheVariants.{Plain}
 use Rattle.vlog_tree.specs.declared.tree.Step.{Step}
+use Rattle.vlog_tree.specs.Labels.{rst}
 use Rattle.vlog_tree.specs.Table.{Name, one_if}
 use Rattle.vlog_tree.specs.V4.{is_block_of}
 use Rattle.vlog_module_laws.proofs.Lists.{count_cons}
@@ -18,15 +19,15 @@ use Rattle.hw_build.proofs.Tables.{items_of_all}
 use Rattle.hw_build.proofs.Drivers.{all_blocks}
 use Rattle.hw_build.specs.Scope.{each}
 use Rattle.hw_build.specs.Choices.{Entry}
-use Rattle.hw_lines.specs.declared.nets.Choice.TheVariants.{ToState, ToEnd, Set, NextValue, Stores, WriteIndex, WriteData, Puts, Token, Takes, Address, StoreEnable, Data}
+use Rattle.hw_lines.specs.declared.nets.Choice.TheVariants.{ToState, ToEnd, Set, NextValue, Stores, WriteIndex, WriteData, Puts, Token, Takes, Address, StoreEnable, Data, Clear}
 use Rattle.hw_lines.specs.declared.nets.Net.{Net}
 use Rattle.hw_lines.specs.declared.nets.Net.TheVariants.{State, Ended, Done, Variable, Array}
 use Rattle.hw_lines.specs.Nets.{name, numbers}
 use Rattle.hw_lines.specs.Names.{AreSmall}
 use Rattle.hw_lines.specs.Shape.{Shape, stream_kind, memory_kind, state_count, state_bits}
 use Rattle.hw_lines.specs.States.{net, decoded, state_wires}
-use Rattle.hw_lines.specs.Effects.{entries}
-use Rattle.hw_lines.specs.Texts.{scalar_port, writes, stream_inputs, memory_inputs, inputs, held, offered, unless_none, reads_of, read_numbers, any, pick, root, choices, written, taken, stream_outputs, memory_outputs, outputs, first_value, register_block, variable_block, array_block, blocks, task_elements}
+use Rattle.hw_lines.specs.Effects.{entries, first_value}
+use Rattle.hw_lines.specs.Texts.{scalar_port, writes, stream_inputs, memory_inputs, inputs, held, offered, unless_none, reads_of, read_numbers, any, pick, root, choices, written, taken, stream_outputs, memory_outputs, outputs, register_block, variable_block, array_block, blocks, task_elements, reset_of}
 use Rattle.hw_lines.proofs.Names.{names_tell}
 use Rattle.hw_task_laws.proofs.names.Empty.{GiveNone, both_none, more_none, each_none, by_end_none, any_none, pick_none, decodes_none, offers_none, held_none, reads_none, states_none, choices_none}
 use Rattle.hw_task_laws.specs.effects.Held.{HasFew}
@@ -127,15 +128,16 @@ module _ (S : Shape) (few : HasFew S) (a : ℕ) (there : a < length S.arrays) (n
   small : AreSmall (numbers (Array a))
   small = let h = few.arrays in (omega (arith, h, there), tt)
 
-  block_off : (y : Name) (first : Atom) (es : List Entry) (set : Name) (next : Atom) → bytes_eq y x ≡ false → assigns x (Block (register_block y first es set next)) ≡ false
-  block_off y first [] set next e = ap (λ b. b || false) e
-  block_off y first (d ∷ es) set next e = ap (λ b. b || (b || false)) e
+  block_off : (reset y : Name) (first : Atom) (es : List Entry) (set : Name) (next : Atom) → bytes_eq y x ≡ false → assigns x (Block (register_block reset y first es set next)) ≡ false
+  block_off reset y first [] set next e = ap (λ b. b || false) e
+  block_off reset y first (d ∷ es) set next e = ap (λ b. b || (b || false)) e
 
   off_variable : (r : ℕ) → r < length S.registers → Off x (variable_block S r)
   off_variable r l =
       let h = few.registers in
-      off_one x (Block (register_block (name (Variable r)) (first_value S r) (entries S (Set r)) (root S (Set r)) (NetAtom (root S (NextValue r)))))
-      (block_off (name (Variable r)) (first_value S r) (entries S (Set r)) (root S (Set r)) (NetAtom (root S (NextValue r))) (other_name (Variable r) (Array a) (omega (arith, h, l), tt) small (λ e. cc)))
+      let reset = reset_of r (entries S (Clear r)) in
+      off_one x (Block (register_block reset (name (Variable r)) (first_value S r) (entries S (Set r)) (root S (Set r)) (NetAtom (root S (NextValue r)))))
+      (block_off reset (name (Variable r)) (first_value S r) (entries S (Set r)) (root S (Set r)) (NetAtom (root S (NextValue r))) (other_name (Variable r) (Array a) (omega (arith, h, l), tt) small (λ e. cc)))
 
   abbrev array_steps : ℕ → List Step
   array_steps b = stored (name (Array b)) (root S (Stores b)) (root S (WriteIndex b)) (NetAtom (root S (WriteData b)))
@@ -157,14 +159,14 @@ module _ (S : Shape) (few : HasFew S) (a : ℕ) (there : a < length S.arrays) (n
   state_block = Block (reset_or (name State) (Literal (state_bits S) 0) (NetAtom (root S ToState)))
 
   abbrev end_block : Element
-  end_block = Block (register_block (name Ended) (Literal 1 0) (entries S ToEnd) (root S ToEnd) (Literal 1 1))
+  end_block = Block (register_block rst (name Ended) (Literal 1 0) (entries S ToEnd) (root S ToEnd) (Literal 1 1))
 
   off_blocks : Off x (blocks S)
   off_blocks =
       both_none (given x) ((state_block ∷ end_block ∷ []) ++ each (variable_block S) (length S.registers)) (each (array_block S) (length S.arrays))
       (both_none (given x) (state_block ∷ end_block ∷ []) (each (variable_block S) (length S.registers))
       (both_none (given x) (state_block ∷ []) (end_block ∷ []) (off_one x state_block (ap (λ b. b || (b || false)) (other_name State (Array a) tt small (λ e. cc))))
-      (off_one x end_block (block_off (name Ended) (Literal 1 0) (entries S ToEnd) (root S ToEnd) (Literal 1 1) (other_name Ended (Array a) tt small (λ e. cc)))))
+      (off_one x end_block (block_off rst (name Ended) (Literal 1 0) (entries S ToEnd) (root S ToEnd) (Literal 1 1) (other_name Ended (Array a) tt small (λ e. cc)))))
       (off_each x (variable_block S) (length S.registers) off_variable))
       (off_each x (array_block S) (length S.arrays) off_array)
 

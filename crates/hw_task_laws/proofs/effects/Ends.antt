@@ -61,21 +61,21 @@ module _ (S : Shape) (title : Name) (run : ℕ → Cycle) (f : Follows (built ti
   ended_line : Has (built title (task_elements S)).items (Reg 1 (name Ended))
   ended_line = line_there title (task_elements S) (Register 1 (name Ended)) (Reg 1 (name Ended)) ended_there (inl refl)
 
-  block_there : Has (all S) (Block (register_block (name Ended) (Literal 1 0) (entries S ToEnd) (root S ToEnd) (Literal 1 1)))
-  block_there = blocks_in S (Block (register_block (name Ended) (Literal 1 0) (entries S ToEnd) (root S ToEnd) (Literal 1 1))) (inr (inl refl))
+  block_there : Has (all S) (Block (register_block rst (name Ended) (Literal 1 0) (entries S ToEnd) (root S ToEnd) (Literal 1 1)))
+  block_there = blocks_in S (Block (register_block rst (name Ended) (Literal 1 0) (entries S ToEnd) (root S ToEnd) (Literal 1 1))) (inr (inl refl))
 
   own_block : (b : List Step) → Has (all S) (Block b) → list_any (step_assigns (name Ended)) b ≡ true → IsOwnBlock (built title (task_elements S)).items (name Ended) b
   own_block b h e = block_is_own ms title (task_elements S) fit b (name Ended) h (has_flat stored_names (task_elements S) (Register 1 (name Ended)) (name Ended) ended_there (inl refl)) e
 
   -- what it takes, with its first value and without
-  takes_by : (es : List Entry) → Has (all S) (Block (register_block (name Ended) (Literal 1 0) es (root S ToEnd) (Literal 1 1)))
+  takes_by : (es : List Entry) → Has (all S) (Block (register_block rst (name Ended) (Literal 1 0) es (root S ToEnd) (Literal 1 1)))
       → (run (suc n)).net (name Ended) ≡ cond (eqb ((run n).net rst) 1) 0 (set_or es)
   takes_by [] h =
       register_takes (built title (task_elements S)) run f 1 (name Ended) (set_block rst (name Ended) (Literal 1 0)) ended_line (own_block (set_block rst (name Ended) (Literal 1 0)) h (assigned (name Ended) (Literal 1 0) (End ∷ []))) n
       ∙ set_leaves f.sizes (run n) (run n) rst (name Ended) (Literal 1 0)
   takes_by (e ∷ es) h =
       reset_set_is (built title (task_elements S)) run f 1 (name Ended) (Literal 1 0) (root S ToEnd) (Literal 1 1) ended_line
-      (own_block (register_block (name Ended) (Literal 1 0) (e ∷ es) (root S ToEnd) (Literal 1 1)) h (assigned (name Ended) (Literal 1 0) (Else ∷ If (root S ToEnd) ∷ NonblockingAssign (name Ended) (Literal 1 1) ∷ End ∷ End ∷ []))) n
+      (own_block (register_block rst (name Ended) (Literal 1 0) (e ∷ es) (root S ToEnd) (Literal 1 1)) h (assigned (name Ended) (Literal 1 0) (Else ∷ If (root S ToEnd) ∷ NonblockingAssign (name Ended) (Literal 1 1) ∷ End ∷ End ∷ []))) n
 
   pub takes : (run (suc n)).net (name Ended) ≡ cond (eqb ((run n).net rst) 1) 0 (set_or (entries S ToEnd))
   takes = takes_by (entries S ToEnd) block_there

@@ -1,6 +1,7 @@
 -- What registers have in the next cycle.
-use Rattle.std.proofs.Common.{◌≡◌, ℕ, suc, ◌+◌, ◌-◌, ◌/◌, ◌%◌, ◌^◌, ◌<◌, ◌≤◌, Bool, true, false, cond, eqb, not, ◌&&◌, List, [], ◌∷◌, ◌++◌, length, Option, Some, None, inl, inr, refl, sym, ap, subst, ◌∙◌, arith, ⊎_elim}
-use Rattle.std.specs.Prelude.{nat_lt, slice_index, slice_set}
+use Rattle.std.proofs.Common.{eqb-true, ◌≡◌, ℕ, suc, ◌+◌, ◌-◌, ◌/◌, ◌%◌, ◌^◌, ◌<◌, ◌≤◌, Bool, true, false, cond, eqb, not, ◌&&◌, List, [], ◌∷◌, ◌++◌, length, Option, Some, None, inl, inr, refl, sym, ap, subst, ◌∙◌, arith, ⊎_elim}
+use Rattle.std.specs.Prelude.{nat_lt, slice_index, slice_set, bit_or}
+use Rattle.std.specs.Int.Bits.{or_zero_l}
 use Rattle.std.proofs.Math.Nat.{mod-eq_of_lt}
 use Rattle.std.proofs.lemmas.Bool.{cases_eq, ltb-true}
 use Rattle.std.proofs.lemmas.List.{get_or-set_same, get_or-set_other}
@@ -11,8 +12,8 @@ use Rattle.kahn_model.specs.declared.tick.StreamOperation.TheVariants.{Read, Pee
 use Rattle.kahn_model.specs.Behavior.{Offer, on_offer}
 use Rattle.kahn_model.specs.Trace.{State, cell, set_var}
 use Rattle.vlog_tree.specs.declared.tree.Atom.{Atom}
-use Rattle.vlog_tree.specs.declared.tree.Atom.TheVariants.{Literal}
-use Rattle.vlog_tree.specs.declared.tree.BinaryOp.TheVariants.{Plus, Less}
+use Rattle.vlog_tree.specs.declared.tree.Atom.TheVariants.{Net as NetAtom, Part, Literal}
+use Rattle.vlog_tree.specs.declared.tree.BinaryOp.TheVariants.{Plus, Less, Or}
 use Rattle.vlog_tree.specs.declared.tree.Value.{Value}
 use Rattle.vlog_tree.specs.declared.tree.Value.TheVariants.{Binary, Choose}
 use Rattle.vlog_tree.specs.Form.{ModuleTree}
@@ -21,34 +22,34 @@ use Rattle.vlog_tree.specs.Labels.{rst}
 use Rattle.vlog_tree.specs.Table.{Name, one_if}
 use Rattle.vlog_tree.specs.Cycle.{Cycle, Follows, atom_value}
 use Rattle.tapa_base.proofs.Lists.{has_right}
-use Rattle.hw_build.specs.Elements.{Wire, built}
+use Rattle.hw_build.specs.Elements.{Element, Wire, built}
 use Rattle.hw_build.specs.Fitting.{AreFitting}
 use Rattle.hw_build.proofs.Driven.{wire_driven}
 use Rattle.hw_build.specs.Scope.{each}
-use Rattle.hw_build.specs.Choices.{Entry}
+use Rattle.hw_build.specs.Choices.{Entry, choice}
 use Rattle.hw_build.specs.Fits.{IsAmong}
 use Rattle.hw_build.proofs.Parts.{has_each}
 use Rattle.task_fsm.specs.Machine.{Expression, StateForm, SetAt, CellAt, TestAt, ReadAt, WriteAt, PeekAt, EotAt, OpenAt, CloseAt, LoadAt, StoreAt, ClearAt, EndAt, TrapAt}
 use Rattle.task_fsm.specs.MachineKinds.{IsTypedState}
 use Rattle.task_fsm.specs.Ranges.{IsInRange}
 use Rattle.task_fsm.specs.Run.{value, step, put_into, is_last, clear_step}
-use Rattle.hw_lines.specs.declared.nets.Choice.TheVariants.{ToState, ToEnd, Set, NextValue}
+use Rattle.hw_lines.specs.declared.nets.Choice.TheVariants.{ToState, ToEnd, Set, NextValue, Clear}
 use Rattle.hw_lines.specs.declared.nets.Net.{Net}
-use Rattle.hw_lines.specs.declared.nets.Net.TheVariants.{Has as HasNet, Dout, Datum as DatumNet, Ack, Rdata, Variable, At, Go, Value as ValueNet}
-use Rattle.hw_lines.specs.Nets.{name, value_front}
+use Rattle.hw_lines.specs.declared.nets.Net.TheVariants.{Has as HasNet, Dout, Datum as DatumNet, Ack, Rdata, Variable, At, Go, Value as ValueNet, Reset}
+use Rattle.hw_lines.specs.Nets.{name, front, value_front}
 use Rattle.hw_lines.specs.Shape.{Shape, kinds_in, array_cells, stream_kind, register_kind, state_count, state_bits, form_at}
 use Rattle.hw_lines.specs.States.{net, value_of, value_wires, is_some_register, into_of, counting, more_wires}
-use Rattle.hw_lines.specs.Effects.{entry, at, into_register, datum_of, eot_of, sets, effect, entries}
-use Rattle.hw_lines.specs.Texts.{any, pick, root, first_value, variable_choices, array_choices, task_elements}
+use Rattle.hw_lines.specs.Effects.{entry, at, into_register, datum_of, eot_of, effect, entries, first_value, gives, is_same_number, with_number, without_number}
+use Rattle.hw_lines.specs.Texts.{any, pick, root, variable_choices, array_choices, task_elements, reset_of, reset_by}
 use Rattle.hw_lines.specs.After.{held_after}
 use Rattle.hw_lines.specs.Machine.{offered}
 use Rattle.hw_lines.specs.Runs.{number_at, bit_at}
 use Rattle.hw_lines.proofs.Members.{all, choices_in, more_in, among_left, among_right, among_each}
-use Rattle.hw_lines.proofs.Decodes.{at_here}
+use Rattle.hw_lines.proofs.Decodes.{at_here, any_off}
 use Rattle.hw_task_laws.proofs.wires.Shown.{by_one, some_bits}
 use Rattle.hw_task_laws.specs.acts.Moves.{set_next}
 use Rattle.hw_task_laws.proofs.acts.Answered.{value_shown}
-use Rattle.hw_task_laws.proofs.acts.Moves.{only_picked, only_set, only_clear, none_clear, registers_go_on}
+use Rattle.hw_task_laws.proofs.acts.Moves.{alone, only_picked, only_set, only_clear, none_clear, registers_go_on}
 use Rattle.hw_task_laws.specs.steps.Steps.{ranges_in, allowed, found_by, IsAt}
 use Rattle.hw_task_laws.proofs.steps.Allowed.{go_is, eot_is, offer_is, read_right, peek_right, test_right}
 use Rattle.hw_task_laws.proofs.steps.Places.{more_cells}
@@ -100,6 +101,14 @@ var_other σ x r v false ne = refl
 same_vars : (b : Bool) (τ σ : State) (r : ℕ) → τ.vars ≡ σ.vars → slice_index σ.vars r ≡ slice_index (cond b τ σ).vars r
 same_vars true τ σ r e = ap (λ l. slice_index l r) (sym e)
 same_vars false τ σ r e = refl
+
+-- two atoms that are one number have one value
+same_number : (c : Cycle) (a b : Atom) → is_same_number a b ≡ true → atom_value c a ≡ atom_value c b
+same_number c (NetAtom x) b e = cc
+same_number c (Part x high low) b e = cc
+same_number c (Literal w n) (NetAtom x) e = cc
+same_number c (Literal w n) (Part x high low) e = cc
+same_number c (Literal w n) (Literal v m) e = eqb-true n m e
 
 -- the last of a Clear's wires
 third_there : (S : Shape) (k a c next : ℕ) → Has (more_wires S k (ClearAt a c next)) (Wire 32 (name (ValueNet k 2)) (Choose (net (ValueNet k 0)) (net (ValueNet k 1)) (Literal 32 0)))
@@ -192,8 +201,14 @@ module _ (S : Shape) (title : Name) (run : ℕ → Cycle) (f : Follows (built ti
     abbrev in_root : Name
     in_root = root S (NextValue r)
 
+    abbrev reset : Name
+    reset = reset_of r (entries S (Clear r))
+
+    abbrev first : Atom
+    first = first_value S r
+
     abbrev next_of : List Entry → ℕ
-    next_of es = set_next es (run n) (name (Variable r)) (first_value S r) set_root in_root
+    next_of es = set_next es (run n) reset (name (Variable r)) first set_root in_root
 
     old_is : (run n).net (name (Variable r)) ≡ old
     old_is = (is.shows.registers r low).value
@@ -201,54 +216,127 @@ module _ (S : Shape) (title : Name) (run : ℕ → Cycle) (f : Follows (built ti
     goes : (run (suc n)).net (name (Variable r)) ≡ next_of (entries S (Set r))
     goes = registers_go_on S title run f ms fit n r low
 
-    both_among : IsAmong (variable_choices S r) (all S)
-    both_among =
+    abbrev clear_wires : List Element
+    clear_wires = any S (Clear r) ++ reset_by r (entries S (Clear r))
+
+    abbrev next_wires : List Element
+    next_wires = pick S (bits_of (register_kind S r)) (NextValue r)
+
+    all_among : IsAmong (variable_choices S r) (all S)
+    all_among =
         among_each (variable_choices S) (length S.registers) r (all S) low
         (among_right (pick S (state_bits S) ToState ++ any S ToEnd) (each (variable_choices S) (length S.registers)) (all S)
         (among_left ((pick S (state_bits S) ToState ++ any S ToEnd) ++ each (variable_choices S) (length S.registers)) (each (array_choices S) (length S.arrays)) (all S) (choices_in S)))
 
+    set_among : IsAmong (clear_wires ++ any S (Set r)) (all S)
+    set_among = among_left (clear_wires ++ any S (Set r)) next_wires (all S) all_among
+
+    clear_among : IsAmong clear_wires (all S)
+    clear_among = among_left clear_wires (any S (Set r)) (all S) set_among
+
+    zero_among : IsAmong (any S (Clear r)) (all S)
+    zero_among = among_left (any S (Clear r)) (reset_by r (entries S (Clear r))) (all S) clear_among
+
+    reset_among : IsAmong (reset_by r (entries S (Clear r))) (all S)
+    reset_among = among_right (any S (Clear r)) (reset_by r (entries S (Clear r))) (all S) clear_among
+
     any_among : IsAmong (any S (Set r)) (all S)
-    any_among = among_left (any S (Set r)) (pick S (bits_of (register_kind S r)) (NextValue r)) (all S) both_among
+    any_among = among_right clear_wires (any S (Set r)) (all S) set_among
 
-    pick_among : IsAmong (pick S (bits_of (register_kind S r)) (NextValue r)) (all S)
-    pick_among = among_right (any S (Set r)) (pick S (bits_of (register_kind S r)) (NextValue r)) (all S) both_among
+    pick_among : IsAmong next_wires (all S)
+    pick_among = among_right (clear_wires ++ any S (Set r)) next_wires (all S) all_among
 
-    -- outside of reset a register is set where a condition says so
-    no_reset : (d : Entry) (es : List Entry) → next_of (d ∷ es) ≡ cond (eqb ((run n).net set_root) 1) ((run n).net in_root) ((run n).net (name (Variable r)))
-    no_reset d es = ap (λ z. cond (eqb z 1) (atom_value (run n) (first_value S r)) (cond (eqb ((run n).net set_root) 1) ((run n).net in_root) ((run n).net (name (Variable r))))) runs
+    -- ---- the net at which the register gets its first value
 
-    -- a state that sets another or none
-    kept : sets S r k (form_at S k) ≡ [] → (run (suc n)).net (name (Variable r)) ≡ old
-    kept none = goes ∙ by_entries (entries S (Set r)) refl ∙ old_is where
+    reset_by_state : (d : Entry) (es : List Entry) → IsAmong (reset_by r (d ∷ es)) (all S) → (run n).net (name (Reset r)) ≡ (run n).net (choice (front (Clear r)) (d ∷ es))
+    reset_by_state d es among =
+        wire_driven title (task_elements S) run f 1 (name (Reset r)) (Binary (NetAtom rst) Or (NetAtom (choice (front (Clear r)) (d ∷ es)))) (among _ (inl refl)) n
+        ∙ ap (λ z. bit_or z ((run n).net (choice (front (Clear r)) (d ∷ es)))) runs ∙ or_zero_l ((run n).net (choice (front (Clear r)) (d ∷ es)))
+
+    -- a state that clears it
+    is_reset : (e : Entry) → effect S (Clear r) k ≡ e ∷ [] → (run n).net e.condition ≡ 1 → (run n).net reset ≡ 1
+    is_reset e only on = by_entries (entries S (Clear r)) refl reset_among where
+      own : Has (entries S (Clear r)) e
+      own = has_each (effect S (Clear r)) (state_count S) k e is.shows.low (subst (λ l. Has l e) (sym only) (inl refl))
+
+      by_entries : (es : List Entry) → entries S (Clear r) ≡ es → IsAmong (reset_by r es) (all S) → (run n).net (reset_of r es) ≡ 1
+      by_entries [] same among = absurd (subst (λ l. Has l e) same own)
+      by_entries (d ∷ es) same among =
+          reset_by_state d es among ∙ ap (λ l. (run n).net (choice (front (Clear r)) l)) (sym same) ∙ only_set S title run f n k is.shows.here is.shows.low (Clear r) zero_among e only on
+
+    -- one that does not
+    not_reset : ((d : Entry) → Has (effect S (Clear r) k) d → (run n).net d.condition ≡ 0) → (run n).net reset ≡ 0
+    not_reset none = by_entries (entries S (Clear r)) refl reset_among where
+      by_entries : (es : List Entry) → entries S (Clear r) ≡ es → IsAmong (reset_by r es) (all S) → (run n).net (reset_of r es) ≡ 0
+      by_entries [] same among = runs
+      by_entries (d ∷ es) same among =
+          reset_by_state d es among ∙ ap (λ l. (run n).net (choice (front (Clear r)) l)) (sym same)
+          ∙ any_off S title run f (Clear r) zero_among n k is.shows.here (subst (λ l. 0 < length l) (sym same) (omega arith)) none
+
+    first_given : (es : List Entry) → (run n).net reset ≡ 1 → next_of es ≡ atom_value (run n) first
+    first_given [] h = ap (λ z. cond (eqb z 1) (atom_value (run n) first) ((run n).net (name (Variable r)))) h
+    first_given (d ∷ es) h = ap (λ z. cond (eqb z 1) (atom_value (run n) first) (cond (eqb ((run n).net set_root) 1) ((run n).net in_root) ((run n).net (name (Variable r))))) h
+
+    -- without it a register is set where a condition says so
+    no_reset : (d : Entry) (es : List Entry) → (run n).net reset ≡ 0 → next_of (d ∷ es) ≡ cond (eqb ((run n).net set_root) 1) ((run n).net in_root) ((run n).net (name (Variable r)))
+    no_reset d es h = ap (λ z. cond (eqb z 1) (atom_value (run n) first) (cond (eqb ((run n).net set_root) 1) ((run n).net in_root) ((run n).net (name (Variable r))))) h
+
+    -- a state that neither clears nor sets it, in this cycle
+    unchanged : (run n).net reset ≡ 0 → effect S (Set r) k ≡ [] → (run (suc n)).net (name (Variable r)) ≡ old
+    unchanged off none = goes ∙ by_entries (entries S (Set r)) refl ∙ old_is where
       by_entries : (es : List Entry) → entries S (Set r) ≡ es → next_of es ≡ (run n).net (name (Variable r))
-      by_entries [] e = ap (λ z. cond (eqb z 1) (atom_value (run n) (first_value S r)) ((run n).net (name (Variable r)))) runs
+      by_entries [] e = ap (λ z. cond (eqb z 1) (atom_value (run n) first) ((run n).net (name (Variable r)))) off
       by_entries (d ∷ es) e =
-          no_reset d es
+          no_reset d es off
           ∙ ap (λ z. cond (eqb z 1) ((run n).net in_root) ((run n).net (name (Variable r))))
           (none_clear S title run f n k is.shows.here is.shows.low (Set r) any_among (subst (λ l. 0 < length l) (sym e) (omega arith)) none)
 
+    -- a state that gives another register a value or none
+    kept : gives S r k (form_at S k) ≡ [] → (run (suc n)).net (name (Variable r)) ≡ old
+    kept none =
+        unchanged
+        (not_reset (λ d h. absurd (subst (λ es. Has es d) (ap (with_number first) none) h)))
+        (ap (without_number first) none)
+
+    -- one that clears it
+    cleared : (e : Entry) → effect S (Clear r) k ≡ e ∷ [] → effect S (Set r) k ≡ [] → (b : Bool) → (run n).net e.condition ≡ one_if b → (run (suc n)).net (name (Variable r)) ≡ cond b (atom_value (run n) first) old
+    cleared e only none true on = goes ∙ first_given (entries S (Set r)) (is_reset e only on)
+    cleared e only none false on = unchanged (not_reset (λ d h. subst (λ (z : Entry). (run n).net z.condition ≡ 0) (alone (effect S (Clear r) k) e d only h) on)) none
+
     -- one that sets it
-    set_by : (e : Entry) → sets S r k (form_at S k) ≡ e ∷ [] → (b : Bool) → (run n).net e.condition ≡ one_if b → (run (suc n)).net (name (Variable r)) ≡ cond b (atom_value (run n) e.value) old
-    set_by e only b on = goes ∙ by_entries (entries S (Set r)) refl b on where
+    set_on : (e : Entry) → effect S (Clear r) k ≡ [] → effect S (Set r) k ≡ e ∷ [] → (b : Bool) → (run n).net e.condition ≡ one_if b → (run (suc n)).net (name (Variable r)) ≡ cond b (atom_value (run n) e.value) old
+    set_on e none only b on = goes ∙ by_entries (entries S (Set r)) refl b on where
+      off : (run n).net reset ≡ 0
+      off = not_reset (λ d h. absurd (subst (λ es. Has es d) none h))
+
       own : Has (entries S (Set r)) e
       own = has_each (effect S (Set r)) (state_count S) k e is.shows.low (subst (λ l. Has l e) (sym only) (inl refl))
 
       by_entries : (es : List Entry) → entries S (Set r) ≡ es → (b : Bool) → (run n).net e.condition ≡ one_if b → next_of es ≡ cond b (atom_value (run n) e.value) old
       by_entries [] same b on = absurd (subst (λ l. Has l e) same own)
       by_entries (d ∷ es) same true on =
-          no_reset d es
+          no_reset d es off
           ∙ ap (λ z. cond (eqb z 1) ((run n).net in_root) ((run n).net (name (Variable r)))) (only_set S title run f n k is.shows.here is.shows.low (Set r) any_among e only on)
           ∙ only_picked S title run f n k is.shows.here is.shows.low (NextValue r) (bits_of (register_kind S r)) pick_among e only on
       by_entries (d ∷ es) same false on =
-          no_reset d es
+          no_reset d es off
           ∙ ap (λ z. cond (eqb z 1) ((run n).net in_root) ((run n).net (name (Variable r)))) (only_clear S title run f n k is.shows.here is.shows.low (Set r) any_among e only on)
           ∙ old_is
+
+    -- one that gives it a value
+    set_by : (e : Entry) → gives S r k (form_at S k) ≡ e ∷ [] → (b : Bool) → (run n).net e.condition ≡ one_if b → (run (suc n)).net (name (Variable r)) ≡ cond b (atom_value (run n) e.value) old
+    set_by e only b on = by_number (is_same_number e.value first) refl where
+      by_number : (t : Bool) → is_same_number e.value first ≡ t → (run (suc n)).net (name (Variable r)) ≡ cond b (atom_value (run n) e.value) old
+      by_number true t =
+          cleared e (ap (with_number first) only ∙ ap (λ c. cond c (e ∷ []) []) t) (ap (without_number first) only ∙ ap (λ c. cond c [] (e ∷ [])) t) b on
+          ∙ ap (λ z. cond b z old) (sym (same_number (run n) e.value first t))
+      by_number false t = set_on e (ap (with_number first) only ∙ ap (λ c. cond c (e ∷ []) []) t) (ap (without_number first) only ∙ ap (λ c. cond c [] (e ∷ [])) t) b on
 
     low_var : r < length σ.vars
     low_var = subst (λ z. r < z) (sym is.sizes.vars) low
 
     -- register x gets a value where a condition says so
-    set_at : (x : ℕ) (c : Net) (a : Atom) → sets S r k (form_at S k) ≡ at x r (entry c a) → (b : Bool) → (run n).net (name c) ≡ one_if b → (u : ℕ) → (b ≡ true → atom_value (run n) a ≡ u)
+    set_at : (x : ℕ) (c : Net) (a : Atom) → gives S r k (form_at S k) ≡ at x r (entry c a) → (b : Bool) → (run n).net (name c) ≡ one_if b → (u : ℕ) → (b ≡ true → atom_value (run n) a ≡ u)
         → (run (suc n)).net (name (Variable r)) ≡ slice_index (cond b (set_var σ x u) σ).vars r
     set_at x c a some b on u is_u =
         ⊎_elim
@@ -257,45 +345,45 @@ module _ (S : Shape) (title : Name) (run : ℕ → Cycle) (f : Follows (built ti
         (cases_eq x r)
 
     -- the register that gets a value, if there is one
-    set_into : (into : Option ℕ) (c : Net) (a : Atom) → sets S r k (form_at S k) ≡ into_register into r (entry c a) → (b : Bool) → ((x : ℕ) → into ≡ Some x → (run n).net (name c) ≡ one_if b)
+    set_into : (into : Option ℕ) (c : Net) (a : Atom) → gives S r k (form_at S k) ≡ into_register into r (entry c a) → (b : Bool) → ((x : ℕ) → into ≡ Some x → (run n).net (name c) ≡ one_if b)
         → (u : ℕ) → (b ≡ true → atom_value (run n) a ≡ u) → (run (suc n)).net (name (Variable r)) ≡ slice_index (cond b (put_into σ into u) σ).vars r
     set_into None c a some b on u is_u = kept some ∙ ap (λ (τ : State). slice_index τ.vars r) (sym (same_cond b σ))
     set_into (Some x) c a some b on u is_u = set_at x c a some b (on x refl) u is_u
 
-    stays : (g : StateForm) → form_at S k ≡ g → sets S r k g ≡ [] → (held_after (step g k σ) σ (found_by S run n (step g k σ))).vars ≡ σ.vars
+    stays : (g : StateForm) → form_at S k ≡ g → gives S r k g ≡ [] → (held_after (step g k σ) σ (found_by S run n (step g k σ))).vars ≡ σ.vars
         → (run (suc n)).net (name (Variable r)) ≡ slice_index (held_by S run n σ (step g k σ)).vars r
-    stays g same none e = kept (ap (sets S r k) same ∙ none) ∙ same_vars (allowed S run n (step g k σ)) (held_after (step g k σ) σ (found_by S run n (step g k σ))) σ r e
+    stays g same none e = kept (ap (gives S r k) same ∙ none) ∙ same_vars (allowed S run n (step g k σ)) (held_after (step g k σ) σ (found_by S run n (step g k σ))) σ r e
 
     register_is : (g : StateForm) → form_at S k ≡ g → (run (suc n)).net (name (Variable r)) ≡ slice_index (held_by S run n σ (step g k σ)).vars r
     register_is (SetAt x e next) same =
-        set_at x (At k) (value_wires S k).atom (ap (sets S r k) same) true at_one (value e σ) (λ h. (value_shown S title run f n (ranges_in S) σ k is.shows).value ∙ ap (λ z. value (value_of z) σ) same)
+        set_at x (At k) (value_wires S k).atom (ap (gives S r k) same) true at_one (value e σ) (λ h. (value_shown S title run f n (ranges_in S) σ k is.shows).value ∙ ap (λ z. value (value_of z) σ) same)
     register_is (CellAt a i e next) same = stays (CellAt a i e next) same refl refl
     register_is (TestAt e y m) same = stays (TestAt e y m) same refl refl
     register_is (ReadAt s into next) same =
         let g : IsInRange (ranges_in S) (ReadAt s into next) = subst (IsInRange (ranges_in S)) same is.shows.ranged in
-        set_into into (Go k) (datum_of S s) (ap (sets S r k) same) (allowed S run n (step (ReadAt s into next) k σ))
+        set_into into (Go k) (datum_of S s) (ap (gives S r k) same) (allowed S run n (step (ReadAt s into next) k σ))
         (λ x e. go_is S title run f cells n k σ is (ReadAt s into next) same (DatumNet s) refl refl)
         (found_by S run n (step (ReadAt s into next) k σ)) (read_value s g.0 into next)
     register_is (WriteAt s e next) same = stays (WriteAt s e next) same refl refl
     register_is (PeekAt s into next) same =
         let g : IsInRange (ranges_in S) (PeekAt s into next) = subst (IsInRange (ranges_in S)) same is.shows.ranged in
-        set_into into (Go k) (datum_of S s) (ap (sets S r k) same) (allowed S run n (step (PeekAt s into next) k σ))
+        set_into into (Go k) (datum_of S s) (ap (gives S r k) same) (allowed S run n (step (PeekAt s into next) k σ))
         (λ x e. go_is S title run f cells n k σ is (PeekAt s into next) same (DatumNet s) refl (ap is_some_register e))
         (found_by S run n (step (PeekAt s into next) k σ)) (peek_value s g.0 into next)
     register_is (EotAt s into next) same =
         let g : IsInRange (ranges_in S) (EotAt s into next) = subst (IsInRange (ranges_in S)) same is.shows.ranged in
-        set_into into (Go k) (eot_of S s) (ap (sets S r k) same) (allowed S run n (step (EotAt s into next) k σ))
+        set_into into (Go k) (eot_of S s) (ap (gives S r k) same) (allowed S run n (step (EotAt s into next) k σ))
         (λ x e. go_is S title run f cells n k σ is (EotAt s into next) same (HasNet s) refl (ap is_some_register e))
         (found_by S run n (step (EotAt s into next) k σ)) (test_value s g.0 into next)
     register_is (OpenAt s next) same = stays (OpenAt s next) same refl refl
     register_is (CloseAt s next) same = stays (CloseAt s next) same refl refl
     register_is (LoadAt m i into next) same =
-        set_into into (Go k) (net (Rdata m)) (ap (sets S r k) same) (bit_at run (Ack m) n)
+        set_into into (Go k) (net (Rdata m)) (ap (gives S r k) same) (bit_at run (Ack m) n)
         (λ x e. go_is S title run f cells n k σ is (LoadAt m i into next) same (Ack m) refl (ap is_some_register e))
         (cell σ.cells m (value i σ)) (load_value m i into next same)
     register_is (StoreAt m i e next) same = stays (StoreAt m i e next) same refl refl
     register_is (ClearAt a c next) same =
-        set_at c (At k) (net (ValueNet k 2)) (ap (sets S r k) same) true at_one (cond (is_last σ a c) (slice_index σ.vars c + 1) 0) (λ h. counter_value a c next same)
+        set_at c (At k) (net (ValueNet k 2)) (ap (gives S r k) same) true at_one (cond (is_last σ a c) (slice_index σ.vars c + 1) 0) (λ h. counter_value a c next same)
         ∙ clear_sets S run n k a c next r σ (is_last σ a c)
     register_is EndAt same = stays EndAt same refl refl
     register_is TrapAt same = stays TrapAt same refl refl

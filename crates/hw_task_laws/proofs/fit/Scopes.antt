@@ -12,12 +12,12 @@ use Rattle.vlog_tree.specs.Table.{Name}
 use Rattle.vlog_tree.specs.V3.{is_width}
 use Rattle.tapa_base.proofs.Lists.{has_left, has_right, has_split, has_flat, of_flat}
 use Rattle.hw_build.specs.Elements.{Element, Input, Wire, Register, Memory}
-use Rattle.hw_build.specs.Trees.{numbered, tree_node, tree_nodes}
+use Rattle.hw_build.specs.Trees.{numbered}
 use Rattle.hw_build.proofs.Forms.{yes_and}
 use Rattle.std.proofs.lemmas.Bool.{cases_eq}
 use Rattle.hw_build.specs.Scope.{readable, register_of, memory_of, IsNet, IsRegister, IsMemory, AtomIs, FitInOrder}
 use Rattle.hw_build.specs.Fits.{IsAmong}
-use Rattle.hw_build.specs.Choices.{Entry, any_leaves, any_elements, pick_leaves, pick_elements, choice}
+use Rattle.hw_build.specs.Choices.{Entry, row, any_driver, any_elements, pick_driver, pick_elements, choice}
 use Rattle.hw_build.proofs.Parts.{in_order_more}
 
 -- ---- among elements
@@ -115,28 +115,22 @@ signed_bits kind.U64 e = omega arith
 
 -- ---- the net with a choice's result
 
-tree_has : (w : ℕ) (front : Name) (leaves m i : ℕ) → i < m → Has (tree_nodes w front leaves m) (tree_node w front leaves i)
-tree_has w front leaves zero i h = absurd (omega arith)
-tree_has w front leaves (suc m) i h =
-    ⊎_elim
-    (λ e. has_right (tree_nodes w front leaves m) (tree_node w front leaves m ∷ []) (tree_node w front leaves i) (inl (ap (tree_node w front leaves) (sym e))))
-    (λ e. has_left (tree_nodes w front leaves m) (tree_node w front leaves m ∷ []) (tree_node w front leaves i) (tree_has w front leaves m i (omega (arith, h, e))))
-    (cases_eq i m)
+row_has : (w : ℕ) (front : Name) (driver : ℕ → Entry → Value) (j : ℕ) (d : Entry) (entries : List Entry) → (v : Value) × Has (row w front driver j (d ∷ entries)) (Wire w (numbered front (j + length entries)) v)
+row_has w front driver j d [] = let e : j ≡ j + 0 = omega arith in (driver j d, inl (ap (λ i. Wire w (numbered front i) (driver j d)) e))
+row_has w front driver j d (c ∷ entries) =
+    let r = row_has w front driver (suc j) c entries in
+    let e : suc j + length entries ≡ j + suc (length entries) = omega arith in
+    (r.0, inr (subst (λ i. Has (row w front driver (suc j) (c ∷ entries)) (Wire w (numbered front i) r.0)) e r.1))
 
--- of at least two leaves, the last node
-node_root : (before : List Element) (w : ℕ) (front : Name) (leaves : ℕ) → 2 ≤ leaves → IsAmong (tree_nodes w front leaves (leaves - 1)) before → IsNet before (numbered front (2 * leaves - 2)) w
-node_root before w front leaves h among =
-    let e : leaves + (leaves - 2) ≡ 2 * leaves - 2 = omega (arith, h) in
-    subst (λ j. IsNet before (numbered front j) w) e (wire_net before w (numbered front (leaves + (leaves - 2))) _ (among (tree_node w front leaves (leaves - 2)) (tree_has w front leaves (leaves - 1) (leaves - 2) (omega (arith, h)))))
+row_root : (before : List Element) (w : ℕ) (front : Name) (driver : ℕ → Entry → Value) (entries : List Entry) → 0 < length entries → IsAmong (row w front driver 0 entries) before → IsNet before (choice front entries) w
+row_root before w front driver [] h among = absurd (omega (arith, h))
+row_root before w front driver (d ∷ entries) h among =
+    let r = row_has w front driver 0 d entries in
+    let e : 0 + length entries ≡ suc (length entries) - 1 = omega arith in
+    subst (λ i. IsNet before (numbered front i) w) e (wire_net before w (numbered front (0 + length entries)) r.0 (among _ r.1))
 
 pub any_root : (before : List Element) (front : Name) (entries : List Entry) → 0 < length entries → IsAmong (any_elements front entries) before → IsNet before (choice front entries) 1
-any_root before front [] h among = absurd (omega (arith, h))
-any_root before front (d ∷ []) h among = wire_net before 1 (numbered front 0) _ (among _ (inl refl))
-any_root before front (d ∷ c ∷ entries) h among =
-    node_root before 1 front (length (d ∷ c ∷ entries)) (omega arith) (λ e k. among e (has_right (any_leaves front 0 (d ∷ c ∷ entries)) (tree_nodes 1 front (length (d ∷ c ∷ entries)) (length (d ∷ c ∷ entries) - 1)) e k))
+any_root before front entries h among = row_root before 1 front (any_driver front) entries h among
 
 pub pick_root : (before : List Element) (w : ℕ) (front : Name) (entries : List Entry) → 0 < length entries → IsAmong (pick_elements w front entries) before → IsNet before (choice front entries) w
-pick_root before w front [] h among = absurd (omega (arith, h))
-pick_root before w front (d ∷ []) h among = wire_net before w (numbered front 0) _ (among _ (inl refl))
-pick_root before w front (d ∷ c ∷ entries) h among =
-    node_root before w front (length (d ∷ c ∷ entries)) (omega arith) (λ e k. among e (has_right (pick_leaves w front 0 (d ∷ c ∷ entries)) (tree_nodes w front (length (d ∷ c ∷ entries)) (length (d ∷ c ∷ entries) - 1)) e k))
+pick_root before w front entries h among = row_root before w front (pick_driver front) entries h among

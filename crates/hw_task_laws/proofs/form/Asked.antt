@@ -112,6 +112,14 @@ pub unless_fits : (before : List Element) (es : List Entry) (xs : List Element) 
 unless_fits before [] xs h = tt
 unless_fits before (e ∷ es) xs h = h (omega arith)
 
+pub some_length : {A : Type 0} (xs : List A) (x : A) → Has xs x → 0 < length xs
+some_length [] x h = absurd h
+some_length (y ∷ ys) x h = omega arith
+
+pub some_of : {A : Type 0} (xs : List A) → 0 < length xs → (x : A) × Has xs x
+some_of [] h = absurd (omega (arith, h))
+some_of (y ∷ ys) h = (y, inl refl)
+
 not_none : (es : List Entry) (e : Entry) (elements : List Element) → Has es e → unless_none es elements ≡ elements
 not_none [] e elements h = absurd h
 not_none (d ∷ es) e elements h = refl
@@ -228,7 +236,7 @@ module _ (S : Shape) (T : IsTask S) where
   spot_has : (k p : ℕ) (r : ArrayRead) → k < state_count S → IsRead k p r → Has (entries S (Reads p r.array)) (spot_entry k p r)
   spot_has k p r l e =
       has_each (effect S (Reads p r.array)) (state_count S) k (spot_entry k p r) l
-      (subst (λ es. Has es (spot_entry k p r)) (sym (ap (spot_of S p r.array k) e ∙ only_entry r.array (spot_entry k p r ∷ []))) (inl refl))
+      (subst (λ es. Has es (spot_entry k p r)) (sym (ap (spot_of S (ReadOn k p) p r.array k) e ∙ only_entry r.array (spot_entry k p r ∷ []))) (inl refl))
 
   answer_has : (k p : ℕ) (r : ArrayRead) → k < state_count S → IsRead k p r → r.array < length S.arrays → Has (reads_of S p) (answer_wire p r.array)
   answer_has k p r l e there =
@@ -284,20 +292,46 @@ module _ (S : Shape) (T : IsTask S) where
       asked_among : (k : ℕ) (r : ArrayRead) → k < state_count S → IsRead k p r → IsAmong (asked_of S p k (Some r)) A
       asked_among k r l e d h = has_right B (each (asked S p) (state_count S)) d (has_each (asked S p) (state_count S) k d l (subst (λ o. Has (asked_of S p k o) d) (sym e) h))
 
-      spot_fits : (a k : ℕ) (d : Entry) → k < state_count S → (o : Option ArrayRead) → slice_get (reads_at S k) p ≡ o → Has (spot_of S p a k o) d → EntryFits A (index_bits S a) d
-      spot_fits a k d l None e h = absurd h
-      spot_fits a k d l (Some r) e h =
-          let t = of_at r.array a (entry (ReadOn k p) (low_bits (index_bits S a) (read_index p k r).atom)) d h in
+      -- whether a cell is read
+      on_net : (k : ℕ) (r : ArrayRead) → k < state_count S → IsRead k p r → IsNet A (name (ReadOn k p)) 1
+      on_net k r l e = wire_net A 1 (name (ReadOn k p)) _ (asked_among k r l e _ (has_right (read_index p k r).elements _ _ (inr (inl refl))))
+
+      here_net : (k : ℕ) → k < state_count S → IsNet A (name (At k)) 1
+      here_net k l = at_net S A (λ d h. has_left B (each (asked S p) (state_count S)) d (decodes_B d h)) k l
+
+      -- under a condition that is a net where there is such a read
+      spot_fits : (x : Net) (a k : ℕ) (d : Entry) → k < state_count S → ((r : ArrayRead) → IsRead k p r → IsNet A (name x) 1) → (o : Option ArrayRead) → slice_get (reads_at S k) p ≡ o → Has (spot_of S x p a k o) d
+          → EntryFits A (index_bits S a) d
+      spot_fits x a k d l on None e h = absurd h
+      spot_fits x a k d l on (Some r) e h =
+          let t = of_at r.array a (entry x (low_bits (index_bits S a) (read_index p k r).atom)) d h in
           let C = read_index p k r in
           let b = index_built k r l e in
           let among = asked_among k r l e in
           let f = few_index S T a in
-          of_entry A (index_bits S a) (ReadOn k p) (low_bits (index_bits S a) C.atom) d (wire_net A 1 (name (ReadOn k p)) _ (among _ (has_right C.elements _ _ (inr (inl refl)))))
+          of_entry A (index_bits S a) x (low_bits (index_bits S a) C.atom) d (on r e)
           (low_fits A 64 (index_bits S a) C.atom (some_index S T a) (omega (arith, f)) b.whole
           (atom_in (B ++ C.elements) A (both_among B C.elements A (left_among B (each (asked S p) (state_count S))) (λ c i. among c (has_left C.elements _ c i))) 64 C.atom b.atom)) t.1
 
-      entries_fit : (a : ℕ) (d : Entry) → Has (entries S (Reads p a)) d → EntryFits A (index_bits S a) d
-      entries_fit a d h = let r = of_each (effect S (Reads p a)) (state_count S) d h in spot_fits a r.0 d r.1 (slice_get (reads_at S r.0) p) refl r.2
+      reads_fit_in : (a : ℕ) (d : Entry) → Has (entries S (Reads p a)) d → EntryFits A (index_bits S a) d
+      reads_fit_in a d h = let r = of_each (effect S (Reads p a)) (state_count S) d h in spot_fits (ReadOn r.0 p) a r.0 d r.1 (λ s e. on_net r.0 s r.1 e) (slice_get (reads_at S r.0) p) refl r.2
+
+      places_fit_in : (a : ℕ) (d : Entry) → Has (entries S (ArrayIndex p a)) d → EntryFits A (index_bits S a) d
+      places_fit_in a d h = let r = of_each (effect S (ArrayIndex p a)) (state_count S) d h in spot_fits (At r.0) a r.0 d r.1 (λ s e. here_net r.0 r.1) (slice_get (reads_at S r.0) p) refl r.2
+
+      -- where something is read, there is a place
+      place_of : (a k : ℕ) (d : Entry) (o : Option ArrayRead) → Has (spot_of S (ReadOn k p) p a k o) d → (c : Entry) × Has (spot_of S (At k) p a k o) c
+      place_of a k d None h = absurd h
+      place_of a k d (Some r) h =
+          let c : Entry = record { condition = name (At k); value = low_bits (index_bits S a) (read_index p k r).atom } in
+          (c, subst (λ es. Has es c) (sym (ap (λ b. cond b (c ∷ []) []) (eq-eqb r.array a (of_at r.array a _ d h).0))) (inl refl))
+
+      place_some : (a : ℕ) → 0 < length (entries S (Reads p a)) → 0 < length (entries S (ArrayIndex p a))
+      place_some a some =
+          let d = some_of (entries S (Reads p a)) some in
+          let r = of_each (effect S (Reads p a)) (state_count S) d.0 d.1 in
+          let c = place_of a r.0 d.0 (slice_get (reads_at S r.0) p) r.2 in
+          some_length (entries S (ArrayIndex p a)) c.0 (has_each (effect S (ArrayIndex p a)) (state_count S) r.0 c.0 r.1 c.1)
 
       answered_fits : (a : ℕ) → a < length S.arrays → 0 < length (entries S (Reads p a)) → FitInOrder A (answered S p a)
       answered_fits a l some =
@@ -309,9 +343,9 @@ module _ (S : Shape) (T : IsTask S) where
           let Y = Z ++ raw ∷ [] in
           let kept_Z : IsAmong (held S) Z = (λ d h. has_left A (xs ++ ys) d (has_left B (each (asked S p) (state_count S)) d (kept_B d h))) in
           parts_fit A (xs ++ ys) _
-          (parts_fit A xs ys (any_fits A (front (Reads p a)) (entries S (Reads p a)) (λ d h. (entries_fit a d h).0))
-          (fit_behind A xs ys (pick_fits A (index_bits S a) (front (ArrayIndex p a)) (entries S (ArrayIndex p a)) (index_wide S T a) (λ d h. entries_fit a d h)))) (
-            (kind_wide (array_kind S a), (array_in S Z kept_Z a l, (index_bits S a, pick_root Z (index_bits S a) (front (ArrayIndex p a)) (entries S (ArrayIndex p a)) some (λ d h. has_right A (xs ++ ys) d (has_right xs ys d h))))),
+          (parts_fit A xs ys (any_fits A (front (Reads p a)) (entries S (Reads p a)) (λ d h. (reads_fit_in a d h).0))
+          (fit_behind A xs ys (pick_fits A (index_bits S a) (front (ArrayIndex p a)) (entries S (ArrayIndex p a)) (index_wide S T a) (λ d h. places_fit_in a d h)))) (
+            (kind_wide (array_kind S a), (array_in S Z kept_Z a l, (index_bits S a, pick_root Z (index_bits S a) (front (ArrayIndex p a)) (entries S (ArrayIndex p a)) (place_some a some) (λ d h. has_right A (xs ++ ys) d (has_right xs ys d h))))),
             ((kind_wide (array_kind S a), (any_root Y (front (Reads p a)) (entries S (Reads p a)) some (λ d h. has_left Z (raw ∷ []) d (has_right A (xs ++ ys) d (has_left xs ys d h))), wire_net Y w (name (Raw p a)) _ (has_right Z (raw ∷ []) raw (inl refl)), (refl, pow_pos w))), tt),
           )
 

@@ -6,8 +6,10 @@ use Rattle.tapa_base.specs.declared.kind.Kind.TheVariants as kind
 use Rattle.tapa_base.specs.Kinds.{bits_of}
 use Rattle.vlog_tree.specs.declared.tree.Atom.{Atom}
 use Rattle.vlog_tree.specs.declared.tree.Atom.TheVariants.{Literal}
+use Rattle.vlog_tree.specs.declared.tree.BinaryOp.TheVariants.{And}
+use Rattle.vlog_tree.specs.declared.tree.Value.TheVariants.{Binary}
 use Rattle.tapa_base.specs.Lists.{Has}
-use Rattle.hw_build.specs.Elements.{Element}
+use Rattle.hw_build.specs.Elements.{Element, Wire}
 use Rattle.hw_build.specs.Trees.{numbered}
 use Rattle.hw_build.specs.Scope.{each, IsNet, AtomIs}
 use Rattle.hw_build.specs.Choices.{Entry}
@@ -17,14 +19,15 @@ use Rattle.task_fsm.specs.Machine.{StateForm, SetAt, CellAt, ReadAt, WriteAt, Pe
 use Rattle.task_fsm.specs.MachineKinds.{IsOfKind, IsTypedState}
 use Rattle.task_fsm.specs.Ranges.{IsInRange}
 use Rattle.hw_lines.specs.declared.nets.Net.{Net}
-use Rattle.hw_lines.specs.declared.nets.Net.TheVariants.{Variable, Rdata, At, Go, Into, Packed, Next, Value as ValueNet}
+use Rattle.hw_lines.specs.declared.nets.Net.TheVariants.{Variable, Rdata, At, Go, Inside, Into, Packed, Next, Value as ValueNet}
 use Rattle.hw_lines.specs.declared.nets.Choice.{Choice}
-use Rattle.hw_lines.specs.declared.nets.Choice.TheVariants.{ToState, ToEnd, Set, WriteIndex, WriteData, Token, Takes, Address, Data}
+use Rattle.hw_lines.specs.declared.nets.Choice.TheVariants.{ToState, ToEnd, Set, Stores, WriteIndex, WriteData, Token, Takes, Address, Data, Clear}
 use Rattle.hw_lines.specs.Nets.{name, value_front}
 use Rattle.hw_lines.specs.Shape.{Shape, kinds_in, array_kind, stream_kind, register_kind, memory_kind, index_bits, state_count, state_bits, form_at}
 use Rattle.hw_lines.specs.Drivers.{low_bits}
 use Rattle.hw_lines.specs.States.{net, index_of, value_kind, index_wires, value_wires, awaited, needs_go, go_of, next_wires, next_atom, more_wires, state_wires, decoded}
-use Rattle.hw_lines.specs.Effects.{entry, at, datum_of, eot_of, end_token, sets, places, contents, tokens, takings, askings, savings, endings, effect, entries}
+use Rattle.hw_lines.specs.Effects.{entry, at, datum_of, eot_of, end_token, places, contents, tokens, takings, askings, savings, endings, effect, entries, gives, first_value}
+use Rattle.hw_lines.proofs.Decodes.{with_in, without_in}
 use Rattle.hw_lines.specs.Texts.{inputs, held, offered, reads_of, read_numbers}
 use Rattle.tapa_base.proofs.Lists.{has_left, has_right}
 use Rattle.hw_task_laws.specs.wires.Shows.{IsWhole}
@@ -93,47 +96,52 @@ module _ (S : Shape) (T : IsTask S) (all : List Element) (before : AreBefore S a
     register_bits : (x r : ℕ) (j : Kind) → register_kind S x ≡ j → x ≡ r → bits_of j ≡ bits_of (register_kind S r)
     register_bits x r j t e = ap bits_of (sym t) ∙ ap (λ z. bits_of (register_kind S z)) e
 
-    sets_fit : (r : ℕ) (f : StateForm) → IsAt S all k f → Has (sets S r k f) d → EntryFits all (bits_of (register_kind S r)) d
-    sets_fit r (SetAt x e next) I i = for_one (bits_of (register_kind S r)) (bits_of (register_kind S x)) (At k) (value_wires S k).atom d x r (here k I.low) I.value (λ s. ap (λ z. bits_of (register_kind S z)) s) i
-    sets_fit r (ReadAt s (Some x) next) I i =
+    gives_fit : (r : ℕ) (f : StateForm) → IsAt S all k f → Has (gives S r k f) d → EntryFits all (bits_of (register_kind S r)) d
+    gives_fit r (SetAt x e next) I i = for_one (bits_of (register_kind S r)) (bits_of (register_kind S x)) (At k) (value_wires S k).atom d x r (here k I.low) I.value (λ s. ap (λ z. bits_of (register_kind S z)) s) i
+    gives_fit r (ReadAt s (Some x) next) I i =
         let g = I.ranged in
         for_one (bits_of (register_kind S r)) (bits_of (stream_kind S s)) (Go k) (datum_of S s) d x r (wire_net all 1 (name (Go k)) _ (I.go _ (inl refl))) (datum_atom S all before.ports s (stream_low S s false g.0) (stream_writes S s false g.0))
         (register_bits x r (stream_kind S s) I.typed) i
-    sets_fit r (PeekAt s (Some x) next) I i =
+    gives_fit r (PeekAt s (Some x) next) I i =
         let g = I.ranged in
         for_one (bits_of (register_kind S r)) (bits_of (stream_kind S s)) (Go k) (datum_of S s) d x r (wire_net all 1 (name (Go k)) _ (I.go _ (inl refl))) (datum_atom S all before.ports s (stream_low S s false g.0) (stream_writes S s false g.0))
         (register_bits x r (stream_kind S s) I.typed) i
-    sets_fit r (EotAt s (Some x) next) I i =
+    gives_fit r (EotAt s (Some x) next) I i =
         let g = I.ranged in
         for_one (bits_of (register_kind S r)) 1 (Go k) (eot_of S s) d x r (wire_net all 1 (name (Go k)) _ (I.go _ (inl refl))) (eot_atom S all before.ports s (stream_low S s false g.0) (stream_writes S s false g.0))
         (register_bits x r kind.Bool I.typed) i
-    sets_fit r (LoadAt m j (Some x) next) I i =
+    gives_fit r (LoadAt m j (Some x) next) I i =
         let g = I.ranged in
         for_one (bits_of (register_kind S r)) (bits_of (memory_kind S m)) (Go k) (net (Rdata m)) d x r (wire_net all 1 (name (Go k)) _ (I.go _ (inl refl))) (rdata_net S all before.ports m g.0) (register_bits x r (memory_kind S m) I.typed.1) i
-    sets_fit r (ClearAt a c next) I i =
+    gives_fit r (ClearAt a c next) I i =
         for_one (bits_of (register_kind S r)) 32 (At k) (net (ValueNet k 2)) d c r (here k I.low) (subst (λ z. IsNet all z 32) (sym (value_net k 2)) (wire_net all 32 (numbered (value_front k) 2) _ (I.more _ (inr (inr (inr (inr (inl refl))))))))
         (register_bits c r kind.U32 I.typed) i
-    sets_fit r _ I i = absurd i
+    gives_fit r _ I i = absurd i
 
-    -- the place and the value of a cell
-    places_fit : (a : ℕ) (f : StateForm) → IsAt S all k f → Has (places S a k f) d → EntryFits all (index_bits S a) d
-    places_fit a (CellAt b j e next) I i =
+    -- whether a cell is written
+    into_net : (f : StateForm) → IsAt S all k f → Has (more_wires S k f) (Wire 1 (name (Into k)) (Binary (net (At k)) And (net (Inside k)))) → IsNet all (name (Into k)) 1
+    into_net f I h = wire_net all 1 (name (Into k)) _ (I.more _ h)
+
+    -- the place and the value of a cell, under a condition that is a net where the cell is written
+    places_fit : (x : Net) (a : ℕ) (f : StateForm) → IsAt S all k f → (Has (more_wires S k f) (Wire 1 (name (Into k)) (Binary (net (At k)) And (net (Inside k)))) → IsNet all (name x) 1) → Has (places S x a k f) d
+        → EntryFits all (index_bits S a) d
+    places_fit x a (CellAt b j e next) I on i =
         let t = I.typed.0 in
         let f = few_index S T a in
-        for_one (index_bits S a) (index_bits S a) (Into k) (low_bits (index_bits S a) (index_wires S k).atom) d b a (wire_net all 1 (name (Into k)) _ (I.more _ (inr (inl refl))))
+        for_one (index_bits S a) (index_bits S a) x (low_bits (index_bits S a) (index_wires S k).atom) d b a (on (inr (inl refl)))
         (low_fits all 64 (index_bits S a) (index_wires S k).atom (some_index S T a) (omega (arith, f)) (I.whole t) (I.index t)) (λ s. refl) i
-    places_fit a (ClearAt b c next) I i =
+    places_fit x a (ClearAt b c next) I on i =
         let f = few_index S T a in
         let counter : IsNet all (name (Variable c)) 32 = subst (λ z. IsNet all (name (Variable c)) (bits_of z)) I.typed (registers_in S all before.kept c I.ranged.1) in
-        for_one (index_bits S a) (index_bits S a) (Into k) (low_bits (index_bits S a) (net (Variable c))) d b a (wire_net all 1 (name (Into k)) _ (I.more _ (inr (inl refl))))
+        for_one (index_bits S a) (index_bits S a) x (low_bits (index_bits S a) (net (Variable c))) d b a (on (inr (inl refl)))
         (low_fits all 32 (index_bits S a) (net (Variable c)) (some_index S T a) f tt counter) (λ s. refl) i
-    places_fit a _ I i = absurd i
+    places_fit x a _ I on i = absurd i
 
     contents_fit : (a : ℕ) (f : StateForm) → IsAt S all k f → Has (contents S a k f) d → EntryFits all (bits_of (array_kind S a)) d
     contents_fit a (CellAt b j e next) I i =
-        for_one (bits_of (array_kind S a)) (bits_of (array_kind S b)) (Into k) (value_wires S k).atom d b a (wire_net all 1 (name (Into k)) _ (I.more _ (inr (inl refl)))) I.value (λ s. ap (λ z. bits_of (array_kind S z)) s) i
+        for_one (bits_of (array_kind S a)) (bits_of (array_kind S b)) (At k) (value_wires S k).atom d b a (here k I.low) I.value (λ s. ap (λ z. bits_of (array_kind S z)) s) i
     contents_fit a (ClearAt b c next) I i =
-        for_one (bits_of (array_kind S a)) (bits_of (array_kind S a)) (Into k) (Literal (bits_of (array_kind S a)) 0) d b a (wire_net all 1 (name (Into k)) _ (I.more _ (inr (inl refl)))) (refl, pow_pos (bits_of (array_kind S a))) (λ s. refl) i
+        for_one (bits_of (array_kind S a)) (bits_of (array_kind S a)) (At k) (Literal (bits_of (array_kind S a)) 0) d b a (here k I.low) (refl, pow_pos (bits_of (array_kind S a))) (λ s. refl) i
     contents_fit a _ I i = absurd i
 
     -- tokens
@@ -186,11 +194,17 @@ module _ (S : Shape) (T : IsTask S) (all : List Element) (before : AreBefore S a
   pub to_end : (d : Entry) → Has (entries S ToEnd) d → EntryFits all 1 d
   to_end d h = over_states ToEnd 1 (λ k d I i. endings_fit k d (form_at S k) I i) d h
 
+  pub to_clear : (r : ℕ) (d : Entry) → Has (entries S (Clear r)) d → EntryFits all (bits_of (register_kind S r)) d
+  to_clear r d h = over_states (Clear r) (bits_of (register_kind S r)) (λ k d I i. gives_fit k d r (form_at S k) I (with_in (first_value S r) (gives S r k (form_at S k)) d i)) d h
+
   pub to_set : (r : ℕ) (d : Entry) → Has (entries S (Set r)) d → EntryFits all (bits_of (register_kind S r)) d
-  to_set r d h = over_states (Set r) (bits_of (register_kind S r)) (λ k d I i. sets_fit k d r (form_at S k) I i) d h
+  to_set r d h = over_states (Set r) (bits_of (register_kind S r)) (λ k d I i. gives_fit k d r (form_at S k) I (without_in (first_value S r) (gives S r k (form_at S k)) d i)) d h
+
+  pub to_store : (a : ℕ) (d : Entry) → Has (entries S (Stores a)) d → EntryFits all (index_bits S a) d
+  to_store a d h = over_states (Stores a) (index_bits S a) (λ k d I i. places_fit k d (Into k) a (form_at S k) I (into_net k d (form_at S k) I) i) d h
 
   pub to_place : (a : ℕ) (d : Entry) → Has (entries S (WriteIndex a)) d → EntryFits all (index_bits S a) d
-  to_place a d h = over_states (WriteIndex a) (index_bits S a) (λ k d I i. places_fit k d a (form_at S k) I i) d h
+  to_place a d h = over_states (WriteIndex a) (index_bits S a) (λ k d I i. places_fit k d (At k) a (form_at S k) I (λ t. here k I.low) i) d h
 
   pub to_content : (a : ℕ) (d : Entry) → Has (entries S (WriteData a)) d → EntryFits all (bits_of (array_kind S a)) d
   to_content a d h = over_states (WriteData a) (bits_of (array_kind S a)) (λ k d I i. contents_fit k d a (form_at S k) I i) d h

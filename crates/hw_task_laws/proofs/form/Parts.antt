@@ -7,55 +7,59 @@ use Rattle.vlog_tree.specs.declared.tree.Atom.{Atom}
 use Rattle.vlog_tree.specs.declared.tree.Atom.TheVariants.{Net as NetAtom, Literal}
 use Rattle.vlog_tree.specs.declared.tree.Value.TheVariants.{Plain}
 use Rattle.tapa_base.specs.Lists.{Has}
+use Rattle.vlog_tree.specs.Labels.{rst}
 use Rattle.vlog_tree.specs.Table.{Name}
 use Rattle.vlog_tree.specs.V3.{is_width}
 use Rattle.tapa_base.proofs.Lists.{has_left, has_right}
 use Rattle.hw_build.specs.Elements.{Element, Output, Block, reset_or}
 use Rattle.hw_build.specs.Scope.{each, IsNet, IsRegister, AtomIs, ValueIs, FitInOrder}
-use Rattle.hw_build.specs.Choices.{Entry, choice}
+use Rattle.hw_build.specs.Choices.{Entry, choice, any_elements}
 use Rattle.hw_build.specs.Fits.{IsAmong}
 use Rattle.hw_build.proofs.Parts.{has_each, of_each, parts_fit, each_part_fits}
 use Rattle.hw_build.proofs.Picks.{any_fits, pick_fits}
 use Rattle.task_fsm.specs.Machine.{StateForm, CellAt, ClearAt}
-use Rattle.hw_lines.specs.declared.nets.Net.TheVariants.{State as StateNet, Ended, Done, Scalar, Variable, Wr, Addr, Wdata, Into}
+use Rattle.hw_lines.specs.declared.nets.Net.{Net}
+use Rattle.hw_lines.specs.declared.nets.Net.TheVariants.{State as StateNet, Ended, Done, Scalar, Variable, Wr, Addr, Wdata, At, Into, Reset}
 use Rattle.hw_lines.specs.declared.nets.Choice.{Choice}
-use Rattle.hw_lines.specs.declared.nets.Choice.TheVariants.{ToState, ToEnd, Set, NextValue, Stores, WriteIndex, WriteData, Puts, Token, Takes, Address, StoreEnable, Data}
+use Rattle.hw_lines.specs.declared.nets.Choice.TheVariants.{ToState, ToEnd, Set, NextValue, Stores, WriteIndex, WriteData, Puts, Token, Takes, Address, StoreEnable, Data, Clear}
 use Rattle.hw_lines.specs.Nets.{name, front}
 use Rattle.hw_lines.specs.Shape.{Shape, array_kind, stream_kind, register_kind, memory_kind, index_bits, state_count, state_bits, form_at}
-use Rattle.hw_lines.specs.States.{net, value_wires}
-use Rattle.hw_lines.specs.Effects.{places, contents, effect, entries}
-use Rattle.hw_lines.specs.Texts.{by_end, writes, any, pick, result_of, result, root, variable_choices, array_choices, choices, written, taken, stream_outputs, memory_outputs, outputs, first_by, first_value, register_block, variable_block, array_block, blocks}
-use Rattle.hw_task_laws.proofs.fit.Scopes.{right_among, input_net, register_there, fit_behind, kind_wide, token_wide, any_root, pick_root}
+use Rattle.hw_lines.specs.States.{net}
+use Rattle.hw_lines.specs.Effects.{entry, at, places, contents, effect, entries, first_by, first_value}
+use Rattle.hw_lines.specs.Texts.{by_end, writes, any, pick, result_of, result, root, variable_choices, array_choices, choices, written, taken, stream_outputs, memory_outputs, outputs, register_block, variable_block, array_block, blocks, reset_of, reset_by}
+use Rattle.hw_task_laws.proofs.fit.Scopes.{right_among, input_net, register_there, fit_behind, kind_wide, token_wide, any_root, pick_root, wire_net}
 use Rattle.hw_task_laws.proofs.form.Task.{IsTask, state_wide, index_wide}
-use Rattle.hw_task_laws.proofs.form.Asked.{EntryFits, of_at, unless_fits, ended_net, variable_has, array_in}
+use Rattle.hw_task_laws.proofs.form.Asked.{some_length, some_of, EntryFits, of_at, unless_fits, ended_net, variable_has, array_in}
 use Rattle.hw_task_laws.proofs.form.States.{scalar_net}
-use Rattle.hw_task_laws.proofs.form.Entries.{AreBefore, to_state, to_end, to_set, to_place, to_content, to_token, to_take, to_ask, to_save}
+use Rattle.hw_task_laws.proofs.form.Entries.{AreBefore, to_state, to_end, to_clear, to_set, to_store, to_place, to_content, to_token, to_take, to_ask, to_save}
 
-some_length : {A : Type 0} (xs : List A) (x : A) → Has xs x → 0 < length xs
-some_length [] x h = absurd h
-some_length (y ∷ ys) x h = omega arith
+-- an entry for a thing of its own
+given : (x : Net) (b a : ℕ) (v : Atom) → b ≡ a → (e : Entry) × Has (at b a (entry x v)) e
+given x b a v s = let e : Entry = record { condition = name x; value = v } in (e, subst (λ (es : List Entry). Has es e) (sym (ap (λ c. cond c (e ∷ []) []) (eq-eqb b a s))) (inl refl))
 
-some_of : {A : Type 0} (xs : List A) → 0 < length xs → (x : A) × Has xs x
-some_of [] h = absurd (omega (arith, h))
-some_of (y ∷ ys) h = (y, inl refl)
+-- where a state writes a cell, it gives a place and a value
+place_of : (S : Shape) (x y : Net) (a k : ℕ) (d : Entry) (f : StateForm) → Has (places S x a k f) d → (e : Entry) × Has (places S y a k f) e
+place_of S x y a k d (CellAt b i v next) h = given y b a _ (of_at b a _ d h).0
+place_of S x y a k d (ClearAt b c next) h = given y b a _ (of_at b a _ d h).0
+place_of S x y a k d _ h = absurd h
 
--- where a state writes a cell, it gives a value
-content_of : (S : Shape) (a k : ℕ) (d : Entry) (f : StateForm) → Has (places S a k f) d → (e : Entry) × Has (contents S a k f) e
-content_of S a k d (CellAt b i v next) h =
-    let t = of_at b a _ d h in
-    let e : Entry = record { condition = name (Into k); value = (value_wires S k).atom } in
-    (e, subst (λ (es : List Entry). Has es e) (sym (ap (λ c. cond c (e ∷ []) []) (eq-eqb b a t.0))) (inl refl))
-content_of S a k d (ClearAt b c next) h =
-    let t = of_at b a _ d h in
-    let e : Entry = record { condition = name (Into k); value = Literal (bits_of (array_kind S a)) 0 } in
-    (e, subst (λ (es : List Entry). Has es e) (sym (ap (λ c. cond c (e ∷ []) []) (eq-eqb b a t.0))) (inl refl))
-content_of S a k d _ h = absurd h
+content_of : (S : Shape) (x : Net) (a k : ℕ) (d : Entry) (f : StateForm) → Has (places S x a k f) d → (e : Entry) × Has (contents S a k f) e
+content_of S x a k d (CellAt b i v next) h = given (At k) b a _ (of_at b a _ d h).0
+content_of S x a k d (ClearAt b c next) h = given (At k) b a _ (of_at b a _ d h).0
+content_of S x a k d _ h = absurd h
+
+place_some : (S : Shape) (a : ℕ) → 0 < length (entries S (Stores a)) → 0 < length (entries S (WriteIndex a))
+place_some S a h =
+    let d = some_of (entries S (Stores a)) h in
+    let r = of_each (effect S (Stores a)) (state_count S) d.0 d.1 in
+    let e = place_of S (Into r.0) (At r.0) a r.0 d.0 (form_at S r.0) r.2 in
+    some_length (entries S (WriteIndex a)) e.0 (has_each (effect S (WriteIndex a)) (state_count S) r.0 e.0 r.1 e.1)
 
 content_some : (S : Shape) (a : ℕ) → 0 < length (entries S (Stores a)) → 0 < length (entries S (WriteData a))
 content_some S a h =
     let d = some_of (entries S (Stores a)) h in
     let r = of_each (effect S (Stores a)) (state_count S) d.0 d.1 in
-    let e = content_of S a r.0 d.0 (form_at S r.0) r.2 in
+    let e = content_of S (Into r.0) a r.0 d.0 (form_at S r.0) r.2 in
     some_length (entries S (WriteData a)) e.0 (has_each (effect S (WriteData a)) (state_count S) r.0 e.0 r.1 e.1)
 
 module _ (S : Shape) where
@@ -77,12 +81,25 @@ module _ (S : Shape) where
   pick_result all w c among = result_by all w (front c) (entries S c) (λ l. pick_root all w (front c) (entries S c) l among)
 
   module _ (T : IsTask S) (all : List Element) (before : AreBefore S all) where
+    -- what resets a register, behind whether a state clears it
+    reset_fits : (es : List Entry) (r : ℕ) (there : List Element) → IsAmong (any_elements (front (Clear r)) es) there → FitInOrder there (reset_by r es)
+    reset_fits [] r there among = tt
+    reset_fits (e ∷ es) r there among = ((refl, (inl refl, any_root there (front (Clear r)) (e ∷ es) (omega arith) among)), tt)
+
     variable_choices_fit : (more : List Element) (r : ℕ) → FitInOrder (all ++ more) (variable_choices S r)
     variable_choices_fit more r =
         let w = bits_of (register_kind S r) in
         let fits = to_set S T all before r in
+        let zero = any S (Clear r) in
+        let reset = reset_by r (entries S (Clear r)) in
+        let set = any S (Set r) in
+        let next = pick S w (NextValue r) in
         fit_behind all more (variable_choices S r)
-        (parts_fit all (any S (Set r)) (pick S w (NextValue r)) (any_there all (Set r) (λ d h. (fits d h).0)) (fit_behind all (any S (Set r)) (pick S w (NextValue r)) (pick_there all w (NextValue r) (kind_wide (register_kind S r)) fits)))
+        (parts_fit all (zero ++ reset ++ set) next
+        (parts_fit all (zero ++ reset) set
+        (parts_fit all zero reset (any_there all (Clear r) (λ d h. (to_clear S T all before r d h).0)) (reset_fits (entries S (Clear r)) r (all ++ zero) (right_among all zero)))
+        (fit_behind all (zero ++ reset) set (any_there all (Set r) (λ d h. (fits d h).0))))
+        (fit_behind all (zero ++ reset ++ set) next (pick_there all w (NextValue r) (kind_wide (register_kind S r)) fits)))
 
     array_choices_fit : (more : List Element) (a : ℕ) → FitInOrder (all ++ more) (array_choices S a)
     array_choices_fit more a =
@@ -93,7 +110,7 @@ module _ (S : Shape) where
         let content = pick S w (WriteData a) in
         fit_behind all more (array_choices S a)
         (parts_fit all (stores ++ place) content
-        (parts_fit all stores place (any_there all (Stores a) (λ d h. (to_place S T all before a d h).0)) (fit_behind all stores place (pick_there all i (WriteIndex a) (index_wide S T a) (to_place S T all before a))))
+        (parts_fit all stores place (any_there all (Stores a) (λ d h. (to_store S T all before a d h).0)) (fit_behind all stores place (pick_there all i (WriteIndex a) (index_wide S T a) (to_place S T all before a))))
         (fit_behind all (stores ++ place) content (pick_there all w (WriteData a) (kind_wide (array_kind S a)) (to_content S T all before a))))
 
     pub choices_fit : FitInOrder all (choices S)
@@ -198,13 +215,18 @@ module _ (S : Shape) where
       array_among : (a : ℕ) → a < length S.arrays → IsAmong (array_choices S a) all
       array_among a l d h = chosen d (has_right front_4 (each (array_choices S) (length S.arrays)) d (has_each (array_choices S) (length S.arrays) a d l h))
 
+      -- the net that resets a register
+      reset_net : (all : List Element) (r : ℕ) (es : List Entry) → IsAmong (reset_by r es) all → IsNet all (reset_of r es) 1
+      reset_net all r [] among = inl refl
+      reset_net all r (e ∷ es) among = wire_net all 1 (name (Reset r)) _ (among _ (inl refl))
+
       -- a register's block
-      register_fits : (w : ℕ) (x : Name) (first : Atom) (es : List Entry) (set : Name) (next : Atom) → IsRegister all x w → AtomIs all w first → (0 < length es → IsNet all set 1 × AtomIs all w next)
-          → FitInOrder all (Block (register_block x first es set next) ∷ [])
-      register_fits w x first [] set next h k more = ((refl, (inl refl, ((refl, (w, h, k)), (tt, tt)))), tt)
-      register_fits w x first (e ∷ es) set next h k more =
+      register_fits : (w : ℕ) (reset x : Name) (first : Atom) (es : List Entry) (set : Name) (next : Atom) → IsNet all reset 1 → IsRegister all x w → AtomIs all w first
+          → (0 < length es → IsNet all set 1 × AtomIs all w next) → FitInOrder all (Block (register_block reset x first es set next) ∷ [])
+      register_fits w reset x first [] set next i h k more = ((refl, (i, ((refl, (w, h, k)), (tt, tt)))), tt)
+      register_fits w reset x first (e ∷ es) set next i h k more =
           let m = more (omega arith) in
-          ((refl, (inl refl, ((refl, (w, h, k)), (tt, (m.0, ((refl, (w, h, m.1)), (tt, (tt, tt)))))))), tt)
+          ((refl, (i, ((refl, (w, h, k)), (tt, (m.0, ((refl, (w, h, m.1)), (tt, (tt, tt)))))))), tt)
 
       -- the first value of a register
       first_fits : (r n : ℕ) → n ≤ length S.scalars → AtomIs all (bits_of (register_kind S r)) (first_by S r n)
@@ -219,10 +241,14 @@ module _ (S : Shape) where
       variable_block_fits : (r : ℕ) → r < length S.registers → FitInOrder all (variable_block S r)
       variable_block_fits r l =
           let w = bits_of (register_kind S r) in
-          register_fits w (name (Variable r)) (first_value S r) (entries S (Set r)) (root S (Set r)) (NetAtom (root S (NextValue r))) (register_there all w (name (Variable r)) (variable_has S all before.kept r l)) (first_fits r (length S.scalars) (omega arith))
+          let reset = reset_by r (entries S (Clear r)) in
+          let early = any S (Clear r) ++ reset in
+          register_fits w (reset_of r (entries S (Clear r))) (name (Variable r)) (first_value S r) (entries S (Set r)) (root S (Set r)) (NetAtom (root S (NextValue r)))
+          (reset_net all r (entries S (Clear r)) (λ d h. variable_among r l d (has_left (early ++ any S (Set r)) (pick S w (NextValue r)) d (has_left early (any S (Set r)) d (has_right (any S (Clear r)) reset d h)))))
+          (register_there all w (name (Variable r)) (variable_has S all before.kept r l)) (first_fits r (length S.scalars) (omega arith))
           (λ some. (
-            any_root all (front (Set r)) (entries S (Set r)) some (λ d h. variable_among r l d (has_left (any S (Set r)) (pick S w (NextValue r)) d h)),
-            pick_root all w (front (NextValue r)) (entries S (NextValue r)) some (λ d h. variable_among r l d (has_right (any S (Set r)) (pick S w (NextValue r)) d h)),
+            any_root all (front (Set r)) (entries S (Set r)) some (λ d h. variable_among r l d (has_left (early ++ any S (Set r)) (pick S w (NextValue r)) d (has_right early (any S (Set r)) d h))),
+            pick_root all w (front (NextValue r)) (entries S (NextValue r)) some (λ d h. variable_among r l d (has_right (early ++ any S (Set r)) (pick S w (NextValue r)) d h)),
           ))
 
       array_block_fits : (a : ℕ) → a < length S.arrays → FitInOrder all (array_block S a)
@@ -244,7 +270,7 @@ module _ (S : Shape) where
                     (
                       w,
                       array_in S all before.kept a l,
-                      (i, pick_root all i (front (WriteIndex a)) (entries S (WriteIndex a)) some (λ d h. array_among a l d (has_left (stores ++ place) content d (has_right stores place d h)))),
+                      (i, pick_root all i (front (WriteIndex a)) (entries S (WriteIndex a)) (place_some S a some) (λ d h. array_among a l d (has_left (stores ++ place) content d (has_right stores place d h)))),
                       pick_root all w (front (WriteData a)) (entries S (WriteData a)) (content_some S a some) (λ d h. array_among a l d (has_right (stores ++ place) content d h)),
                     ),
                   ),
@@ -258,12 +284,12 @@ module _ (S : Shape) where
       pub blocks_fit : FitInOrder all (blocks S)
       blocks_fit =
           let state = Block (reset_or (name StateNet) (Literal (state_bits S) 0) (NetAtom (root S ToState))) in
-          let ended = Block (register_block (name Ended) (Literal 1 0) (entries S ToEnd) (root S ToEnd) (Literal 1 1)) in
+          let ended = Block (register_block rst (name Ended) (Literal 1 0) (entries S ToEnd) (root S ToEnd) (Literal 1 1)) in
           let variables = each (variable_block S) (length S.registers) in
           let arrays = each (array_block S) (length S.arrays) in
           let here : FitInOrder all (state ∷ []) =
           ((refl, (inl refl, ((refl, (state_bits S, register_there all (state_bits S) (name StateNet) (before.kept _ (inl refl)), (refl, pow_pos (state_bits S)))), (tt, ((refl, (state_bits S, register_there all (state_bits S) (name StateNet) (before.kept _ (inl refl)), state_root)), (tt, tt)))))), tt) in
-          let there = register_fits 1 (name Ended) (Literal 1 0) (entries S ToEnd) (root S ToEnd) (Literal 1 1) (register_there all 1 (name Ended) (before.kept _ (inr (inl refl)))) (refl, omega arith) (λ some. (end_root some, (refl, omega arith))) in
+          let there = register_fits 1 rst (name Ended) (Literal 1 0) (entries S ToEnd) (root S ToEnd) (Literal 1 1) (inl refl) (register_there all 1 (name Ended) (before.kept _ (inr (inl refl)))) (refl, omega arith) (λ some. (end_root some, (refl, omega arith))) in
           parts_fit all (state ∷ []) (ended ∷ variables ++ arrays) here
           (parts_fit (all ++ state ∷ []) (ended ∷ []) (variables ++ arrays) (fit_behind all (state ∷ []) (ended ∷ []) there)
           (parts_fit ((all ++ state ∷ []) ++ ended ∷ []) variables arrays

@@ -16,14 +16,14 @@ use Rattle.hw_build.specs.Choices.{Entry, choice}
 use Rattle.task_fsm.specs.Machine.{StateForm, SetAt, CellAt, WriteAt, ClearAt, EndAt, TrapAt}
 use Rattle.hw_lines.specs.declared.nets.Choice.{Choice}
 use Rattle.hw_lines.specs.declared.nets.Net.{Net}
-use Rattle.hw_lines.specs.declared.nets.Choice.TheVariants.{ToState, ToEnd, Set, NextValue, Stores, WriteIndex, WriteData, Reads, ArrayIndex}
+use Rattle.hw_lines.specs.declared.nets.Choice.TheVariants.{ToState, ToEnd, Set, NextValue, Stores, WriteIndex, WriteData, Reads, ArrayIndex, Clear}
 use Rattle.hw_lines.specs.declared.nets.Net.TheVariants.{State, Ended, Variable, Array, Raw, Answer}
 use Rattle.hw_lines.specs.Nets.{name, front, value_front, index_front, read_front}
 use Rattle.hw_lines.specs.Shape.{Shape, array_kind, array_cells, register_kind, index_bits, state_count, state_bits, form_at}
 use Rattle.hw_lines.specs.Wires.{ArrayRead, read_count}
 use Rattle.hw_lines.specs.States.{net, packed, index_of, value_of, value_kind, index_wires, value_wires, reads_at, awaited, needs_go, go_of, next_wires, into_of, counting, more_wires, state_wires, decoded}
 use Rattle.hw_lines.specs.Effects.{entries}
-use Rattle.hw_lines.specs.Texts.{by_end, writes, variable, array, held, offered, offers, read_index, asked_of, asked, answered, unless_none, reads_of, read_numbers, any, pick, variable_choices, array_choices, choices}
+use Rattle.hw_lines.specs.Texts.{by_end, writes, variable, array, held, offered, offers, read_index, asked_of, asked, answered, unless_none, reads_of, read_numbers, any, pick, variable_choices, array_choices, choices, reset_by}
 use Rattle.hw_task_laws.proofs.names.Rows.{AreRow, compiled_row, any_row, pick_row}
 use Rattle.hw_task_laws.proofs.names.Bounds.{asked_end}
 
@@ -143,6 +143,10 @@ module _ {A : Type 0} (g : Element → List A) where
       pub states_none : GiveNone (each (state_wires S) (state_count S))
       states_none = each_none (state_wires S) (state_count S) state_none
 
+      reset_none : (r : ℕ) (es : List Entry) → GiveNone (reset_by r es)
+      reset_none r [] = refl
+      reset_none r (e ∷ es) = wires_none (reset_by r (e ∷ es)) (tt, tt)
+
       pub choices_none : GiveNone (choices S)
       choices_none =
           let first = pick S (state_bits S) ToState in
@@ -151,7 +155,12 @@ module _ {A : Type 0} (g : Element → List A) where
           let arrays = each (array_choices S) (length S.arrays) in
           both_none (first ++ second ++ variables) arrays
           (both_none (first ++ second) variables (both_none first second (pick_none (state_bits S) ToState) (any_none ToEnd))
-          (each_none (variable_choices S) (length S.registers) (λ r. both_none (any S (Set r)) (pick S (bits_of (register_kind S r)) (NextValue r)) (any_none (Set r)) (pick_none (bits_of (register_kind S r)) (NextValue r)))))
+          (each_none (variable_choices S) (length S.registers)
+          (λ r.
+          let zero = any S (Clear r) in
+          let reset = reset_by r (entries S (Clear r)) in
+          both_none (zero ++ reset ++ any S (Set r)) (pick S (bits_of (register_kind S r)) (NextValue r))
+          (both_none (zero ++ reset) (any S (Set r)) (both_none zero reset (any_none (Clear r)) (reset_none r (entries S (Clear r)))) (any_none (Set r))) (pick_none (bits_of (register_kind S r)) (NextValue r)))))
           (each_none (array_choices S) (length S.arrays)
           (λ a.
           both_none (any S (Stores a) ++ pick S (index_bits S a) (WriteIndex a)) (pick S (bits_of (array_kind S a)) (WriteData a))

@@ -16,8 +16,8 @@ use Rattle.hw_build.proofs.Parts.{of_each}
 use Rattle.hw_build.proofs.Once.{two_once, parts_once}
 use Rattle.hw_lines.specs.declared.nets.Choice.{Choice}
 use Rattle.hw_lines.specs.declared.nets.Net.{Net}
-use Rattle.hw_lines.specs.declared.nets.Choice.TheVariants.{ToState, ToEnd, Set, NextValue, Stores, WriteIndex, WriteData, Reads, ArrayIndex, Puts, Token, Takes, Address, StoreEnable, Data}
-use Rattle.hw_lines.specs.declared.nets.Net.TheVariants.{State, Ended, Done, Scalar, Variable, Array, Has as HasNet, Dout, Taken, Din, Wr, Rdy, Ack, Rdata, Addr, Wdata, We, Plain, Datum, Eot, At, Go, Inside, Into, Packed, Next, Value, Index, ReadIndex, ReadInside, ReadOn, Raw, Answer, Node}
+use Rattle.hw_lines.specs.declared.nets.Choice.TheVariants.{ToState, ToEnd, Clear, Set, NextValue, Stores, WriteIndex, WriteData, Reads, ArrayIndex, Puts, Token, Takes, Address, StoreEnable, Data}
+use Rattle.hw_lines.specs.declared.nets.Net.TheVariants.{State, Ended, Done, Scalar, Variable, Array, Has as HasNet, Dout, Taken, Din, Wr, Rdy, Ack, Rdata, Addr, Wdata, We, Plain, Datum, Eot, At, Go, Inside, Into, Packed, Reset, Next, Value, Index, ReadIndex, ReadInside, ReadOn, Raw, Answer, Node}
 use Rattle.hw_lines.specs.Nets.{numbers, name}
 use Rattle.hw_lines.specs.Names.{AreSmall}
 use Rattle.hw_lines.proofs.Names.{names_tell}
@@ -31,11 +31,12 @@ choice_sort (Reads p a) = 43
 choice_sort (ArrayIndex p a) = 44
 choice_sort ToState = 60
 choice_sort ToEnd = 61
-choice_sort (Set r) = 62
-choice_sort (NextValue r) = 63
-choice_sort (Stores a) = 64
-choice_sort (WriteIndex a) = 65
-choice_sort (WriteData a) = 66
+choice_sort (Clear r) = 62
+choice_sort (Set r) = 64
+choice_sort (NextValue r) = 65
+choice_sort (Stores a) = 66
+choice_sort (WriteIndex a) = 67
+choice_sort (WriteData a) = 68
 choice_sort (Puts s) = 71
 choice_sort (Token s) = 72
 choice_sort (Takes s) = 75
@@ -70,6 +71,7 @@ sort_of (Into a) = 53
 sort_of (Packed a) = 54
 sort_of (Go a) = 55
 sort_of (Next a) = 56
+sort_of (Reset a) = 63
 sort_of Done = 70
 sort_of (Wr a) = 73
 sort_of (Din a) = 74
@@ -83,6 +85,7 @@ sort_of (Node c j) = choice_sort c
 abbrev pub choice_part : Choice → ℕ
 choice_part ToState = 0
 choice_part ToEnd = 0
+choice_part (Clear r) = r
 choice_part (Set r) = r
 choice_part (NextValue r) = r
 choice_part (Stores a) = a
@@ -123,6 +126,7 @@ part_of (Go a) = a
 part_of (Inside a) = a
 part_of (Into a) = a
 part_of (Packed a) = a
+part_of (Reset a) = a
 part_of (Next a) = a
 part_of (Value a b) = a
 part_of (Index a b) = a

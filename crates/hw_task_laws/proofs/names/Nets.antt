@@ -14,8 +14,8 @@ use Rattle.hw_build.specs.Fits.{declared_names}
 use Rattle.task_fsm.specs.Machine.{StateForm, SetAt, CellAt, WriteAt, ClearAt, EndAt, TrapAt}
 use Rattle.hw_lines.specs.declared.nets.Choice.{Choice}
 use Rattle.hw_lines.specs.declared.nets.Net.{Net}
-use Rattle.hw_lines.specs.declared.nets.Choice.TheVariants.{ToState, ToEnd, Set, NextValue, Stores, WriteIndex, WriteData, Reads, ArrayIndex, Puts, Token, Takes, Address, StoreEnable, Data}
-use Rattle.hw_lines.specs.declared.nets.Net.TheVariants.{State, Ended, Done, Scalar, Variable, Array, Has, Dout, Taken, Din, Wr, Rdy, Ack, Rdata, Addr, Wdata, We, Plain, Datum, Eot, At, Go, Inside, Into, Packed, Next, Value, Index, ReadIndex, ReadInside, ReadOn, Raw, Answer, Node}
+use Rattle.hw_lines.specs.declared.nets.Choice.TheVariants.{ToState, ToEnd, Set, NextValue, Stores, WriteIndex, WriteData, Reads, ArrayIndex, Puts, Token, Takes, Address, StoreEnable, Data, Clear}
+use Rattle.hw_lines.specs.declared.nets.Net.TheVariants.{State, Ended, Done, Scalar, Variable, Array, Has, Dout, Taken, Din, Wr, Rdy, Ack, Rdata, Addr, Wdata, We, Plain, Datum, Eot, At, Go, Inside, Into, Packed, Next, Value, Index, ReadIndex, ReadInside, ReadOn, Raw, Answer, Node, Reset}
 use Rattle.hw_lines.specs.Nets.{numbers, name, front, value_front, index_front, read_front}
 use Rattle.hw_lines.specs.Names.{AreSmall}
 use Rattle.hw_lines.specs.Shape.{Shape, array_kind, array_cells, register_kind, index_bits, stream_kind, memory_kind, state_count, state_bits, form_at}
@@ -23,7 +23,7 @@ use Rattle.hw_lines.specs.Drivers.{Driver}
 use Rattle.hw_lines.specs.Wires.{ArrayRead, read_count, compiled}
 use Rattle.hw_lines.specs.States.{net, index_of, value_of, value_kind, index_wires, reads_at, awaited, needs_go, go_of, next_wires, into_of, counting, more_wires, state_wires, decoded}
 use Rattle.hw_lines.specs.Effects.{entries}
-use Rattle.hw_lines.specs.Texts.{by_end, scalar_port, writes, stream_inputs, memory_inputs, inputs, variable, array, held, offered, read_index, asked_of, asked, answered, unless_none, reads_of, read_numbers, any, pick, result, variable_choices, array_choices, choices, written, taken, stream_outputs, memory_outputs, outputs}
+use Rattle.hw_lines.specs.Texts.{by_end, scalar_port, writes, stream_inputs, memory_inputs, inputs, variable, array, held, offered, read_index, asked_of, asked, answered, unless_none, reads_of, read_numbers, any, pick, result, variable_choices, array_choices, choices, written, taken, stream_outputs, memory_outputs, outputs, reset_by}
 use Rattle.hw_lines.proofs.Spelled.{nodes_numbered}
 use Rattle.hw_task_laws.proofs.names.Rows.{compiled_row, drivers_row, any_row, pick_row}
 use Rattle.hw_task_laws.proofs.names.Bounds.{IsBounded}
@@ -251,33 +251,42 @@ module _ (S : Shape) (B : IsBounded S) where
 
   -- ---- choices
 
-  variable_choice_nets : (k : ℕ) → k < length S.registers → Nets (In_part Any part_of k) 62 64 (variable_choices S k)
+  reset_nets : (Q : Net → Type 0) (k : ℕ) → Q (Reset k) → AreSmall (numbers (Reset k)) → (es : List Entry) → Nets Q 63 64 (reset_by k es)
+  reset_nets Q k so small [] = names_none declared_names Q 63 64 [] refl
+  reset_nets Q k so small (e ∷ es) = names_one declared_names Q 63 64 _ (Reset k) refl so small refl
+
+  variable_choice_nets : (k : ℕ) → k < length S.registers → Nets (In_part Any part_of k) 62 66 (variable_choices S k)
   variable_choice_nets k l =
       let small = low_of k (length S.registers) l B.registers in
       let Q = In_part Any part_of k in
-      names_both declared_names Q 62 63 63 64 62 64 (any S (Set k)) (pick S (bits_of (register_kind S k)) (NextValue k)) (any_nets Q 62 63 (Set k) (λ i h. ((tt, refl), (small, (h, tt)))) (λ i. refl))
-      (pick_nets Q 63 64 (bits_of (register_kind S k)) (NextValue k) (λ i h. ((tt, refl), (small, (h, tt)))) (λ i. refl)) refl
+      let zero = any S (Clear k) in
+      let reset = reset_by k (entries S (Clear k)) in
+      names_both declared_names Q 62 65 65 66 62 66 (zero ++ reset ++ any S (Set k)) (pick S (bits_of (register_kind S k)) (NextValue k))
+      (names_both declared_names Q 62 64 64 65 62 65 (zero ++ reset) (any S (Set k))
+      (names_both declared_names Q 62 63 63 64 62 64 zero reset (any_nets Q 62 63 (Clear k) (λ i h. ((tt, refl), (small, (h, tt)))) (λ i. refl)) (reset_nets Q k (tt, refl) (small, tt) (entries S (Clear k))) refl)
+      (any_nets Q 64 65 (Set k) (λ i h. ((tt, refl), (small, (h, tt)))) (λ i. refl)) refl)
+      (pick_nets Q 65 66 (bits_of (register_kind S k)) (NextValue k) (λ i h. ((tt, refl), (small, (h, tt)))) (λ i. refl)) refl
 
-  array_choice_nets : (k : ℕ) → k < length S.arrays → Nets (In_part Any part_of k) 64 67 (array_choices S k)
+  array_choice_nets : (k : ℕ) → k < length S.arrays → Nets (In_part Any part_of k) 66 69 (array_choices S k)
   array_choice_nets k l =
       let small = low_of k (length S.arrays) l B.arrays in
       let Q = In_part Any part_of k in
-      names_both declared_names Q 64 66 66 67 64 67 (any S (Stores k) ++ pick S (index_bits S k) (WriteIndex k)) (pick S (bits_of (array_kind S k)) (WriteData k))
-      (names_both declared_names Q 64 65 65 66 64 66 (any S (Stores k)) (pick S (index_bits S k) (WriteIndex k)) (any_nets Q 64 65 (Stores k) (λ i h. ((tt, refl), (small, (h, tt)))) (λ i. refl))
-      (pick_nets Q 65 66 (index_bits S k) (WriteIndex k) (λ i h. ((tt, refl), (small, (h, tt)))) (λ i. refl)) refl)
-      (pick_nets Q 66 67 (bits_of (array_kind S k)) (WriteData k) (λ i h. ((tt, refl), (small, (h, tt)))) (λ i. refl)) refl
+      names_both declared_names Q 66 68 68 69 66 69 (any S (Stores k) ++ pick S (index_bits S k) (WriteIndex k)) (pick S (bits_of (array_kind S k)) (WriteData k))
+      (names_both declared_names Q 66 67 67 68 66 68 (any S (Stores k)) (pick S (index_bits S k) (WriteIndex k)) (any_nets Q 66 67 (Stores k) (λ i h. ((tt, refl), (small, (h, tt)))) (λ i. refl))
+      (pick_nets Q 67 68 (index_bits S k) (WriteIndex k) (λ i h. ((tt, refl), (small, (h, tt)))) (λ i. refl)) refl)
+      (pick_nets Q 68 69 (bits_of (array_kind S k)) (WriteData k) (λ i h. ((tt, refl), (small, (h, tt)))) (λ i. refl)) refl
 
-  pub choices_nets : Nets Any 60 67 (choices S)
+  pub choices_nets : Nets Any 60 69 (choices S)
   choices_nets =
       let variables = each (variable_choices S) (length S.registers) in
       let arrays = each (array_choices S) (length S.arrays) in
       let first = pick S (state_bits S) ToState in
       let second = any S ToEnd in
-      names_both declared_names Any 60 64 64 67 60 67 (first ++ second ++ variables) arrays
-      (names_both declared_names Any 60 62 62 64 60 64 (first ++ second) variables
+      names_both declared_names Any 60 66 66 69 60 69 (first ++ second ++ variables) arrays
+      (names_both declared_names Any 60 62 62 66 60 66 (first ++ second) variables
       (names_both declared_names Any 60 61 61 62 60 62 first second (pick_nets Any 60 61 (state_bits S) ToState (λ i h. (tt, (h, tt))) (λ i. refl)) (any_nets Any 61 62 ToEnd (λ i h. (tt, (h, tt))) (λ i. refl)) refl)
-      (names_each declared_names Any part_of 62 64 (variable_choices S) (length S.registers) variable_choice_nets) refl)
-      (names_each declared_names Any part_of 64 67 (array_choices S) (length S.arrays) array_choice_nets) refl
+      (names_each declared_names Any part_of 62 66 (variable_choices S) (length S.registers) variable_choice_nets) refl)
+      (names_each declared_names Any part_of 66 69 (array_choices S) (length S.arrays) array_choice_nets) refl
 
   -- ---- outputs
 

@@ -14,8 +14,8 @@ use Rattle.tapa_base.specs.Lists.{Has}
 use Rattle.vlog_tree.specs.Table.{Name}
 use Rattle.tapa_base.proofs.Lists.{has_split}
 use Rattle.hw_build.specs.Elements.{Element, Wire}
-use Rattle.hw_build.specs.Trees.{numbered, tree_node, tree_nodes}
-use Rattle.hw_build.specs.Choices.{Entry, any_leaves, any_elements, pick_leaves, pick_elements}
+use Rattle.hw_build.specs.Trees.{numbered}
+use Rattle.hw_build.specs.Choices.{Entry, row, any_driver, any_elements, pick_driver, pick_elements}
 use Rattle.hw_build.specs.Fits.{declared_names}
 use Rattle.task_fsm.specs.Machine.{Expression, Number, Reg, CellOf, Converted, Applied, Flipped, Inverse, Both, Either, Chosen}
 use Rattle.hw_lines.specs.Fixed.{fixed}
@@ -116,39 +116,15 @@ compiled_row front m n k (Chosen e a b) =
 
 -- ---- choices
 
-any_leaves_row : (front : Name) (j : ℕ) (entries : List Entry) → IsRow front j (length entries) (any_leaves front j entries)
-any_leaves_row front j [] = row_none front j
-any_leaves_row front j (e ∷ entries) =
-    let r = any_leaves_row front (suc j) entries in
-    record { wires = ((1, Plain (Net e.condition), refl), r.wires); count = ap suc r.count }
-
-pick_leaves_row : (w : ℕ) (front : Name) (j : ℕ) (entries : List Entry) → IsRow front j (length entries) (pick_leaves w front j entries)
-pick_leaves_row w front j [] = row_none front j
-pick_leaves_row w front j (e ∷ entries) =
-    let r = pick_leaves_row w front (suc j) entries in
-    record { wires = ((w, Choose (Net e.condition) e.value (Literal w 0), refl), r.wires); count = ap suc r.count }
-
-nodes_row : (w : ℕ) (front : Name) (leaves m : ℕ) → IsRow front leaves m (tree_nodes w front leaves m)
-nodes_row w front leaves zero = row_none front leaves
-nodes_row w front leaves (suc m) =
-    let e : m + 1 ≡ suc m = omega arith in
-    subst (λ z. IsRow front leaves z (tree_nodes w front leaves (suc m))) e
-    (row_join front leaves m 1 (tree_nodes w front leaves m) (tree_node w front leaves m ∷ []) (nodes_row w front leaves m)
-    (record { wires = ((w, Binary (Net (numbered front (2 * m))) Or (Net (numbered front (2 * m + 1))), refl), tt); count = refl }))
-
-tree_row : (w : ℕ) (front : Name) (leaves : List Element) (n m : ℕ) → IsRow front 0 n leaves → AreRow front 0 (leaves ++ tree_nodes w front n m)
-tree_row w front leaves n m h =
-    row_append front 0 leaves (tree_nodes w front n m) h.wires
-    (subst (λ z. AreRow front z (tree_nodes w front n m)) (let c = h.count in let e : n ≡ 0 + length leaves = omega (arith, c) in e) (nodes_row w front n m).wires)
+choice_row : (w : ℕ) (front : Name) (driver : ℕ → Entry → Value) (j : ℕ) (entries : List Entry) → AreRow front j (row w front driver j entries)
+choice_row w front driver j [] = tt
+choice_row w front driver j (e ∷ entries) = ((w, driver j e, refl), choice_row w front driver (suc j) entries)
 
 pub any_row : (front : Name) (entries : List Entry) → AreRow front 0 (any_elements front entries)
-any_row front entries = tree_row 1 front (any_leaves front 0 entries) (length entries) (length entries - 1) (any_leaves_row front 0 entries)
+any_row front entries = choice_row 1 front (any_driver front) 0 entries
 
 pub pick_row : (w : ℕ) (front : Name) (entries : List Entry) → AreRow front 0 (pick_elements w front entries)
-pick_row w front [] = tt
-pick_row w front (e ∷ []) = ((w, Plain e.value, refl), tt)
-pick_row w front (e ∷ d ∷ entries) =
-    tree_row w front (pick_leaves w front 0 (e ∷ d ∷ entries)) (length (e ∷ d ∷ entries)) (length (e ∷ d ∷ entries) - 1) (pick_leaves_row w front 0 (e ∷ d ∷ entries))
+pick_row w front entries = choice_row w front (pick_driver front) 0 entries
 
 -- ---- their names
 

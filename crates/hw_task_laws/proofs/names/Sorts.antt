@@ -17,7 +17,7 @@ use Rattle.hw_build.specs.Fits.{declared_names, targets, AreOnce}
 use Rattle.hw_build.proofs.Once.{two_once}
 use Rattle.hw_lines.specs.declared.nets.Choice.{Choice}
 use Rattle.hw_lines.specs.declared.nets.Net.{Net}
-use Rattle.hw_lines.specs.declared.nets.Choice.TheVariants.{ToState, ToEnd, Set, NextValue, Stores, WriteIndex, WriteData, Reads, ArrayIndex, Puts, Token, Takes, Address, StoreEnable, Data}
+use Rattle.hw_lines.specs.declared.nets.Choice.TheVariants.{ToState, ToEnd, Clear, Set, NextValue, Stores, WriteIndex, WriteData, Reads, ArrayIndex, Puts, Token, Takes, Address, StoreEnable, Data}
 use Rattle.hw_lines.specs.declared.nets.Net.TheVariants.{State, Ended, Done, Variable, Array, Node}
 use Rattle.hw_lines.specs.Nets.{word, choice_word, choice_numbers, numbers, name}
 use Rattle.hw_lines.specs.Shape.{Shape, state_count, stream_kind, memory_kind}
@@ -44,6 +44,7 @@ is_port_of_all n = eqb n 25452 || eqb n 29299
 choice_early : (c : Choice) (j : ℕ) → is_port_of_all (early (choice_word c ++ tail_of (choice_numbers c ++ j ∷ []))) ≡ false
 choice_early ToState j = refl
 choice_early ToEnd j = refl
+choice_early (Clear a) j = refl
 choice_early (Set a) j = refl
 choice_early (NextValue a) j = refl
 choice_early (Stores a) j = refl
@@ -116,8 +117,8 @@ module _ (S : Shape) (c : IsCountable S) where
   all_named : Named declared_names Any 0 84 (task_elements S)
   all_named =
       names_both declared_names Any 0 83 83 84 0 84 (inputs S ++ held S ++ decodes ++ offers ++ reads ++ states ++ choices S ++ outputs S) (blocks S)
-      (names_both declared_names Any 0 67 70 83 0 83 (inputs S ++ held S ++ decodes ++ offers ++ reads ++ states ++ choices S) (outputs S)
-      (names_both declared_names Any 0 57 60 67 0 67 (inputs S ++ held S ++ decodes ++ offers ++ reads ++ states) (choices S)
+      (names_both declared_names Any 0 69 70 83 0 83 (inputs S ++ held S ++ decodes ++ offers ++ reads ++ states ++ choices S) (outputs S)
+      (names_both declared_names Any 0 57 60 69 0 69 (inputs S ++ held S ++ decodes ++ offers ++ reads ++ states) (choices S)
       (names_both declared_names Any 0 47 50 57 0 57 (inputs S ++ held S ++ decodes ++ offers ++ reads) states
       (names_both declared_names Any 0 33 40 47 0 47 (inputs S ++ held S ++ decodes ++ offers) reads
       (names_both declared_names Any 0 21 30 33 0 33 (inputs S ++ held S ++ decodes) offers
@@ -140,15 +141,15 @@ module _ (S : Shape) (c : IsCountable S) where
 
   -- ---- blocks
 
-  block_target : (x : Name) (first : Atom) (es : List Entry) (set : Name) (next : Atom) → targets (Block (register_block x first es set next)) ≡ x ∷ []
-  block_target x first [] set next = refl
-  block_target x first (e ∷ es) set next = refl
+  block_target : (reset x : Name) (first : Atom) (es : List Entry) (set : Name) (next : Atom) → targets (Block (register_block reset x first es set next)) ≡ x ∷ []
+  block_target reset x first [] set next = refl
+  block_target reset x first (e ∷ es) set next = refl
 
   abbrev Targets : (Net → Type 0) → ℕ → ℕ → List Element → Type 0
   Targets Q low high es = Names targets Q low high es
 
   variable_target : (k : ℕ) → k < length S.registers → Targets (In_part Any part_of k) 12 13 (variable_block S k)
-  variable_target k l = names_one targets (In_part Any part_of k) 12 13 _ (Variable k) (block_target (name (Variable k)) _ (entries S (Set k)) _ _) (tt, refl) (low_of k (length S.registers) l B.registers, tt) refl
+  variable_target k l = names_one targets (In_part Any part_of k) 12 13 _ (Variable k) (block_target _ (name (Variable k)) _ (entries S (Set k)) _ _) (tt, refl) (low_of k (length S.registers) l B.registers, tt) refl
 
   array_target : (k : ℕ) → k < length S.arrays → Targets (In_part Any part_of k) 13 14 (array_block S k)
   array_target k l = here (entries S (Stores k)) _ refl where
@@ -161,7 +162,7 @@ module _ (S : Shape) (c : IsCountable S) where
       let variables = each (variable_block S) (length S.registers) in
       let arrays = each (array_block S) (length S.arrays) in
       names_more targets Any 10 11 11 14 10 14 _ _ (names_one targets Any 10 11 _ State refl tt tt refl)
-      (names_more targets Any 11 12 12 14 11 14 _ _ (names_one targets Any 11 12 _ Ended (block_target (name Ended) _ (entries S ToEnd) _ _) tt tt refl)
+      (names_more targets Any 11 12 12 14 11 14 _ _ (names_one targets Any 11 12 _ Ended (block_target _ (name Ended) _ (entries S ToEnd) _ _) tt tt refl)
       (names_both targets Any 12 13 13 14 12 14 variables arrays (names_each targets Any part_of 12 13 (variable_block S) (length S.registers) variable_target)
       (names_each targets Any part_of 13 14 (array_block S) (length S.arrays) array_target) refl) refl) refl
 

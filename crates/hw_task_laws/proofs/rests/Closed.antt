@@ -6,7 +6,7 @@ use Rattle.tapa_base.specs.declared.kind.Kind.TheVariants as kind
 use Rattle.tapa_base.specs.Kinds.{bits_of}
 use Rattle.vlog_tree.specs.declared.tree.Atom.{Atom}
 use Rattle.vlog_tree.specs.declared.tree.Atom.TheVariants.{Net as NetAtom, Literal}
-use Rattle.vlog_tree.specs.declared.tree.BinaryOp.TheVariants.{Plus, And, Equals, Less}
+use Rattle.vlog_tree.specs.declared.tree.BinaryOp.TheVariants.{Plus, And, Equals, Less, Or}
 use Rattle.vlog_tree.specs.declared.tree.Value.TheVariants.{Plain, Invert, Binary, Choose, Concat, Cell}
 use Rattle.tapa_base.specs.Lists.{Has}
 use Rattle.vlog_tree.specs.Labels.{rst}
@@ -20,16 +20,16 @@ use Rattle.hw_build.specs.Choices.{Entry, choice}
 use Rattle.hw_build.proofs.Parts.{of_each}
 use Rattle.task_fsm.specs.Machine.{StateForm, CellAt, TestAt, ReadAt, WriteAt, PeekAt, EotAt, OpenAt, CloseAt, LoadAt, StoreAt, ClearAt}
 use Rattle.hw_lines.specs.declared.nets.Choice.{Choice}
-use Rattle.hw_lines.specs.declared.nets.Choice.TheVariants.{ToState, ToEnd, Set, NextValue, Stores, WriteIndex, WriteData, Reads, ArrayIndex, Puts, Token, Takes, Address, StoreEnable, Data}
+use Rattle.hw_lines.specs.declared.nets.Choice.TheVariants.{ToState, ToEnd, Set, NextValue, Stores, WriteIndex, WriteData, Reads, ArrayIndex, Puts, Token, Takes, Address, StoreEnable, Data, Clear}
 use Rattle.hw_lines.specs.declared.nets.Net.{Net}
-use Rattle.hw_lines.specs.declared.nets.Net.TheVariants.{State, Ended, Done, Scalar, Variable, Array, Has as HasNet, Dout, Taken, Din, Wr, Rdy, Ack, Rdata, Addr, Wdata, We, Plain as PlainNet, Datum, Eot, At, Go, Inside, Into, Packed, Next, Value as ValueNet, Index, ReadIndex, ReadInside, ReadOn, Raw, Answer, Node}
+use Rattle.hw_lines.specs.declared.nets.Net.TheVariants.{State, Ended, Done, Scalar, Variable, Array, Has as HasNet, Dout, Taken, Din, Wr, Rdy, Ack, Rdata, Addr, Wdata, We, Plain as PlainNet, Datum, Eot, At, Go, Inside, Into, Packed, Next, Value as ValueNet, Index, ReadIndex, ReadInside, ReadOn, Raw, Answer, Node, Reset}
 use Rattle.hw_lines.specs.Nets.{name, choice_word, front, value_front, index_front, read_front}
 use Rattle.hw_lines.specs.Shape.{Shape, array_kind, array_cells, stream_kind, register_kind, memory_kind, index_bits, state_count, state_bits, form_at}
 use Rattle.hw_lines.specs.Drivers.{Driver, low_bits}
 use Rattle.hw_lines.specs.Wires.{ArrayRead, read_count}
 use Rattle.hw_lines.specs.States.{net, number_of, index_of, value_of, value_kind, index_wires, value_wires, reads_at, awaited, needs_go, go_of, next_of, next_wires, into_of, counting, more_wires, state_wires, decoded}
 use Rattle.hw_lines.specs.Effects.{entry, end_token, eot_of, spot_of, tokens, askings, savings, effect, entries}
-use Rattle.hw_lines.specs.Texts.{scalar_port, writes, stream_inputs, memory_inputs, inputs, variable, array, held, offers, offered, read_index, asked_of, asked, answered, unless_none, reads_of, read_numbers, any, pick, result_of, result, root, variable_choices, array_choices, choices, written, taken, stream_outputs, memory_outputs, outputs, variable_block, array_block, blocks, task_elements}
+use Rattle.hw_lines.specs.Texts.{scalar_port, writes, stream_inputs, memory_inputs, inputs, variable, array, held, offers, offered, read_index, asked_of, asked, answered, unless_none, reads_of, read_numbers, any, pick, result_of, result, root, variable_choices, array_choices, choices, written, taken, stream_outputs, memory_outputs, outputs, variable_block, array_block, blocks, task_elements, reset_by}
 use Rattle.hw_lines.proofs.Spelled.{nodes_numbered}
 use Rattle.hw_task_laws.proofs.names.Rows.{any_row, pick_row}
 use Rattle.hw_task_laws.proofs.names.Bounds.{asked_end}
@@ -150,14 +150,17 @@ module _ (S : Shape) where
       (one_closed (Wire 1 (name (ReadInside k p)) inside) (Wire 1 (name (ReadOn k p)) on ∷ []) (wire_closed 1 (name (ReadInside k p)) inside (free_binary C.atom Less (Literal 64 (array_cells S r.array)) f.atom refl))
       (one_closed (Wire 1 (name (ReadOn k p)) on) [] (wire_closed 1 (name (ReadOn k p)) on (free_binary (net (At k)) And (net (ReadInside k p)) (net_free (At k) (free_by (At k))) (net_free (ReadInside k p) (free_by (ReadInside k p))))) refl))
 
-  spots_free : (p a k : ℕ) (d : Entry) (o : Option ArrayRead) → Has (spot_of S p a k o) d → (is_free d.condition ≡ true) × FreeAtom d.value
-  spots_free p a k d None h = absurd h
-  spots_free p a k d (Some r) h =
+  spots_free : (y : Net) → is_free (name y) ≡ true → (p a k : ℕ) (d : Entry) (o : Option ArrayRead) → Has (spot_of S y p a k o) d → (is_free d.condition ≡ true) × FreeAtom d.value
+  spots_free y b p a k d None h = absurd h
+  spots_free y b p a k d (Some r) h =
       let x = low_bits (index_bits S a) (read_index p k r).atom in
-      free_entry (ReadOn k p) x d (free_by (ReadOn k p)) (low_free (index_bits S a) (read_index p k r).atom (read_free p k r).atom) (of_at r.array a (entry (ReadOn k p) x) d h).1
+      free_entry y x d b (low_free (index_bits S a) (read_index p k r).atom (read_free p k r).atom) (of_at r.array a (entry y x) d h).1
 
   reads_free : (p a : ℕ) → AreFree (Reads p a)
-  reads_free p a d h = let r = of_each (effect S (Reads p a)) (state_count S) d h in spots_free p a r.0 d (slice_get (reads_at S r.0) p) r.2
+  reads_free p a d h = let r = of_each (effect S (Reads p a)) (state_count S) d h in spots_free (ReadOn r.0 p) (free_by (ReadOn r.0 p)) p a r.0 d (slice_get (reads_at S r.0) p) r.2
+
+  places_free : (p a : ℕ) → AreFree (ArrayIndex p a)
+  places_free p a d h = let r = of_each (effect S (ArrayIndex p a)) (state_count S) d h in spots_free (At r.0) (free_by (At r.0)) p a r.0 d (slice_get (reads_at S r.0) p) r.2
 
   answered_closed : (p a : ℕ) → Closed (answered S p a)
   answered_closed p a =
@@ -166,7 +169,7 @@ module _ (S : Shape) where
       let raw = Cell (name (Array a)) (root S (ArrayIndex p a)) in
       let last = Choose (NetAtom (root S (Reads p a))) (net (Raw p a)) (Literal w 0) in
       both_closed (any S (Reads p a) ++ pick S i (ArrayIndex p a)) (Wire w (name (Raw p a)) raw ∷ Wire w (name (Answer p a)) last ∷ [])
-      (both_closed (any S (Reads p a)) (pick S i (ArrayIndex p a)) (free_any (Reads p a) refl (reads_free p a)) (free_pick i (ArrayIndex p a) refl (reads_free p a)))
+      (both_closed (any S (Reads p a)) (pick S i (ArrayIndex p a)) (free_any (Reads p a) refl (reads_free p a)) (free_pick i (ArrayIndex p a) refl (places_free p a)))
       (one_closed (Wire w (name (Raw p a)) raw) (Wire w (name (Answer p a)) last ∷ []) (wire_closed w (name (Raw p a)) raw (free_net (root S (ArrayIndex p a)) (root_is_free (ArrayIndex p a) refl)))
       (one_closed (Wire w (name (Answer p a)) last) [] (wire_closed w (name (Answer p a)) last (free_choose (NetAtom (root S (Reads p a))) (net (Raw p a)) (Literal w 0) (free_net (root S (Reads p a)) (root_is_free (Reads p a) refl)) (net_free (Raw p a) (free_by (Raw p a))) refl)) refl))
 
@@ -244,6 +247,11 @@ module _ (S : Shape) where
 
   -- ---- choices
 
+  reset_closed : (r : ℕ) (es : List Entry) → Closed (reset_by r es)
+  reset_closed r [] = refl
+  reset_closed r (e ∷ es) =
+      let v = Binary (NetAtom rst) Or (NetAtom (choice (front (Clear r)) (e ∷ es))) in one_closed (Wire 1 (name (Reset r)) v) [] (bound_closed 1 (name (Reset r)) v (free_by (Reset r))) refl
+
   choices_closed : Closed (choices S)
   choices_closed =
       let first = pick S (state_bits S) ToState in
@@ -252,7 +260,12 @@ module _ (S : Shape) where
       let arrays = each (array_choices S) (length S.arrays) in
       both_closed (first ++ second ++ variables) arrays
       (both_closed (first ++ second) variables (both_closed first second (bound_pick (state_bits S) ToState refl) (bound_any ToEnd refl))
-      (each_closed (variable_choices S) (length S.registers) (λ r. both_closed (any S (Set r)) (pick S (bits_of (register_kind S r)) (NextValue r)) (bound_any (Set r) refl) (bound_pick (bits_of (register_kind S r)) (NextValue r) refl))))
+      (each_closed (variable_choices S) (length S.registers)
+      (λ r.
+      let zero = any S (Clear r) in
+      let reset = reset_by r (entries S (Clear r)) in
+      both_closed (zero ++ reset ++ any S (Set r)) (pick S (bits_of (register_kind S r)) (NextValue r))
+      (both_closed (zero ++ reset) (any S (Set r)) (both_closed zero reset (bound_any (Clear r) refl) (reset_closed r (entries S (Clear r)))) (bound_any (Set r) refl)) (bound_pick (bits_of (register_kind S r)) (NextValue r) refl))))
       (each_closed (array_choices S) (length S.arrays)
       (λ a.
       both_closed (any S (Stores a) ++ pick S (index_bits S a) (WriteIndex a)) (pick S (bits_of (array_kind S a)) (WriteData a))

@@ -19,7 +19,7 @@ use Rattle.hw_build.specs.Scope.{each}
 use Rattle.hw_build.specs.Choices.{Entry}
 use Rattle.hw_lines.specs.declared.nets.Choice.{Choice}
 use Rattle.hw_lines.specs.declared.nets.Net.{Net}
-use Rattle.hw_lines.specs.declared.nets.Choice.TheVariants.{ToState, ToEnd, Set, NextValue, Stores, WriteIndex, WriteData, Reads, ArrayIndex, Puts, Token, Takes, Address, StoreEnable, Data}
+use Rattle.hw_lines.specs.declared.nets.Choice.TheVariants.{ToState, ToEnd, Clear, Set, NextValue, Stores, WriteIndex, WriteData, Reads, ArrayIndex, Puts, Token, Takes, Address, StoreEnable, Data}
 use Rattle.hw_lines.specs.declared.nets.Net.TheVariants.{State, Node}
 use Rattle.hw_lines.specs.Nets.{word, choice_word, choice_numbers, numbers, name}
 use Rattle.hw_lines.specs.Texts.{by_end, unless_none}
@@ -45,6 +45,7 @@ is_free x = is_free_word (word_of x)
 choice_back : (c : Choice) (j : ℕ) → word_of (choice_word c ++ tail_of (choice_numbers c ++ j ∷ [])) ≡ choice_word c
 choice_back ToState j = refl
 choice_back ToEnd j = refl
+choice_back (Clear a) j = refl
 choice_back (Set a) j = refl
 choice_back (NextValue a) j = refl
 choice_back (Stores a) j = refl

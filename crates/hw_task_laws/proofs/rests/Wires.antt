@@ -12,12 +12,13 @@ use Rattle.vlog_tree.specs.declared.tree.Atom.{Atom}
 use Rattle.vlog_tree.specs.declared.tree.Atom.TheVariants.{Net, Part, Literal}
 use Rattle.vlog_tree.specs.declared.tree.BinaryOp.{BinaryOp}
 use Rattle.vlog_tree.specs.declared.tree.BinaryOp.TheVariants.{Plus, Minus, Times, Divide, Remainder, And, Or, Xor, ShiftLeft, ShiftRight, Equals, Differs, Less}
+use Rattle.vlog_tree.specs.declared.tree.Value.{Value}
 use Rattle.vlog_tree.specs.declared.tree.Value.TheVariants.{Plain, Invert, Binary, Choose, Concat}
 use Rattle.tapa_base.specs.Lists.{Has}
 use Rattle.vlog_tree.specs.Table.{Name}
 use Rattle.hw_build.specs.Elements.{Element, Wire}
-use Rattle.hw_build.specs.Trees.{numbered, tree_node, tree_nodes}
-use Rattle.hw_build.specs.Choices.{Entry, any_leaves, any_elements, pick_leaves, pick_elements, choice}
+use Rattle.hw_build.specs.Trees.{numbered}
+use Rattle.hw_build.specs.Choices.{Entry, row, any_driver, any_elements, pick_driver, pick_elements, choice}
 use Rattle.task_fsm.specs.Machine.{Expression, Number, Reg, CellOf, Converted, Applied, Flipped, Inverse, Both, Either, Chosen}
 use Rattle.hw_lines.specs.declared.nets.Net.TheVariants.{Variable, Answer}
 use Rattle.hw_lines.specs.Nets.{name}
@@ -248,32 +249,24 @@ module _ (front : Name) (own : (i : ℕ) → is_free (numbered front i) ≡ true
   abbrev pub FreeEntries : List Entry → Type 0
   FreeEntries entries = (d : Entry) → Has entries d → (is_free d.condition ≡ true) × FreeAtom d.value
 
-  leaves_any : (j : ℕ) (entries : List Entry) → FreeEntries entries → Closed (any_leaves front j entries)
-  leaves_any j [] h = refl
-  leaves_any j (e ∷ entries) h =
-      one_closed (Wire 1 (numbered front j) (Plain (Net e.condition))) (any_leaves front (suc j) entries) (wire_closed 1 (numbered front j) (Plain (Net e.condition)) (free_net e.condition (h e (inl refl)).0)) (leaves_any (suc j) entries (λ d k. h d (inr k)))
+  row_closed : (w : ℕ) (driver : ℕ → Entry → Value) (j : ℕ) (entries : List Entry) → ((i : ℕ) (e : Entry) → Has entries e → FreeValue (driver i e)) → Closed (row w front driver j entries)
+  row_closed w driver j [] h = refl
+  row_closed w driver j (e ∷ entries) h =
+      one_closed (Wire w (numbered front j) (driver j e)) (row w front driver (suc j) entries) (wire_closed w (numbered front j) (driver j e) (h j e (inl refl))) (row_closed w driver (suc j) entries (λ i d k. h i d (inr k)))
 
-  leaves_pick : (w j : ℕ) (entries : List Entry) → FreeEntries entries → Closed (pick_leaves w front j entries)
-  leaves_pick w j [] h = refl
-  leaves_pick w j (e ∷ entries) h =
-      let v = Choose (Net e.condition) e.value (Literal w 0) in
-      let f = h e (inl refl) in
-      one_closed (Wire w (numbered front j) v) (pick_leaves w front (suc j) entries) (wire_closed w (numbered front j) v (free_choose (Net e.condition) e.value (Literal w 0) (free_net e.condition f.0) f.1 refl)) (leaves_pick w (suc j) entries (λ d k. h d (inr k)))
-
-  nodes_closed : (w leaves m : ℕ) → Closed (tree_nodes w front leaves m)
-  nodes_closed w leaves zero = refl
-  nodes_closed w leaves (suc m) =
-      both_closed (tree_nodes w front leaves m) (tree_node w front leaves m ∷ []) (nodes_closed w leaves m)
-      (one_closed (tree_node w front leaves m) [] (wire_closed w (numbered front (leaves + m)) (Binary (Net (numbered front (2 * m))) Or (Net (numbered front (2 * m + 1)))) (free_binary (Net (numbered front (2 * m))) Or (Net (numbered front (2 * m + 1))) (wire_free (2 * m)) (wire_free (2 * m + 1)))) refl)
+  any_driver_free : (entries : List Entry) → FreeEntries entries → (j : ℕ) (e : Entry) → Has entries e → FreeValue (any_driver front j e)
+  any_driver_free entries h zero e k = free_net e.condition (h e k).0
+  any_driver_free entries h (suc j) e k = free_binary (Net (numbered front j)) Or (Net e.condition) (wire_free j) (free_net e.condition (h e k).0)
 
   pub any_closed : (entries : List Entry) → FreeEntries entries → Closed (any_elements front entries)
-  any_closed entries h = both_closed (any_leaves front 0 entries) (tree_nodes 1 front (length entries) (length entries - 1)) (leaves_any 0 entries h) (nodes_closed 1 (length entries) (length entries - 1))
+  any_closed entries h = row_closed 1 (any_driver front) 0 entries (any_driver_free entries h)
+
+  pick_driver_free : (entries : List Entry) → FreeEntries entries → (j : ℕ) (e : Entry) → Has entries e → FreeValue (pick_driver front j e)
+  pick_driver_free entries h zero e k = (h e k).1
+  pick_driver_free entries h (suc j) e k = let f = h e k in free_choose (Net e.condition) e.value (Net (numbered front j)) (free_net e.condition f.0) f.1 (wire_free j)
 
   pub pick_closed : (w : ℕ) (entries : List Entry) → FreeEntries entries → Closed (pick_elements w front entries)
-  pick_closed w [] h = refl
-  pick_closed w (e ∷ []) h = one_closed (Wire w (numbered front 0) (Plain e.value)) [] (wire_closed w (numbered front 0) (Plain e.value) (h e (inl refl)).1) refl
-  pick_closed w (e ∷ d ∷ entries) h =
-      both_closed (pick_leaves w front 0 (e ∷ d ∷ entries)) (tree_nodes w front (length (e ∷ d ∷ entries)) (length (e ∷ d ∷ entries) - 1)) (leaves_pick w 0 (e ∷ d ∷ entries) h) (nodes_closed w (length (e ∷ d ∷ entries)) (length (e ∷ d ∷ entries) - 1))
+  pick_closed w entries h = row_closed w (pick_driver front) 0 entries (pick_driver_free entries h)
 
   pub root_free : (entries : List Entry) → is_free (choice front entries) ≡ true
-  root_free entries = own (2 * length entries - 2)
+  root_free entries = own (length entries - 1)

@@ -1,38 +1,43 @@
 -- What is held in a cycle, and in the first two.
 use Rattle.std.proofs.Common.{◌≡◌, ℕ, zero, suc, ◌<◌, ◌≤◌, Bool, true, false, cond, eqb, List, [], ◌∷◌, ◌++◌, length, Some, inl, refl, sym, ap, subst, ◌∙◌, arith, ⊎_elim}
-use Rattle.std.specs.Prelude.{nat_lt, slice_get, slice_index}
+use Rattle.std.specs.Prelude.{nat_lt, slice_get, slice_index, bit_or}
 use Rattle.std.proofs.lemmas.Nat.{pow_pos}
 use Rattle.std.proofs.lemmas.Bool.{cases_lt, lt-ltb, le-ltb, eqb-true}
 use Rattle.tapa_base.specs.Kinds.{bits_of, values_of}
 use Rattle.kahn_model.specs.Trace.{State, cell, cells_of}
 use Rattle.vlog_tree.specs.declared.tree.Atom.{Atom}
+use Rattle.vlog_tree.specs.declared.tree.Atom.TheVariants.{Net as NetAtom}
+use Rattle.vlog_tree.specs.declared.tree.BinaryOp.TheVariants.{Or}
+use Rattle.vlog_tree.specs.declared.tree.Value.TheVariants.{Binary}
 use Rattle.vlog_tree.specs.declared.tree.Item.TheVariants.{Reg, Memory as MemoryLine}
 use Rattle.vlog_tree.specs.Form.{ModuleTree}
 use Rattle.tapa_base.specs.Lists.{Has}
+use Rattle.vlog_tree.specs.Labels.{rst}
 use Rattle.vlog_tree.specs.Table.{Name}
 use Rattle.vlog_tree.specs.Cycle.{Cycle, Follows, atom_value}
 use Rattle.vlog_module_laws.proofs.Lines.{line}
 use Rattle.hw_build.specs.Elements.{Register, built}
 use Rattle.hw_build.specs.Fitting.{AreFitting}
-use Rattle.hw_build.proofs.Driven.{line_there}
+use Rattle.hw_build.proofs.Driven.{line_there, wire_driven}
 use Rattle.hw_build.specs.Scope.{each}
-use Rattle.hw_build.specs.Choices.{Entry}
+use Rattle.hw_build.specs.Fits.{IsAmong}
+use Rattle.hw_build.specs.Choices.{Entry, any_elements, choice}
 use Rattle.hw_build.proofs.Parts.{of_each}
-use Rattle.hw_build.proofs.Picks.{any_clear}
+use Rattle.hw_build.proofs.Picks.{any_clear, any_low}
 use Rattle.task_fsm.specs.Machine.{TrapAt}
 use Rattle.task_fsm.specs.MachineKinds.{HoldsValues}
 use Rattle.task_fsm.specs.Run.{step, step_at}
 use Rattle.task_fsm.proofs.Steps.{step_fits, typed_at}
-use Rattle.hw_lines.specs.declared.nets.Choice.TheVariants.{Set, NextValue, Stores}
-use Rattle.hw_lines.specs.declared.nets.Net.TheVariants.{State as StateNet, Ended, Scalar, Variable, Array}
+use Rattle.hw_lines.specs.declared.nets.Choice.TheVariants.{Set, NextValue, Stores, ToState, ToEnd, Clear}
+use Rattle.hw_lines.specs.declared.nets.Net.TheVariants.{State as StateNet, Ended, Scalar, Variable, Array, Reset}
 use Rattle.hw_lines.specs.Nets.{name, front}
 use Rattle.hw_lines.specs.Shape.{Shape, kinds_in, array_kind, array_cells, register_kind, state_count, state_bits, form_at}
 use Rattle.hw_lines.specs.States.{net}
-use Rattle.hw_lines.specs.Effects.{effect, entries}
-use Rattle.hw_lines.specs.Texts.{variable, array, root, first_by, first_value, task_elements}
+use Rattle.hw_lines.specs.Effects.{effect, entries, first_by, first_value}
+use Rattle.hw_lines.specs.Texts.{variable, array, root, task_elements, any, pick, variable_choices, array_choices, reset_of, reset_by}
 use Rattle.hw_lines.specs.Runs.{number_at, array_at, held_at, first_of, StandsAround}
-use Rattle.hw_lines.proofs.Members.{all, held_in, among_left, among_right, among_each}
-use Rattle.hw_lines.proofs.Decodes.{own, others_off}
+use Rattle.hw_lines.proofs.Members.{all, held_in, among_left, among_right, among_each, choices_in}
+use Rattle.hw_lines.proofs.Decodes.{own, others_off, conditions_low}
 use Rattle.hw_task_laws.specs.acts.Moves.{set_next}
 use Rattle.hw_task_laws.proofs.acts.Moves.{registers_go_on}
 use Rattle.hw_task_laws.specs.steps.Steps.{ranges_in, HasSizes, IsAt}
@@ -179,13 +184,45 @@ module _ (S : Shape) (title : Name) (run : ℕ → Cycle) (f : Follows (built ti
     first_low r zero h = pow_pos (bits_of (register_kind S r))
     first_low r (suc m) h = first_of_port r m h (first_low r m (omega (arith, h))) (eqb (slice_index S.scalars m) r) refl
 
-    set_first : (r : ℕ) (es : List Entry) → set_next es (run 0) (name (Variable r)) (first_value S r) (root S (Set r)) (root S (NextValue r)) ≡ atom_value (run 0) (first_value S r)
-    set_first r [] = ap (λ z. cond (eqb z 1) (atom_value (run 0) (first_value S r)) ((run 0).net (name (Variable r)))) around.reset
-    set_first r (e ∷ es) =
-        ap (λ z. cond (eqb z 1) (atom_value (run 0) (first_value S r)) (cond (eqb ((run 0).net (root S (Set r))) 1) ((run 0).net (root S (NextValue r))) ((run 0).net (name (Variable r))))) around.reset
+    -- in the cycle of reset the net that resets a register is 1, whatever state there is
+    one_or : (q : ℕ) → q < 2 → bit_or 1 q ≡ 1
+    one_or zero h = refl
+    one_or (suc zero) h = refl
+    one_or (suc (suc q)) h = absurd (omega arith)
+
+    reset_first : (r : ℕ) (es : List Entry) → entries S (Clear r) ≡ es → IsAmong (any_elements (front (Clear r)) es) (all S) → IsAmong (reset_by r es) (all S) → (run 0).net (reset_of r es) ≡ 1
+    reset_first r [] same clears resets = around.reset
+    reset_first r (e ∷ es) same clears resets =
+        let clear = choice (front (Clear r)) (e ∷ es) in
+        let low : (run 0).net clear < 2 =
+        any_low title (task_elements S) run f (front (Clear r)) (e ∷ es) clears 0 (omega arith)
+        (λ d h.
+        let c = of_each (effect S (Clear r)) (state_count S) d (subst (λ l. Has l d) (sym same) h) in
+        conditions_low S title run f 0 c.0 c.1 d.condition (own S c.0 c.1 (Clear r) d c.2)) in
+        wire_driven title (task_elements S) run f 1 (name (Reset r)) (Binary (NetAtom rst) Or (NetAtom clear)) (resets _ (inl refl)) 0 ∙ ap (λ z. bit_or z ((run 0).net clear)) around.reset ∙ one_or ((run 0).net clear) low
+
+    clear_wires_in : (r : ℕ) → r < length S.registers → IsAmong (any S (Clear r) ++ reset_by r (entries S (Clear r))) (all S)
+    clear_wires_in r l =
+        let early = any S (Clear r) ++ reset_by r (entries S (Clear r)) in
+        among_left early (any S (Set r)) (all S)
+        (among_left (early ++ any S (Set r)) (pick S (bits_of (register_kind S r)) (NextValue r)) (all S)
+        (among_each (variable_choices S) (length S.registers) r (all S) l
+        (among_right (pick S (state_bits S) ToState ++ any S ToEnd) (each (variable_choices S) (length S.registers)) (all S)
+        (among_left ((pick S (state_bits S) ToState ++ any S ToEnd) ++ each (variable_choices S) (length S.registers)) (each (array_choices S) (length S.arrays)) (all S) (choices_in S)))))
+
+    reset_is_one : (r : ℕ) → r < length S.registers → (run 0).net (reset_of r (entries S (Clear r))) ≡ 1
+    reset_is_one r l =
+        let es = entries S (Clear r) in
+        reset_first r es refl (among_left (any S (Clear r)) (reset_by r es) (all S) (clear_wires_in r l)) (among_right (any S (Clear r)) (reset_by r es) (all S) (clear_wires_in r l))
+
+    set_first : (reset : Name) (r : ℕ) (es : List Entry) → (run 0).net reset ≡ 1
+        → set_next es (run 0) reset (name (Variable r)) (first_value S r) (root S (Set r)) (root S (NextValue r)) ≡ atom_value (run 0) (first_value S r)
+    set_first reset r [] h = ap (λ z. cond (eqb z 1) (atom_value (run 0) (first_value S r)) ((run 0).net (name (Variable r)))) h
+    set_first reset r (e ∷ es) h =
+        ap (λ z. cond (eqb z 1) (atom_value (run 0) (first_value S r)) (cond (eqb ((run 0).net (root S (Set r))) 1) ((run 0).net (root S (NextValue r))) ((run 0).net (name (Variable r))))) h
 
     pub first_var : (r : ℕ) → r < length S.registers → number_at run (Variable r) 1 ≡ first_of S run r (length S.scalars)
-    first_var r l = registers_go_on S title run f ms fit 0 r l ∙ set_first r (entries S (Set r)) ∙ first_is r (length S.scalars)
+    first_var r l = registers_go_on S title run f ms fit 0 r l ∙ set_first (reset_of r (entries S (Clear r))) r (entries S (Set r)) (reset_is_one r l) ∙ first_is r (length S.scalars)
 
     -- arrays hold values of their kinds also behind the cycle of reset
     first_cell : (a i : ℕ) → a < length S.arrays → i < array_cells S a → (run 1).cell (name (Array a)) i < values_of (array_kind S a)

@@ -12,13 +12,13 @@ use Rattle.hw_build.specs.Choices.{Entry}
 use Rattle.task_fsm.specs.Machine.{StateForm, SetAt, CellAt, TestAt, ReadAt, WriteAt, PeekAt, EotAt, OpenAt, CloseAt, LoadAt, StoreAt, ClearAt, EndAt, TrapAt}
 use Rattle.task_fsm.specs.Ranges.{Ranges}
 use Rattle.task_fsm.specs.Run.{value}
-use Rattle.hw_lines.specs.declared.nets.Choice.TheVariants.{ToState, ToEnd, Set, NextValue}
+use Rattle.hw_lines.specs.declared.nets.Choice.TheVariants.{ToState, ToEnd, Set, NextValue, Clear}
 use Rattle.hw_lines.specs.declared.nets.Net.{Net}
 use Rattle.hw_lines.specs.declared.nets.Net.TheVariants.{State as StateNet, Ended, Variable, Has, Rdy, Ack, Datum, Eot}
 use Rattle.hw_lines.specs.Nets.{name}
 use Rattle.hw_lines.specs.Shape.{Shape, array_cells, form_at}
-use Rattle.hw_lines.specs.Effects.{entries}
-use Rattle.hw_lines.specs.Texts.{root, first_value, task_elements}
+use Rattle.hw_lines.specs.Effects.{entries, first_value}
+use Rattle.hw_lines.specs.Texts.{root, task_elements, reset_of}
 use Rattle.hw_task_laws.specs.acts.Reads.{IsIn}
 
 -- a state that waits for a net goes on where it is 1
@@ -53,13 +53,14 @@ StateGoesOn =
     (S : Shape) (title : Name) (run : ℕ → Cycle) → Follows (built title (task_elements S)) run → (ms : List ModuleTree) → AreFitting ms (task_elements S) → (n : ℕ)
     → (run (suc n)).net (name StateNet) ≡ (if (run n).net rst == 1 then 0 else (run n).net (root S ToState))
 
--- a register that some states set, and one that none does
-abbrev pub set_next : List Entry → Cycle → Name → Atom → Name → Name → ℕ
-set_next [] c x first set next = if c.net rst == 1 then atom_value c first else c.net x
-set_next (e ∷ es) c x first set next = if c.net rst == 1 then atom_value c first else if c.net set == 1 then c.net next else c.net x
+-- a register that some states set, and one that none does, by the net at which it gets its first value
+abbrev pub set_next : List Entry → Cycle → Name → Name → Atom → Name → Name → ℕ
+set_next [] c reset x first set next = if c.net reset == 1 then atom_value c first else c.net x
+set_next (e ∷ es) c reset x first set next = if c.net reset == 1 then atom_value c first else if c.net set == 1 then c.net next else c.net x
 
 abbrev pub RegistersGoOn : Type 0
 RegistersGoOn =
     (S : Shape) (title : Name) (run : ℕ → Cycle) → Follows (built title (task_elements S)) run → (ms : List ModuleTree) → AreFitting ms (task_elements S) → (n r : ℕ)
     → r < length S.registers
-    → (run (suc n)).net (name (Variable r)) ≡ set_next (entries S (Set r)) (run n) (name (Variable r)) (first_value S r) (root S (Set r)) (root S (NextValue r))
+    → (run (suc n)).net (name (Variable r))
+    ≡ set_next (entries S (Set r)) (run n) (reset_of r (entries S (Clear r))) (name (Variable r)) (first_value S r) (root S (Set r)) (root S (NextValue r))

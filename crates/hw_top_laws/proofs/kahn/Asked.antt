@@ -1,9 +1,8 @@
 -- The ports of a memory show what the next tick of its instance asks for, until it is answered.
 use Rattle.std.proofs.Common.{◌≡◌, ℕ, suc, ◌<◌, Bool, true, false, ◌&&◌, not, List, [], ◌∷◌, length, Option, Some, None, refl, sym, ap, subst, ◌∙◌, arith, ⊎_elim}
 use Rattle.std.specs.Prelude.{slice_get, slice_index, option_map, unwrap_or, if◌then◌else◌, ◌==◌}
-use Rattle.std.proofs.lemmas.Bool.{cases_eq, eq-eqb, eqb-true, ne_eqb}
+use Rattle.std.proofs.lemmas.Bool.{cases_eq, eq-eqb, ne_eqb}
 use Rattle.std.proofs.lemmas.Option.{slice_get_within, get_or_from_slice_get}
-use Rattle.tapa_base.specs.declared.token.Token.{Token}
 use Rattle.tapa_syntax.specs.WellFormed.{IsWellFormed}
 use Rattle.tapa_syntax.specs.LeafKinds.{writes_of}
 use Rattle.tapa_syntax.specs.declared.program.Instance.{Instance}
@@ -16,11 +15,8 @@ use Rattle.vlog_tree.specs.Form.{ModuleTree}
 use Rattle.vlog_tree.specs.Labels.{m_addr, m_wdata, m_we}
 use Rattle.vlog_tree.specs.Table.{Name, one_if}
 use Rattle.vlog_run_laws.specs.Beside.{RunsBeside}
-use Rattle.kahn_model.specs.declared.tick.Action.{Action}
 use Rattle.kahn_model.specs.declared.tick.Action.TheVariants.{Local, Put, Load as LoadAct, Store as StoreAct}
-use Rattle.kahn_model.specs.declared.tick.Tick.{Tick}
-use Rattle.kahn_model.specs.declared.tick.Tick.TheVariants.{Did, Take, See, End}
-use Rattle.kahn_model.specs.Cells.{is_memory, memory_at, owner_of}
+use Rattle.kahn_model.specs.Cells.{memory_at, owner_of}
 use Rattle.kahn_model.specs.Counts.{next}
 use Rattle.kahn_model.specs.Network.{Network}
 use Rattle.kahn_model.specs.Start.{network_of}
@@ -35,9 +31,9 @@ use Rattle.hw_lines.specs.Shape.{Shape}
 use Rattle.hw_lines.specs.Signals.{Streams, History, Part}
 use Rattle.hw_network_laws.specs.modules.Designs.{HasMachine}
 use Rattle.hw_network_laws.specs.modules.Tasks.{shape_for}
-use Rattle.hw_network_laws.specs.network.Asked.{act_of_tick, act_of_step}
-use Rattle.hw_network_laws.specs.network.Pace.{memory_of}
-use Rattle.hw_network_laws.proofs.network.Asked.{machines_stand_at_next, requests_stay}
+use Rattle.circuit_meaning.specs.Asked.{act_of_tick}
+use Rattle.hw_network_laws.specs.network.Asked.{act_of_step}
+use Rattle.hw_network_laws.proofs.network.Asked.{machines_stand_at_next}
 use Rattle.hw_network_laws.proofs.network.Cells.{is_the_memory, not_the_memory}
 use Rattle.hw_network_laws.proofs.network.Ports.{is_instance}
 use Rattle.hw_top_lines.specs.Designs.{AreShort}
@@ -45,14 +41,10 @@ use Rattle.hw_top_lines.specs.Names.{task_instance}
 use Rattle.hw_top_lines.specs.Texts.{top_tree, memory_name}
 use Rattle.hw_top_laws.specs.runs.Designs.{IsCircuit}
 use Rattle.hw_top_laws.specs.runs.Parts.{instance_run, instance_rows, streams_seen}
-use Rattle.hw_top_laws.specs.kahn.Asked.{Request, Nothing, Load, Store, request_by, request_of, request_at, ShowsRequest}
-use Rattle.hw_top_laws.specs.kahn.Carries.{network}
+use Rattle.circuit_meaning.specs.Asked.{Nothing, Load, Store, request_by, request_of, request_at, ShowsRequest}
+use Rattle.circuit_meaning.specs.Clock.{network}
 use Rattle.hw_top_laws.proofs.runs.Joined.{place_at, cell_at, store_at}
 use Rattle.hw_top_laws.proofs.kahn.Networks.{parts, histories, design, are_machines, label_is, in_clock}
-
-of_memory : (o : Option ℕ) (m : ℕ) → is_memory o m ≡ true → o ≡ Some m
-of_memory None m e = cc
-of_memory (Some r) m e = ap (λ z. Some z) (eqb-true r m e)
 
 -- what ports with these numbers show, where positions are bound so and position k is the one that is bound to memory m
 module _ (c : Cycle) (x : Name) (bound : ℕ → Option ℕ) (m k : ℕ) (here : bound k ≡ Some m) (once : (q : ℕ) → bound q ≡ Some m → q ≡ k) (run : ℕ → Cycle) (n : ℕ)
@@ -189,43 +181,6 @@ module _ (program : Program) (w : IsWellFormed program) (added : List ℕ) (shor
         (shows (top (suc n)) o.name positions m k (at_position k ∙ bound) (λ q e. (w.instances i x owner).1.memories_once q k m (sym (at_position q) ∙ e) bound) run (suc n) (addr_at (suc n)) (wdata_at (suc n)) (we_at (suc n))
         (p i).bound (step n) (bit_at run Ended (suc n)) (R.stores n k (low_at k m bound)) (R.asks n k (low_at k m bound)))
 
-    -- nothing is to be stored once the instance has ended
-    idle_at : (n : ℕ) → (h i).ended (suc n) ≡ true → (top (suc n)).net (m_we o.name) ≡ 0
-    idle_at n e =
-        let over : bit_at run Ended (suc n) ≡ true = sym (ap (λ (z : History). z.ended (suc n)) history_is) ∙ e in
-        sym (we_at (suc n)) ∙ R.stores n k (low_at k m bound) ∙ ap (λ (b : Bool). one_if (not b && by_act (stores_to k) (step n))) over
-
-    -- ---- what is not answered stays
-
-    module _ (n : ℕ) (silent : acks m (suc n) ≡ false) where
-      abbrev now : ℕ → ℕ
-      now = count_at net clock (suc n)
-
-      abbrev later : ℕ → ℕ
-      later = count_at net clock (suc (suc n))
-
-      unanswered : (q : ℕ) → is_memory (positions q) m ≡ true → seen i q (suc n) ≡ false
-      unanswered q e =
-          let got : slice_get x.memories.items q ≡ Some m = sym (at_position q) ∙ of_memory (positions q) m e in
-          sym (same i x leaf owner body (suc n) q (low_at q m got)) ∙ ap (λ z. acks z (suc n)) (get_or_from_slice_get x.memories.items q m 0 got) ∙ silent
-
-      stay_by : (t : Tick) (q : ℕ) (b : Bool) (asks : Request) → memory_of t ≡ Some q → next net now i ≡ Some t → is_memory (positions q) m ≡ b → ((if b then asks else Nothing) ≡ Nothing → ⊥) → next net later i ≡ Some t
-      stay_by t q true asks waits e is h = requests_stay net (in_clock program w added short machines all place c env env_fits acks nets r seen same).network clock (suc n) i q t e waits (unanswered q is)
-      stay_by t q false asks waits e is h = absurd (h refl)
-
-      stay : (t : Option Tick) → next net now i ≡ t → (request_by positions m (act_of_tick t) ≡ Nothing → ⊥) → next net later i ≡ t
-      stay None e h = absurd (h refl)
-      stay (Some (Did Local)) e h = absurd (h refl)
-      stay (Some (Did (Put s v))) e h = absurd (h refl)
-      stay (Some (Did (LoadAct q a))) e h = stay_by (Did (LoadAct q a)) q (is_memory (positions q) m) (Load a) refl e refl h
-      stay (Some (Did (StoreAct q a v))) e h = stay_by (Did (StoreAct q a v)) q (is_memory (positions q) m) (Store a v) refl e refl h
-      stay (Some (Take s v)) e h = absurd (h refl)
-      stay (Some (See s v)) e h = absurd (h refl)
-      stay (Some End) e h = absurd (h refl)
-
-      held : (request_of program net now m i ≡ Nothing → ⊥) → request_of program net later m i ≡ request_of program net now m i
-      held h = ap (λ z. request_by positions m (act_of_tick z)) (stay (next net now i) refl h)
-
   -- ---- of each memory
 
   module _ (m : ℕ) (o : Memory) (at : slice_get program.memories.items m ≡ Some o) where
@@ -237,17 +192,3 @@ module _ (program : Program) (w : IsWellFormed program) (added : List ℕ) (shor
         let own = w.memories m o at in
         let leaf = w.instances o.owner own.instance own.is in
         subst (λ j. ShowsRequest (top (suc n)) o.name (request_of program net (count_at net clock (suc n)) m j)) owner_is (asked m o at own.instance leaf.0 own.is leaf.1.body own.position own.bound n)
-
-    pub holds_are : (n : ℕ) → (request_at program net (count_at net clock (suc n)) m ≡ Nothing → ⊥) → acks m (suc n) ≡ false
-        → request_at program net (count_at net clock (suc (suc n))) m ≡ request_at program net (count_at net clock (suc n)) m
-    holds_are n =
-        let own = w.memories m o at in
-        let leaf = w.instances o.owner own.instance own.is in
-        subst (λ j. (request_of program net (count_at net clock (suc n)) m j ≡ Nothing → ⊥) → acks m (suc n) ≡ false → request_of program net (count_at net clock (suc (suc n))) m j ≡ request_of program net (count_at net clock (suc n)) m j) owner_is
-        (λ h silent. held m o at own.instance leaf.0 own.is leaf.1.body own.position own.bound n silent h)
-
-    pub idle : (n : ℕ) → (h o.owner).ended (suc n) ≡ true → (top (suc n)).net (m_we o.name) ≡ 0
-    idle n =
-        let own = w.memories m o at in
-        let leaf = w.instances o.owner own.instance own.is in
-        idle_at m o at own.instance leaf.0 own.is leaf.1.body own.position own.bound n

@@ -1,28 +1,55 @@
 -- What the promise of a circuit excludes.
-use Rattle.std.proofs.Common.{◌≡◌, ℕ, zero, suc, ◌+◌, ◌*◌, ◌≤◌, Bool, true, false, length, sym, ap, subst, ◌∙◌, arith, add-zero}
+use Rattle.std.proofs.Common.{◌≡◌, ℕ, zero, suc, ◌+◌, ◌*◌, ◌≤◌, Bool, true, false, List, length, sym, ap, subst, ◌∙◌, arith, add-zero}
 use Rattle.std.specs.Prelude.{◌==◌, if◌then◌else◌}
 use Rattle.hw_channel_laws.specs.signals.Contract.{written, taken}
 use Rattle.hw_channel_laws.specs.signals.Signals.{Signal, ones}
-use Rattle.hw_top_laws.specs.kahn.Excluded.{StandingStill, DoneBeforeAnEnd, DoneBeforeTheWhole, DoneTooLate, OtherTokens, ReadyTooLong}
+use Rattle.tapa_syntax.specs.declared.program.Program.{Program}
+use Rattle.vlog_tree.specs.Cycle.{Cycle, Path}
+use Rattle.vlog_tree.specs.Environment.{Environment, RaisesDone}
+use Rattle.kahn_model.specs.Ending.{IsLeastToEnd}
+use Rattle.kahn_model.specs.Timed.{lost}
+use Rattle.circuit_meaning.specs.Carries.{Carries, top_of}
+use Rattle.circuit_meaning.specs.Clock.{network, clock_of, all_answer}
+use Rattle.circuit_meaning.specs.Excluded.{Ends, StandingStill, DoneBeforeAnEnd, DoneBeforeTheWhole, DoneTooLate, OtherTokens}
+use Rattle.circuit_meaning.specs.Gives.{Gives}
+use Rattle.hw_top_laws.specs.kahn.Excluded.{ReadyTooLong}
+use Rattle.hw_top_laws.proofs.kahn.Gives.{carrying_gives}
+
+module _ (program : Program) (added : List ℕ) (env : Environment) (answers : ℕ → ℕ → Bool) (nets : ℕ → Path → Cycle) (most waits bound : ℕ) (k : ℕ → ℕ) (ends : Ends program added env answers most waits bound k)
+    (c : Carries program env (clock_of program added answers) nets) where
+  follows : Gives program added env answers nets
+  follows = carrying_gives program ends.well_formed added env answers nets c
+
+  -- at the limit that the bound gives
+  in_time : (a : ℕ) × IsLeastToEnd (network program env) a × ((n : ℕ) × RaisesDone (top_of nets) n × (n ≤ (a + 2) * (2 * most + 4) + waits))
+  in_time =
+      let t = follows.in_time most ends.latency bound k ends.run in
+      let limit : ℕ = (t.0 + 2) * (2 * most + 4) + waits in
+      let some = ends.ready limit in
+      let d = t.2 limit (omega arith) in
+      let few = ends.ready d.0 in
+      let within : d.0 ≤ (t.0 + 2) * (2 * most + 4) + lost (all_answer program answers) d.0 = d.2 in
+      (t.0, t.1, (d.0, d.1, omega arith))
 
 pub still : StandingStill
-still program added env nets most waits bound k ends s q got joined something empty carries =
-    let t = carries.in_time most waits ends.latency ends.ready bound k ends.run in
-    something (sym (carries.shows bound k ends.run s t.2.0 t.2.0 q got t.2.1 (omega arith) joined) ∙ empty t.2.0)
+still program added env answers nets most waits bound k ends s q got joined something empty c =
+    let t = in_time program added env answers nets most waits bound k ends c in
+    let g = follows program added env answers nets most waits bound k ends c in
+    something (sym (g.shows k ends.run.ended s t.2.0 t.2.0 q got t.2.1 (omega arith) joined) ∙ empty t.2.0)
 
 pub before_an_end : DoneBeforeAnEnd
-before_an_end program added env nets n i low joined going done carries = going ((carries.done n).0 done i low joined)
+before_an_end program env clock nets n i low joined going done c = going ((c.done n).0 done i low joined)
 
 pub before_the_whole : DoneBeforeTheWhole
-before_the_whole program added env nets s n q got joined part done carries = part (carries.whole s n n q got done (omega arith) joined)
+before_the_whole program w added env answers nets s n q got joined part done c = part ((carrying_gives program w added env answers nets c).whole s n n q got done (omega arith) joined)
 
 pub too_late : DoneTooLate
-too_late program added env nets most waits bound k ends late carries =
-    let t = carries.in_time most waits ends.latency ends.ready bound k ends.run in
+too_late program added env answers nets most waits bound k ends late c =
+    let t = in_time program added env answers nets most waits bound k ends c in
     late t.0 t.1 t.2.0 t.2.2 t.2.1
 
 pub other_tokens : OtherTokens
-other_tokens program added env nets s n q got other carries = other (carries.begins s n q got)
+other_tokens program w added env answers nets s n q got other c = other ((carrying_gives program w added env answers nets c).begins s n q got)
 
 -- a cycle in which a signal is 1 counts
 one_more : (b : Bool) (l : ℕ) → 1 ≤ l → 1 ≤ (if b then l + 1 else l)

@@ -1,6 +1,6 @@
 -- A program's circuit in a run is the clocked network of its program, at the clock of its memories' answers.
 use Rattle.std.proofs.Common.{◌≡◌, ℕ, ◌<◌, Bool, false, List, [], ◌∷◌, length, Option, Some, None, sym, ap, subst, ◌∙◌}
-use Rattle.std.specs.Prelude.{◌==◌, option_map, slice_get, slice_index, unwrap_or}
+use Rattle.std.specs.Prelude.{option_map, slice_get, slice_index, unwrap_or}
 use Rattle.tapa_syntax.specs.WellFormed.{IsWellFormed}
 use Rattle.tapa_syntax.specs.declared.program.Instance.{Instance}
 use Rattle.tapa_syntax.specs.declared.program.Leaf.{Leaf}
@@ -29,7 +29,7 @@ use Rattle.hw_top_laws.specs.runs.Parts.{instance_run, instance_rows, channel_ru
 use Rattle.hw_top_laws.proofs.runs.Designs.{circuits_beside}
 use Rattle.hw_top_laws.proofs.runs.Rows.{answers_are}
 use Rattle.hw_top_laws.proofs.runs.Tasks.{outside_fits}
-use Rattle.hw_top_laws.specs.kahn.Carries.{network}
+use Rattle.circuit_meaning.specs.Clock.{network}
 use Rattle.hw_top_laws.proofs.kahn.Answers.{runs_with}
 
 abbrev no_part : Part

@@ -3,7 +3,7 @@ use Rattle.std.specs.Prelude.{ℕ, Bool, List, Option, Some, None, length, slice
 use Rattle.tapa_syntax.specs.declared.program.Instance.{Instance}
 use Rattle.tapa_syntax.specs.declared.program.Program.{Program}
 use Rattle.task_fsm.specs.declared.machine.Fsm.{Fsm}
-use Rattle.vlog_run_laws.specs.Beside.{RunsBeside}
+use Rattle.vlog_run_laws.specs.Beside.{RunsBeside, answers_in}
 use Rattle.vlog_tree.specs.Cycle.{Cycle, Path}
 use Rattle.vlog_tree.specs.Environment.{Environment, FitsShape, RunsIn, shape_of}
 use Rattle.hw_network_laws.specs.modules.Designs.{IsDesignOf}
@@ -12,7 +12,8 @@ use Rattle.hw_top_lines.specs.Texts.{top_tree}
 use Rattle.hw_top_laws.specs.modules.Lower.{lower_modules, OfReady}
 use Rattle.hw_top_laws.specs.runs.Designs.{IsCircuit}
 use Rattle.hw_top_laws.specs.runs.Parts.{instance_run, instance_rows, channel_run, streams_seen}
-use Rattle.hw_top_laws.specs.kahn.Carries.{CarriesStreams, CarriesBeside}
+use Rattle.circuit_meaning.specs.Carries.{Carries}
+use Rattle.circuit_meaning.specs.Clock.{clock_of}
 
 -- the machine of an instance, by the machines of the program's bodies
 abbrev pub machine_in : List Fsm → Option Instance → Option Fsm
@@ -42,7 +43,7 @@ DesignsCarryStreams =
     OfReady
     (λ program machines added.
     (env : Environment) → FitsShape env (shape_of (top_tree program added)) → (nets : ℕ → Path → Cycle) → RunsIn (design_tree program machines added) (top_tree program added) env nets
-    → CarriesStreams program added env nets)
+    → Carries program env (clock_of program added (answers_in env)) nets)
 
 -- and so beside memories that show a cell in the cycles in which they answer
 abbrev pub DesignsCarryBeside : Type 0
@@ -51,4 +52,4 @@ DesignsCarryBeside =
     (λ program machines added.
     (env : Environment) → FitsShape env (shape_of (top_tree program added)) → (answers : ℕ → ℕ → Bool) (nets : ℕ → Path → Cycle)
     → RunsBeside (design_tree program machines added) (top_tree program added) env answers nets
-    → CarriesBeside program added env answers nets)
+    → Carries program env (clock_of program added answers) nets)

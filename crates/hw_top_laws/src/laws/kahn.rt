@@ -1,22 +1,21 @@
 //! The laws of what circuits carry: the contracts of functions that do nothing.
 
 ghost use Rattle.hw_top_laws.specs.kahn.Carries.{CircuitsCarryStreams, CircuitsCarryBeside};
-ghost use Rattle.hw_top_laws.specs.kahn.Excluded.{StandingStill, DoneBeforeAnEnd, DoneBeforeTheWhole, DoneTooLate, OtherTokens, ReadyTooLong};
+ghost use Rattle.circuit_meaning.specs.Excluded.{StandingStill, DoneBeforeAnEnd, DoneBeforeTheWhole, DoneTooLate, OtherTokens};
+ghost use Rattle.circuit_meaning.specs.Gives.{CarryingGives, SteadyMemoriesAnswer};
+ghost use Rattle.hw_top_laws.specs.kahn.Excluded.{ReadyTooLong};
 
-/// In a run of the circuit of a program, in any environment that fits it, from any power-up contents and with any added
-/// latencies, each stream carries in every cycle what the timed counts write, a prefix of its Kahn stream, and all of it
-/// once `done` is raised where its writer is waited for (Kahn 1974). `done` is raised exactly where the instances that are
-/// waited for have ended, and within a stated number of cycles where a run within some bound is done. So it is beside memories
-/// that show a cell in the cycles in which they answer, and any number of their width in others, whenever they answer.
+/// For every run of a program's circuit, in any environment that fits it, from any power-up contents and with any added latencies, the circuit carries
+/// the program's streams in each cycle (`Carries`): the streams, cells, requests and `done` of the timed counts. The same holds with memories that show
+/// a cell in the cycles in which they answer and any number of their width in the others, whenever they answer.
 pub fn law_circuits_carry_streams()
     ensures run { CircuitsCarryStreams }
     ensures beside { CircuitsCarryBeside }
 {}
 
-/// What carrying a program's streams excludes, by the definitions alone: to be stuck while a run of the program shows something, to be
-/// done before an instance that is waited for has ended or a stream has carried its whole Kahn stream, to be done later than the
-/// stated bound, and to carry another token. What a channel guarantees excludes to be ready while it holds all the tokens that it has
-/// room for.
+/// A circuit that carries a program's streams is not stuck while a run of the program shows a token. It does not raise `done` before a joined instance
+/// has ended, before a stream of a joined producer has carried its whole Kahn stream, or after the stated bound. It carries no other token. A channel
+/// that meets its contract is not ready while it holds all the tokens that it has room for.
 pub fn law_carrying_excludes()
     ensures still { StandingStill }
     ensures end { DoneBeforeAnEnd }
@@ -24,4 +23,12 @@ pub fn law_carrying_excludes()
     ensures late { DoneTooLate }
     ensures other { OtherTokens }
     ensures ready { ReadyTooLong }
+{}
+
+/// If a circuit carries a program's streams (`Carries`), each stream has carried a prefix of its Kahn stream in every cycle. Once `done` is raised, the
+/// stream of a joined producer has carried all of it (Kahn 1974), and the memory of a joined instance has the cells of every end. Requests stay until
+/// they are answered, and `done` comes in time. Memories that answer within M cycles what stays on their ports answer each request within M cycles.
+pub fn law_carrying_gives()
+    ensures gives { CarryingGives }
+    ensures steady { SteadyMemoriesAnswer }
 {}

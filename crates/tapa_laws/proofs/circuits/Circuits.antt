@@ -9,7 +9,7 @@ use Rattle.vlog_design.specs.Designs.{DesignTree}
 use Rattle.vlog_run_laws.specs.Beside.{RunsBeside}
 use Rattle.vlog_run_laws.specs.runs.OneRun.{FitsPowerUp}
 use Rattle.vlog_run_laws.proofs.widths.Beside.{among_is_beside}
-use Rattle.hw_top.specs.Circuits.{IsCircuitOf}
+use Rattle.circuit_meaning.specs.Circuits.{IsCircuitOf}
 use Rattle.tapa_laws.specs.circuits.Reactive.{Seen, outputs_of_top, IsCausal, IsReactiveRun}
 use Rattle.tapa_laws.specs.circuits.Circuits.{AreMemoryRules, RunsByRules}
 use Rattle.tapa_laws.proofs.circuits.OneRun.{one_reactive_run}

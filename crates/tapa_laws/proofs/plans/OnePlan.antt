@@ -1,8 +1,6 @@
 -- A source has one graph, one device with a device file, and one plan on it, or one reason for none.
-use Rattle.std.proofs.Common.{◌≡◌, ◌≢◌, ◌+◌, ◌<◌, ◌≤◌, true, ℕ, List, length, Some, refl, sym, ap, subst, subst₂, ◌∙◌, arith}
+use Rattle.std.proofs.Common.{◌≡◌, ◌+◌, ◌<◌, true, ℕ, List, refl, sym, ap, subst, subst₂, ◌∙◌, inl, inr}
 use Rattle.std.specs.Prelude.{slice_index}
-use Rattle.tapa_base.specs.declared.text.Place.{Place}
-use Rattle.tapa_files.specs.Outside.{Files, file_bytes}
 use Rattle.tapa_syntax.specs.declared.program.Program.{Program}
 use Rattle.tapa_syntax.specs.Flat.{flat_program}
 use Rattle.tapa_words.specs.declared.command.PlanAim.{PlanAim}
@@ -15,20 +13,23 @@ use Rattle.plan_device.specs.declared.device.Device.{Device}
 use Rattle.plan_device.specs.One.{AreAlike}
 use Rattle.plan_report.specs.Added.{AreAdded}
 use Rattle.plan_report.specs.Borders.{AreBorderLatencies}
-use Rattle.command_source.specs.Files.{data_limit, source_limit}
-use Rattle.command_source.specs.Refusal.{DeviceFault, NoJson, HasFault, Memory}
-use Rattle.command_source.specs.Refusal as refusal
-use Rattle.command_source.specs.Source.{IsProgramOf, IsRefusedSource}
-use Rattle.command_source.specs.declared.source.SourceCode.{SourceCode}
-use Rattle.command_source.proofs.Sourced.{means_nothing}
-use Rattle.command_plans.specs.Planned.{HasBadDevice, HasNoPlan, HasPlan, IsAskedOn}
-use Rattle.command_plans.proofs.OnePlan.{plans_are_one, refusals_are_one, planned_or_refused}
-use Rattle.tapa_drive.specs.Decided.{Given, Bytes, TooMany, IsGiven}
-use Rattle.tapa_drive.specs.PlanDecided.{PlanMeaning, Planned, NoPlan, Misgiven, Overlong, Refused, Lengthy, MeansOn, MeansPlan}
-use Rattle.tapa_drive.proofs.OneMeaning.{one_program}
-use Rattle.tapa_drive.proofs.OneRefusal.{one_refusal}
+use Rattle.task_graph.specs.Programs.{IsGraphOf}
+use Rattle.plan_device.specs.Answer.{IsDeviceOf}
+use Rattle.command_answers.specs.Answer.{Answer, Refuses}
+use Rattle.command_answers.specs.Files.{Given}
+use Rattle.command_answers.specs.Refusal.{Refusal, DeviceFault, NoJson, HasFault}
+use Rattle.command_answers.specs.Refusal as refusal
+use Rattle.command_source.specs.Source.{IsProgramOf}
+use Rattle.command_source.specs.Means.{IsSourceFault}
+use Rattle.command_answers.specs.declared.file.File.{File}
+use Rattle.command_answers.specs.declared.file.File.TheVariants as role
+use Rattle.command_plan.specs.Planned.{HasDeviceFault, HasPlan, IsAskedOn}
+use Rattle.command_plan.specs.Means.{IsBadDevice, ReadsDevice, ComesToPlan, MeansPlan, planned_text}
+use Rattle.tapa_laws.proofs.plans.OnePlanOf.{plans_are_one, refusals_are_one, planned_or_refused}
+use Rattle.tapa_laws.proofs.sources.OneMeaning.{one_program, source_fault_once, legal_source}
+use Rattle.tapa_laws.proofs.commands.OneStep.{one_step}
 use Rattle.tapa_laws.specs.plans.OneGraph.{AreAlikeGraphs, SourcesHaveOneGraph}
-use Rattle.tapa_laws.specs.plans.OneDevice.{SourcesHaveOneDevice, SourcesHaveOneDeviceFault, DevicesHaveNoFault}
+use Rattle.tapa_laws.specs.plans.OneDevice.{HasBadDevice, SourcesHaveOneDevice, SourcesHaveOneDeviceFault, DevicesHaveNoFault}
 use Rattle.tapa_laws.specs.plans.OnePlan.{IsSamePlan, PlansMeanOneThing, SourcesHaveOnePlan, SourcesPrintOneBalance, SourcesBuildWhatPlanPrints}
 use Rattle.tapa_laws.proofs.plans.Building.{added_same, balance_same}
 use Rattle.tapa_laws.proofs.plans.OneDevice.{devices_alike, faults_alike, never_faulty}
@@ -44,7 +45,7 @@ module _ (text top bytes : List ℕ) where
     same_program : flat_program p ≡ flat_program q
     same_program = one_program text top p q one.means two.means
 
-    same_graph : AreAlikeGraphs g h
+    pub same_graph : AreAlikeGraphs g h
     same_graph = one_graph p q g h same_program one.is_graph two.is_graph
 
     pub same_device : AreAlike d e
@@ -74,18 +75,6 @@ module _ (text top bytes : List ℕ) where
         let devices = same_device one.program two.program one.graph two.graph one.device two.device one.asked two.asked in
         plans_are_one two.graph two.device mode one.plan two.plan (found_over one.graph two.graph one.device two.device graphs devices mode one.plan one.found) two.found
 
-    reason_once : (why other : refusal.Refusal) → why ≢ Memory → other ≢ Memory → HasNoPlan text top bytes mode why → HasNoPlan text top bytes mode other → why ≡ other
-    reason_once why other some more one two =
-        let graphs = same_graph one.program two.program one.graph two.graph one.device two.device one.asked two.asked in
-        let devices = same_device one.program two.program one.graph two.graph one.device two.device one.asked two.asked in
-        refusals_are_one two.graph two.device mode why other some more (unplanned_over one.graph two.graph one.device two.device graphs devices mode why one.is) two.is
-
-    never_both : (aim : PlanAim) (told : List ℕ) (why : refusal.Refusal) → why ≢ Memory → HasPlan text top bytes mode aim told → HasNoPlan text top bytes mode why → ⊥
-    never_both aim told why some one two =
-        let graphs = same_graph one.program two.program one.graph two.graph one.device two.device one.asked two.asked in
-        let devices = same_device one.program two.program one.graph two.graph one.device two.device one.asked two.asked in
-        planned_or_refused two.graph two.device mode one.plan why some (found_over one.graph two.graph one.device two.device graphs devices mode one.plan one.found) two.is
-
     pub balance_once : (told more : List ℕ) (one : HasPlan text top bytes mode Lines told) (two : HasPlan text top bytes mode Lines more)
         → (one.is.1.latencies ≡ two.is.1.latencies) × ((e : ℕ) → e < streams one.graph → balance_of one.graph one.is.1.latencies one.is.1.balance.s.items e
         ≡ balance_of two.graph two.is.1.latencies two.is.1.balance.s.items e)
@@ -110,24 +99,6 @@ module _ (text top bytes : List ℕ) where
         added_same printed.graph built.graph printed.device built.device graphs devices printed.plan.slot.items printed.is.1.latencies
         printed.is.1.balance built.is.added printed.is.1.borders printed.is.1.best are e inside
 
-    -- with the same device file two meanings are one
-    on_once : (aim : PlanAim) (m n : PlanMeaning) → MeansOn text top (Bytes bytes) mode aim m → MeansOn text top (Bytes bytes) mode aim n → IsSamePlan m n
-    on_once aim (Planned told) (Planned more) one two = tt
-    on_once aim (Planned told) (NoPlan why) one two = absurd (never_both aim told why two.1 one two.0)
-    on_once aim (Planned told) (Misgiven fault) one two = absurd (no_fault one.program one.graph one.device fault one.asked two)
-    on_once aim (NoPlan why) (Planned more) one two = absurd (never_both aim more why one.1 two one.0)
-    on_once aim (NoPlan why) (NoPlan other) one two = ap NoPlan (reason_once why other one.1 two.1 one.0 two.0)
-    on_once aim (NoPlan why) (Misgiven fault) one two = absurd (no_fault one.0.program one.0.graph one.0.device fault one.0.asked two)
-    on_once aim (Misgiven fault) (Planned more) one two = absurd (no_fault two.program two.graph two.device fault two.asked one)
-    on_once aim (Misgiven fault) (NoPlan why) one two = absurd (no_fault two.0.program two.0.graph two.0.device fault two.0.asked one)
-    on_once aim (Misgiven fault) (Misgiven other) one two = ap Misgiven (fault_once fault other one two)
-    on_once aim Overlong n one two = absurd one
-    on_once aim (Refused place code) n one two = absurd one
-    on_once aim Lengthy n one two = absurd one
-    on_once aim (Planned told) n one two = absurd two
-    on_once aim (NoPlan why) n one two = absurd two
-    on_once aim (Misgiven fault) n one two = absurd two
-
 pub one_source_device : SourcesHaveOneDevice
 one_source_device = λ text top bytes p q g h d e one two. same_device text top bytes p q g h d e one two
 
@@ -146,71 +117,59 @@ one_source_balance = λ text top bytes mode told more one two. balance_once text
 pub source_builds : SourcesBuildWhatPlanPrints
 source_builds = λ text top bytes mode told more printed built e inside. builds_what_is_printed text top bytes mode told more printed built e inside
 
--- ---- where the device file and the source are named
+-- ---- steps that read a source and a device file
 
-over : (n limit : ℕ) → n ≤ limit → limit < n → ⊥
-over n limit a b = omega arith
+module _ (text top bytes : List ℕ) (p q : Program) (g h : Graph) (a : IsProgramOf text top p) (b : IsProgramOf text top q) (is : IsGraphOf p g) (also : IsGraphOf q h) where
+  bad : (fault : DeviceFault) → HasDeviceFault p g bytes fault → HasBadDevice text top bytes fault
+  bad fault has = record { program = p; graph = g; means = a; is_graph = is; has = has }
 
-module _ (files : Files) (source top device : List ℕ) (mode : PlanMode) (aim : PlanAim) where
-  abbrev text : List ℕ
-  text = file_bytes files source
+  bad_also : (fault : DeviceFault) → HasDeviceFault q h bytes fault → HasBadDevice text top bytes fault
+  bad_also fault has = record { program = q; graph = h; means = b; is_graph = also; has = has }
 
-  given_once : (a b : Given) → IsGiven files (Some device) a → IsGiven files (Some device) b → a ≡ b
-  given_once (Bytes x) (Bytes y) one two = ap Bytes (one.0 ∙ sym two.0)
-  given_once (Bytes x) TooMany one two = absurd (over (length (file_bytes files device)) data_limit (subst (λ (l : List ℕ). length l ≤ data_limit) one.0 one.1) two)
-  given_once TooMany (Bytes y) one two = absurd (over (length (file_bytes files device)) data_limit (subst (λ (l : List ℕ). length l ≤ data_limit) two.0 two.1) one)
-  given_once TooMany TooMany one two = refl
+  device_fault_once : (why other : Refusal) → IsBadDevice p g bytes why → IsBadDevice q h bytes other → why ≡ other
+  device_fault_once why other (fault, has, e) (again, have, f) = e ∙ ap refusal.Device (fault_once text top bytes fault again (bad fault has) (bad_also again have)) ∙ sym f
 
-  -- by what is given there is one meaning
-  at_given : (given : Given) (m n : PlanMeaning) → MeansOn text top given mode aim m → MeansOn text top given mode aim n → IsSamePlan m n
-  at_given (Bytes bytes) m n one two = on_once text top bytes mode aim m n one two
-  at_given TooMany Overlong Overlong one two = refl
-  at_given TooMany Overlong n one two = absurd two
-  at_given TooMany m n one two = absurd one
+  never_bad : (why : Refusal) (e : Device) → IsBadDevice p g bytes why → IsDeviceOf bytes q h e → ⊥
+  never_bad why e (fault, has, x) gives = no_fault text top bytes q h e fault (record { means = b; is_graph = also; is_device = gives }) (bad fault has)
 
-  -- and a program
-  has_program : (given : Given) (m : PlanMeaning) → MeansOn text top given mode aim m → (p : Program) × IsProgramOf text top p
-  has_program (Bytes bytes) (Planned told) one = (one.program, one.asked.means)
-  has_program (Bytes bytes) (NoPlan why) one = (one.0.program, one.0.asked.means)
-  has_program (Bytes bytes) (Misgiven fault) one = (one.program, one.means)
-  has_program (Bytes bytes) m one = absurd one
-  has_program TooMany Overlong one = (one.program, one.means)
-  has_program TooMany m one = absurd one
+module _ (mode : PlanMode) (aim : PlanAim) where
+  same_texts : (a : PlanAim) (told more : List ℕ) → IsSamePlan (planned_text a told) (planned_text a more)
+  same_texts Lines told more = tt
+  same_texts (Circuit balanced) told more = refl
 
-  -- what a meaning says of the source
-  data Sort (m : PlanMeaning) : Type 0 where
-    Inside : length text ≤ source_limit → (given : Given) → IsGiven files (Some device) given → MeansOn text top given mode aim m → Sort m
-    Broken : (place : Place) (code : SourceCode) → m ≡ Refused place code → length text ≤ source_limit → IsRefusedSource text top place code → Sort m
-    Long : m ≡ Lengthy → source_limit < length text → Sort m
+  same_refusals : (why other : Refusal) → why ≡ other → IsSamePlan (Refuses why) (Refuses other)
+  same_refusals why other e = ap Refuses e
 
-  sort : (m : PlanMeaning) → MeansPlan files source top device mode aim m → Sort m
-  sort (Planned told) one = Inside one.0 one.1.0 one.1.1 one.1.2
-  sort (NoPlan why) one = Inside one.0 one.1.0 one.1.1 one.1.2
-  sort (Misgiven fault) one = Inside one.0 one.1.0 one.1.1 one.1.2
-  sort Overlong one = Inside one.0 one.1.0 one.1.1 one.1.2
-  sort (Refused place code) one = Broken place code refl one.0 one.1
-  sort Lengthy one = Long refl one
+  module _ (text top bytes : List ℕ) (p q : Program) (g h : Graph) (d e : Device) (one : IsAskedOn text top bytes p g d) (two : IsAskedOn text top bytes q h e) where
+    graphs : AreAlikeGraphs g h
+    graphs = same_graph text top bytes p q g h d e one two
 
-  legal : (given : Given) (m : PlanMeaning) (place : Place) (code : SourceCode) → MeansOn text top given mode aim m → IsRefusedSource text top place code → ⊥
-  legal given m place code one refused = let program = has_program given m one in means_nothing text top place code refused program.0 program.1
+    devices : AreAlike d e
+    devices = same_device text top bytes p q g h d e one two
 
-  sorts_once : (m n : PlanMeaning) → Sort m → Sort n → IsSamePlan m n
-  sorts_once m n (Inside few given is one) (Inside fewer other are two) =
-      at_given other m n (subst (λ (g : Given). MeansOn text top g mode aim m) (given_once given other is are) one) two
-  sorts_once m n (Inside few given is one) (Broken place code e fewer two) = absurd (legal given m place code one two)
-  sorts_once m n (Inside few given is one) (Long e many) = absurd (over (length text) source_limit few many)
-  sorts_once m n (Broken place code e few one) (Inside fewer given is two) = absurd (legal given n place code two one)
-  sorts_once m n (Broken place code e few one) (Broken there other f fewer two) =
-      let once = one_refusal text top place there code other one two in
-      let same : Refused place code ≡ Refused there other = ap (λ (p : Place). Refused p code) once.0 ∙ ap (Refused there) once.1 in
-      subst₂ IsSamePlan (sym e) (sym f) same
-  sorts_once m n (Broken place code e few one) (Long f many) = absurd (over (length text) source_limit few many)
-  sorts_once m n (Long e many) (Inside few given is two) = absurd (over (length text) source_limit few many)
-  sorts_once m n (Long e many) (Broken place code f few two) = absurd (over (length text) source_limit few many)
-  sorts_once m n (Long e many) (Long f more) =
-      let same : Lengthy ≡ Lengthy = refl in
-      subst₂ IsSamePlan (sym e) (sym f) same
+    comes_once : (a b : Answer) → ComesToPlan mode aim p g d a → ComesToPlan mode aim q h e b → IsSamePlan a b
+    comes_once a b (inl (why, w, x)) (inl (other, v, y)) =
+        subst₂ IsSamePlan (sym x) (sym y) (same_refusals why other (refusals_are_one h e mode why other (unplanned_over g h d e graphs devices mode why w) v))
+    comes_once a b (inl (why, w, x)) (inr (plan, more, found, is, y)) = absurd (planned_or_refused h e mode plan why found (unplanned_over g h d e graphs devices mode why w))
+    comes_once a b (inr (plan, told, found, is, x)) (inl (other, v, y)) = absurd (planned_or_refused h e mode plan other (found_over g h d e graphs devices mode plan found) v)
+    comes_once a b (inr (plan, told, found, is, x)) (inr (again, more, find, also, y)) = subst₂ IsSamePlan (sym x) (sym y) (same_texts aim told more)
+
+  module _ (top : List ℕ) (gives : File → Given) where
+    abbrev Then : Program → Answer → Type 0
+    Then p a = (g : Graph) × IsGraphOf p g × ReadsDevice p g (gives role.Device) (ComesToPlan mode aim p g) a
+
+    of_programs : (text : List ℕ) (p q : Program) (a b : Answer) → IsProgramOf text top p → IsProgramOf text top q → Then p a → Then q b → IsSamePlan a b
+    of_programs text p q a b is also (g, x, r) (h, y, s) =
+        one_step role.Device (IsBadDevice p g) (IsBadDevice q h) (λ bytes d. IsDeviceOf bytes p g d) (λ bytes d. IsDeviceOf bytes q h d) IsSamePlan (λ why. refl)
+        (λ bytes. device_fault_once text top bytes p q g h is also x y) (λ bytes. never_bad text top bytes p q g h is also x y)
+        (λ bytes. never_bad text top bytes q p h g also is y x) (gives role.Device) (ComesToPlan mode aim p g) (ComesToPlan mode aim q h)
+        (λ bytes d e c f m n. comes_once text top bytes p q g h d e (record { means = is; is_graph = x; is_device = m }) (record { means = also; is_graph = y; is_device = n }) c f)
+        a b r s
+
+    pub means_one : (a b : Answer) → MeansPlan top mode aim gives a → MeansPlan top mode aim gives b → IsSamePlan a b
+    means_one a b =
+        one_step role.Source (IsSourceFault top) (IsSourceFault top) (λ text p. IsProgramOf text top p) (λ text p. IsProgramOf text top p) IsSamePlan (λ why. refl)
+        (source_fault_once top) (legal_source top) (legal_source top) (gives role.Source) Then Then of_programs a b
 
 pub one_meaning : PlansMeanOneThing
-one_meaning = λ files source top device mode aim m n one two.
-    sorts_once files source top device mode aim m n (sort files source top device mode aim m one) (sort files source top device mode aim n two)
+one_meaning = λ top mode aim gives a b. means_one mode aim top gives a b

@@ -12,8 +12,8 @@ use Rattle.slot_plan.specs.declared.floorplan.Plan.{Plan}
 use Rattle.slot_plan.specs.declared.floorplan.PlanFault.{PlanFault}
 use Rattle.slot_plan.specs.declared.floorplan.PlanFault.TheVariants.{NoFit, TooMany, OutOfMemory}
 use Rattle.slot_split.specs.declared.planning.SplitFault.TheVariants as split_fault
-use Rattle.command_source.specs.Refusal.{Refusal, TooManyPlans, NoPlan, NoRoom, NoHalving}
-use Rattle.command_plans.specs.Planned.{IsFaultOf, IsFound, IsPlanFor, IsUnhalved, IsUnplanned, first_label}
+use Rattle.command_answers.specs.Refusal.{Refusal, TooManyPlans, NoPlan, NoRoom, NoHalving}
+use Rattle.command_plan.specs.Planned.{IsFaultOf, IsFound, IsPlanFor, IsUnhalved, IsUnplanned, first_label}
 use Rattle.tapa_laws.specs.plans.OneGraph.{AreAlikeGraphs}
 use Rattle.tapa_laws.proofs.plans.Over.{plan_over, used_over, cost_over, by_over, cause_over, halving_over, split_cause_over}
 

@@ -8,8 +8,9 @@ use Rattle.vlog_tree.specs.Environment.{Environment, FitsShape, shape_of}
 use Rattle.vlog_design.specs.Designs.{DesignTree}
 use Rattle.vlog_run_laws.specs.Beside.{RunsBeside}
 use Rattle.vlog_run_laws.specs.runs.OneRun.{FitsPowerUp, IsOnly}
-use Rattle.hw_top_laws.specs.kahn.Carries.{CarriesBeside}
-use Rattle.hw_top.specs.Circuits.{IsCircuitOf}
+use Rattle.circuit_meaning.specs.Carries.{Carries}
+use Rattle.circuit_meaning.specs.Clock.{clock_of}
+use Rattle.circuit_meaning.specs.Circuits.{IsCircuitOf}
 use Rattle.tapa_laws.specs.circuits.Reactive.{Seen, outputs_of_top, IsCausal, IsReactiveRun}
 
 -- Rules by which memories outside a top answer its outputs, and by which they show numbers while they do not answer: they look at no
@@ -28,7 +29,7 @@ pub record RunsByRules (program : Program) (added : List ℕ) (design : DesignTr
   pub beside : (nets : ℕ → Path → Cycle) → IsReactiveRun design.modules top env answers others contents nets
       → RunsBeside design.modules top env (answers (outputs_of_top top (λ n. nets n []))) nets
   pub carries : (nets : ℕ → Path → Cycle) → IsReactiveRun design.modules top env answers others contents nets
-      → CarriesBeside program added env (answers (outputs_of_top top (λ n. nets n []))) nets
+      → Carries program env (clock_of program added (answers (outputs_of_top top (λ n. nets n [])))) nets
 
 -- from each power-up, in each environment that fits
 abbrev pub CircuitsRunByRules : Type 0

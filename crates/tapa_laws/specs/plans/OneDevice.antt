@@ -4,8 +4,18 @@ use Rattle.tapa_syntax.specs.declared.program.Program.{Program}
 use Rattle.task_graph.specs.declared.Graph.{Graph}
 use Rattle.plan_device.specs.One.{AreAlike}
 use Rattle.plan_device.specs.declared.device.Device.{Device}
-use Rattle.command_source.specs.Refusal.{DeviceFault}
-use Rattle.command_plans.specs.Planned.{HasBadDevice, IsAskedOn}
+use Rattle.command_answers.specs.Refusal.{DeviceFault}
+use Rattle.task_graph.specs.Programs.{IsGraphOf}
+use Rattle.command_source.specs.Source.{IsProgramOf}
+use Rattle.command_plan.specs.Planned.{HasDeviceFault, IsAskedOn}
+
+-- the device file has this fault for the program of the source
+pub record HasBadDevice (text top bytes : List ℕ) (fault : DeviceFault) : Type 0 where
+  pub program : Program
+  pub graph : Graph
+  pub means : IsProgramOf text top program
+  pub is_graph : IsGraphOf program graph
+  pub has : HasDeviceFault program graph bytes fault
 
 -- the devices that a file gives for the program of a source and its graph are one
 abbrev pub SourcesHaveOneDevice : Type 0

@@ -1,25 +1,27 @@
 -- A source has one plan with a device file by a mode, or one reason for none.
 use Rattle.std.specs.Prelude.{◌≡◌, ◌+◌, ◌<◌, ⊤, true, List, ℕ, slice_index}
-use Rattle.tapa_files.specs.Outside.{Files}
 use Rattle.tapa_words.specs.declared.command.PlanAim.{PlanAim}
 use Rattle.tapa_words.specs.declared.command.PlanAim.TheVariants.{Lines, Circuit}
 use Rattle.tapa_words.specs.declared.command.PlanMode.{PlanMode}
 use Rattle.task_graph.specs.Arcs.{streams}
 use Rattle.flow_cert.specs.Verdicts.{balance_of}
-use Rattle.command_plans.specs.Planned.{HasPlan}
-use Rattle.tapa_drive.specs.PlanDecided.{PlanMeaning, Planned, MeansPlan}
+use Rattle.command_plan.specs.Planned.{HasPlan}
+use Rattle.command_answers.specs.Answer.{Answer, Puts, Writes}
+use Rattle.command_answers.specs.Files.{Given}
+use Rattle.command_answers.specs.declared.file.File.{File}
+use Rattle.command_plan.specs.Means.{MeansPlan}
 
--- two meanings are one; of two plans the texts may differ, as lines name one of the flows that show a balance, and a circuit is
--- one of those of its program
-abbrev pub IsSamePlan : PlanMeaning → PlanMeaning → Type 0
-IsSamePlan (Planned told) (Planned other) = ⊤
-IsSamePlan meaning other = meaning ≡ other
+-- two answers are one; of two texts the bytes may differ, as lines name one of the flows that show a balance, and a circuit is one
+-- of those of its program
+abbrev pub IsSamePlan : Answer → Answer → Type 0
+IsSamePlan (Puts told) (Puts other) = ⊤
+IsSamePlan (Writes told why) (Writes other cause) = why ≡ cause
+IsSamePlan answer other = answer ≡ other
 
 -- with a device file, by a mode and for an aim, a source has at most one meaning
 abbrev pub PlansMeanOneThing : Type 0
 PlansMeanOneThing =
-    (files : Files) (source top device : List ℕ) (mode : PlanMode) (aim : PlanAim) (meaning other : PlanMeaning) → MeansPlan files source top device mode aim meaning
-    → MeansPlan files source top device mode aim other → IsSamePlan meaning other
+    (top : List ℕ) (mode : PlanMode) (aim : PlanAim) (gives : File → Given) (a b : Answer) → MeansPlan top mode aim gives a → MeansPlan top mode aim gives b → IsSamePlan a b
 
 -- the plans that are reported, as lines or as a circuit, are one: their slots, what these use, and their cost
 abbrev pub SourcesHaveOnePlan : Type 0

@@ -1,6 +1,7 @@
 // What a source and a device file have one of: the contracts of functions that do nothing.
 ghost use Rattle.tapa_laws.specs.plans.OneGraph.{ProgramsHaveOneGraph, SourcesHaveOneGraph};
 ghost use Rattle.tapa_laws.specs.plans.OneDevice.{SourcesHaveOneDevice, SourcesHaveOneDeviceFault, DevicesHaveNoFault};
+ghost use Rattle.tapa_laws.specs.plans.OnePlanOf.{PlansAreOne, RefusalsAreOne, PlannedOrRefused, BuildAddsWhatPlanPrints};
 ghost use Rattle.tapa_laws.specs.plans.OnePlan.{PlansMeanOneThing, SourcesHaveOnePlan, SourcesPrintOneBalance, SourcesBuildWhatPlanPrints};
 
 /// A source has at most one graph: its labels, groups, estimated uses and edges.
@@ -27,4 +28,16 @@ pub fn law_one_plan_meaning()
 /// What `build` adds to a stream of a source by a device file, balanced, is the latency and the balance that `plan` prints for it.
 pub fn law_sources_build_what_plan_prints()
     ensures { SourcesBuildWhatPlanPrints }
+{}
+
+/// A graph has one plan on a device by a mode, or one reason for none, and never both.
+pub fn law_graphs_have_one_plan()
+    ensures plan { PlansAreOne }
+    ensures refusal { RefusalsAreOne }
+    ensures either { PlannedOrRefused }
+{}
+
+/// The circuit by a plan adds to its streams what the lines of the plan show: the latency of the borders, and the balance.
+pub fn law_build_adds_what_plan_prints()
+    ensures { BuildAddsWhatPlanPrints }
 {}

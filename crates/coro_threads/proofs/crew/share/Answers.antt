@@ -9,5 +9,5 @@ closed-requires-clause-workers g c =
     let board = c.in-Ok.board in
     let crew = c.in-Ok.crew in
     let back = c.run_free.new.crew in
-    subst (λ ws. All (λ w. IsSeatOf board w.seat × Finished (origin board) (view w.seat) w.short) ws)
+    subst (λ ws. All (λ w. IsSeatOf board w.seat × Finished (origin board) (view w.seat) w.short w.small) ws)
     (sym (whole crew.len crew.items back _ crew.ok.0 (c.run_free.ensures.len ∙ ap length c.as_mut_slice.ensures.value))) c.run_free.ensures.finished

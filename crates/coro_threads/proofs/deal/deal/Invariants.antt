@@ -5,7 +5,7 @@ use Rattle.coro_threads.proofs.deal.deal.Given as goal
 
 abbrev pub invariant-loop-left : goal.invariant-loop-left
 invariant-loop-left g l = (0 < l.left) × (vec_len l.crew + l.left ≡ l.workers) × (l.workers ≤ vec_capacity l.crew) × Gathers l.shared.table_id l.shared.key.origin.value l.seat l.left
-    × All (λ w. IsFree l.shared.table_id l.shared.key.origin.value w × (w.short ≡ false)) l.crew.items
+    × All (λ w. IsFree l.shared.table_id l.shared.key.origin.value w × (w.short ≡ false) × (w.small ≡ false)) l.crew.items
 
 abbrev pub decreases-loop-left : goal.decreases-loop-left
 decreases-loop-left g l = l.left

@@ -21,4 +21,4 @@ for_each_mut-requires-sync-F g c κs within = param_sync 2 (arg-0-2 g.row.R g.ro
 pub returns-clause-finished : goal.returns-clause-finished
 returns-clause-finished g c = λ i d lt.
     let at = (c.for_each_mut.ensures i d (omega (arith, lt, c.for_each_mut.auto.s))).1 in
-    subst (λ w. IsSeatOf c.args.board.now w.seat × Finished (origin c.args.board.now) (view w.seat) w.short) at.left at.call
+    subst (λ w. IsSeatOf c.args.board.now w.seat × Finished (origin c.args.board.now) (view w.seat) w.short w.small) at.left at.call

@@ -6,5 +6,5 @@ use Rattle.cycle_sim.proofs.begin.finish.Goals as goal
 pub returns-clause-machine : goal.returns-clause-machine
 returns-clause-machine c = λ ms m flat is.
     let draft = c.args.draft in
-    subst (λ (t : TapeTree). IsMachine ms m flat draft.pairs.items draft.memories.items draft.cells.items t draft.commits.items draft.stores.items) (sym c.in_ok-program.ensures)
+    subst (λ (t : TapeTree). IsMachine ms m flat (record { pairs = draft.pairs; memories = draft.memories; widths = draft.cells; program = t; commits = draft.commits; stores = draft.stores })) (sym c.in_ok-program.ensures)
     (record { flat = is.flat; tape = is.tape; placed = is.placed; given = is.given; numbered = is.numbered; tells = is.tells; next = is.next })

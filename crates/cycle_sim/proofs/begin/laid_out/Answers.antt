@@ -19,7 +19,7 @@ pub returns-clause-machine : goal.returns-clause-machine
 returns-clause-machine c = λ m at.
     let d = c.args.design.now in
     let flat = c.args.flat.now in
-    c.in_ok-finished.ensures.machine d.modules m flat (subst (λ (o : Option TapeDraft). IfSome o (λ (x : TapeDraft). (m : ModuleTree) → TopOf d m → IsDraft d.modules m flat x)) c.unwrap-draft.ensures c.in_ok-draft_of.ensures.draft m at)
+    c.in_ok-machine.ensures.machine d.modules m flat (subst (λ (o : Option TapeDraft). IfSome o (λ (x : TapeDraft). (m : ModuleTree) → TopOf d m → IsDraft d.modules m flat x)) c.unwrap-draft.ensures c.in_ok-draft_of.ensures.draft m at)
 
 pub returns-clause-around : goal.returns-clause-around
 returns-clause-around c = λ m at.
@@ -29,6 +29,5 @@ returns-clause-around c = λ m at.
     let is : IsDraft d.modules m flat draft = subst (λ (o : Option TapeDraft). IfSome o (λ (x : TapeDraft). (m : ModuleTree) → TopOf d m → IsDraft d.modules m flat x)) c.unwrap-draft.ensures c.in_ok-draft_of.ensures.draft m at in
     let placed = subst (λ l. ArePlaced d.modules m flat l) (sym c.deref.ensures.value) is.placed in
     let given = subst (λ l. AreGiven d.modules m flat l (tree_of draft.tape)) (sym c.deref.ensures.value) is.given in
-    let a = c.in_ok-around.around in
     let around = c.in_ok-around.ensures m flat (tree_of draft.tape) at is.flat placed given in
-    rw c.in_ok-finished.ensures.pairs (subst (λ l. IsAround d.modules m flat l c.args.scalars.now a.inputs.items a.outside.items a.streams.items a.shown.items a.done) c.deref.ensures.value around)
+    rw c.in_ok-machine.ensures.pairs (subst (λ l. IsAround d.modules m flat l c.args.scalars.now c.in_ok-around.around) c.deref.ensures.value around)

@@ -6,11 +6,10 @@ pub returns-clause-parts : goal.returns-clause-parts
 returns-clause-parts c =
     let top = c.valid.ensures.0 in
     let at = c.valid.ensures.1 in
-    let f = c.in_ok-finished.finished in
-    let a = c.in_ok-finished.around in
+    let laid = c.in_ok-machine in
     record {
       top = top;
       at = at;
-      machine = c.in_ok-finished.ensures.machine top at;
-      around = subst (λ l. IsAround c.args.design.modules top c.in_ok-flat.flat f.pairs.items l a.inputs.items a.outside.items a.streams.items a.shown.items a.done) c.deref-2.ensures.value (c.in_ok-finished.ensures.around top at);
+      machine = laid.ensures.machine top at;
+      around = subst (λ l. IsAround c.args.design.modules top c.in_ok-flat.flat laid.machine.pairs.items l laid.around) c.deref-2.ensures.value (laid.ensures.around top at);
     }

@@ -1,5 +1,5 @@
-use Rattle.hw_build.proofs.Ors.{one_alone, none_is_zero, set_stays, tree_is_or, root_driven, gate_driven}
+use Rattle.hw_build.proofs.Ors.{none_is_zero, set_stays, tree_is_or, root_driven}
 use Rattle.hw_build.proofs.laws.law_trees.Goals as goal
 
 pub returns : goal.returns
-returns c = record { one = one_alone; none = none_is_zero; set = set_stays; trees = tree_is_or; roots = root_driven; gates = gate_driven }
+returns c = record { none = none_is_zero; set = set_stays; trees = tree_is_or; roots = root_driven }

@@ -10,6 +10,7 @@ use Rattle.hw_task.proofs.reads.add_answer.Goals as goal
 
 pub returns : goal.returns
 returns c =
-    let E = entry_forms c.args.found.now in
-    answered_grows (form c.args.shape.now) c.args.p c.args.a E c.args.draft.now c.add_any.new.draft c.add_pick.new.draft c.add_cell.new.draft c.requires c.in_ok-add_any.ensures
-    (c.in_ok-add_pick.ensures ∙ ap (λ w. with_all c.add_any.new.draft (pick_elements w (front (ArrayIndex c.args.p c.args.a)) E)) c.index_bits-width.ensures.value) c.in_ok-add_cell.ensures
+    let F = entry_forms c.args.found.now in
+    let P = entry_forms c.args.spots.now in
+    answered_grows (form c.args.shape.now) c.args.p c.args.a F P c.args.draft.now c.add_any.new.draft c.add_pick.new.draft c.add_cell.new.draft c.requires.found c.requires.spots c.in_ok-add_any.ensures
+    (c.in_ok-add_pick.ensures ∙ ap (λ w. with_all c.add_any.new.draft (pick_elements w (front (ArrayIndex c.args.p c.args.a)) P)) c.index_bits-width.ensures.value) c.in_ok-add_cell.ensures

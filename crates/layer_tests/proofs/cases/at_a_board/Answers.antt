@@ -17,4 +17,4 @@ close-requires-clause-crew g c =
     let back = c.run_free.new.crew in
     subst (λ ws. All (λ w. IsSeatOf board w.seat × HasNothing (view w.seat)) ws)
     (sym (whole crew.len crew.items back _ crew.ok.0 (c.run_free.ensures.len ∙ ap length c.as_mut_slice.ensures.value)))
-    (λ k d l. let r = c.run_free.ensures.finished k d l in (r.0, r.1.0))
+    (λ k d l. let r = c.run_free.ensures.finished k d l in (r.0, r.1.idle))

@@ -28,7 +28,7 @@ loop-net-preserved c =
     let vs : List ℕ = c.loop-net.values.items in
     let old : List ℕ = c.args.values.now.items in
     let widths : List ℕ = c.args.widths.now in
-    let v = c.value_at-value.result in
+    let v = c.value-value.result in
     let last = c.index-before.result.now in
     let low : net < length widths = omega (arith, c.loop-net-test.true) in
     let w : ℕ = get_or widths net 0 in
@@ -39,11 +39,11 @@ loop-net-preserved c =
       count = length-set vs net v ∙ c.loop-net.invariant.count;
       later = λ k h. get_or-set_other vs net k v 0 (λ e. absurd (omega arith)) ∙ c.loop-net.invariant.later k (omega arith);
       kept = λ m at are k h. elim (cases_eq k net) [
-        | inl e ↦ subst (λ (i : ℕ). get_or (set vs net v) i 0 ≡ told_at s m i) (sym e) (get_or-set_same vs net v 0 long ∙ told_here s m widths are net v low (λ d got. c.value_at-value.ensures.told m d at got))
+        | inl e ↦ subst (λ (i : ℕ). get_or (set vs net v) i 0 ≡ told_at s m i) (sym e) (get_or-set_same vs net v 0 long ∙ told_here s m widths are net v low (λ d got. c.value-value.ensures.told m d at got))
         | inr ne ↦ get_or-set_other vs net k v 0 ne ∙ c.loop-net.invariant.kept m at are k (omega arith)
       ];
       lines = λ m at are fit.
-          let told : v ≡ told_at s m net = told_here s m widths are net v low (λ d got. c.value_at-value.ensures.told m d at got) in
+          let told : v ≡ told_at s m net = told_here s m widths are net v low (λ d got. c.value-value.ensures.told m d at got) in
           let grown : c.push_if.new.text.items ≡ c.loop-net.text.items ++ cond (c.args.first || not (v == last)) (change_line net w v) [] =
           c.in_ok-push_if.ensures (value_fits s m widths are net w v low wide told fit) ∙ ap (λ (b : Bool). c.loop-net.text.items ++ cond b (change_line net w v) []) c.is_change.ensures in
           more_turns s m widths are c.args.first old net w v last low wide told held c.args.text.now.items c.loop-net.text.items c.push_if.new.text.items (c.loop-net.invariant.lines m at are fit) grown;

@@ -1,4 +1,4 @@
-use Rattle.std.proofs.Common.{◌∙◌, ℕ, Option, Vec, refl, subst, arith}
+use Rattle.std.proofs.Common.{ℕ, Option, Vec, refl, subst, arith}
 use Rattle.std.specs.Prelude.{MatchOption}
 use Rattle.std.specs.declared.alloc.Global.{Global}
 use Rattle.slot_plan.specs.Least.{IsLeastOf, HasNoneOf}
@@ -14,16 +14,16 @@ pub returns-in-None-clause-cause : goal.returns-in-None-clause-cause
 returns-in-None-clause-cause c =
     let g = c.args.graph.now in
     let d = c.args.device.now in
-    let homes = c.deref.result.now in
-    let regions = c.deref-2.result.now in
-    let none = subst (λ (o : Option (Vec ℕ Global)). MatchOption o (HasNoneOf g d (StayAtHome d homes regions)) (λ slot. IsLeastOf g d (StayAtHome d homes regions) slot.items)) c.in-None.is c.in_ok-least_at_home.ensures in
-    (c.in_ok-check_ways.ensures.few, none_of_all g d homes regions g.groups c.len.result (c.deref.ensures.value ∙ c.in_ok-homes.ensures.items_if_clones_equal (λ y e. e)) (c.deref-2.ensures.value ∙ c.in_ok-regions.ensures.items_if_clones_equal (λ y e. e)) refl (let k = d.slots.ok.0 in let e = c.len.ensures in omega arith) none)
+    let homes = c.in_ok-homes.homes.items in
+    let slots = c.in_ok-slots.slots.items in
+    let none = subst (λ (o : Option (Vec ℕ Global)). MatchOption o (HasNoneOf g d (StayAtHome d homes slots)) (λ slot. IsLeastOf g d (StayAtHome d homes slots) slot.items)) c.in-None.is c.in_ok-least_at_home.ensures in
+    (c.in_ok-check_ways.ensures.few, none_of_all g d homes slots g.groups c.len.result (c.in_ok-homes.ensures.items_if_clones_equal (λ y e. e)) (c.in_ok-slots.ensures.items_if_clones_equal (λ y e. e)) refl (let k = d.slots.ok.0 in let e = c.len.ensures in omega arith) none)
 
 pub returns-clause-by_mode : goal.returns-clause-by_mode
 returns-clause-by_mode c =
     let g = c.args.graph.now in
     let d = c.args.device.now in
-    let homes = c.deref.result.now in
-    let regions = c.deref-2.result.now in
-    let least = subst (λ (o : Option (Vec ℕ Global)). MatchOption o (HasNoneOf g d (StayAtHome d homes regions)) (λ slot. IsLeastOf g d (StayAtHome d homes regions) slot.items)) c.in-Some.is c.in_ok-least_at_home.ensures in
-    (c.in_ok-check_ways.ensures.few, least_of_all g d homes regions c.in-Some.slots.items g.groups c.len.result (c.deref.ensures.value ∙ c.in_ok-homes.ensures.items_if_clones_equal (λ y e. e)) (c.deref-2.ensures.value ∙ c.in_ok-regions.ensures.items_if_clones_equal (λ y e. e)) refl (let k = d.slots.ok.0 in let e = c.len.ensures in omega arith) least)
+    let homes = c.in_ok-homes.homes.items in
+    let slots = c.in_ok-slots.slots.items in
+    let least = subst (λ (o : Option (Vec ℕ Global)). MatchOption o (HasNoneOf g d (StayAtHome d homes slots)) (λ slot. IsLeastOf g d (StayAtHome d homes slots) slot.items)) c.in-Some.is c.in_ok-least_at_home.ensures in
+    (c.in_ok-check_ways.ensures.few, least_of_all g d homes slots c.in-Some.slots.items g.groups c.len.result (c.in_ok-homes.ensures.items_if_clones_equal (λ y e. e)) (c.in_ok-slots.ensures.items_if_clones_equal (λ y e. e)) refl (let k = d.slots.ok.0 in let e = c.len.ensures in omega arith) least)

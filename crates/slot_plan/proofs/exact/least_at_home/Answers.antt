@@ -14,6 +14,6 @@ returns-in-None c = λ q plan stays.
     let g = c.args.graph.now in
     let d = c.args.device.now in
     let needs = c.args.needs.now in
-    let stuck = subst (λ (o : Option Placing). MatchOption o ((b : List ℕ) × (v : ℕ) × IsStuck d needs false b v) (λ placing. ArePlaced d needs false (length needs) placing.slots.items placing.used.items))
+    let stuck = subst (λ (o : Option Placing). MatchOption o ((b : List ℕ) × (v : ℕ) × IsStuck d needs false b v) (ArePlaced d needs false (length needs)))
     c.in-None.is c.in_ok-pinned_placed.ensures in
     stuck_none g d needs stuck.0 stuck.1 c.requires.needs stuck.2 q plan

@@ -14,7 +14,7 @@ returns-in_err-place_all-clause-cause c =
     rw (p.1, p.2) (fit_cause c.args.graph.now c.args.device.now c.args.needs.now false c.place_all.new.self.slots.items c.in_err-place_all.field-0.0 c.requires.needs c.in_err-place_all.ensures.none)
 
 pub place_all-requires-2 : goal.place_all-requires-2
-place_all-requires-2 c = record { placed = placed_turn c.args.device.now c.args.needs.now c.place_all.new.self.slots.items c.place_all.new.self.used.items c.in_ok-place_all.ensures.placed }
+place_all-requires-2 c = record { placed = placed_turn c.args.device.now c.args.needs.now c.place_all.new.self c.in_ok-place_all.ensures.placed }
 
 pub returns-in_err-place_all-2-clause-cause : goal.returns-in_err-place_all-2-clause-cause
 returns-in_err-place_all-2-clause-cause c =
@@ -22,7 +22,7 @@ returns-in_err-place_all-2-clause-cause c =
     rw (p.1, p.2) (fit_cause c.args.graph.now c.args.device.now c.args.needs.now true c.place_all-2.new.self.slots.items c.in_err-place_all-2.field-0.0 c.requires.needs c.in_err-place_all-2.ensures.none)
 
 pub returns-clause-plan : goal.returns-clause-plan
-returns-clause-plan c = fit_plan c.args.graph.now c.args.device.now c.args.needs.now c.place_all-2.new.self.slots.items c.place_all-2.new.self.used.items c.requires.needs c.in_ok-place_all-2.ensures.placed
+returns-clause-plan c = fit_plan c.args.graph.now c.args.device.now c.args.needs.now c.place_all-2.new.self c.requires.needs c.in_ok-place_all-2.ensures.placed
 
 pub returns-clause-by_mode : goal.returns-clause-by_mode
-returns-clause-by_mode c = fit_first c.args.graph.now c.args.device.now c.args.needs.now c.place_all-2.new.self.slots.items c.place_all-2.new.self.used.items c.requires.needs c.in_ok-place_all-2.ensures.placed
+returns-clause-by_mode c = fit_first c.args.graph.now c.args.device.now c.args.needs.now c.place_all-2.new.self c.requires.needs c.in_ok-place_all-2.ensures.placed

@@ -1,7 +1,8 @@
 use Rattle.std.proofs.Common.{◌≡◌, ◌<◌, ◌+◌, ◌*◌, ℕ, length, get_or, set, ap, sym, subst, ◌∙◌, arith}
 use Rattle.std.proofs.lemmas.List.{get_or_read}
+use Rattle.std.proofs.lemmas.Bool.{eq-eqb}
 use Rattle.slot_plan.specs.Tables.{items, places, cell, joint_at, distance_at}
-use Rattle.slot_plan.proofs.Lowered.{IsRowPart, cell_inside, row_more, same_test}
+use Rattle.slot_plan.proofs.Lowered.{IsRowPart, cell_inside, row_more}
 use Rattle.slot_plan.proofs.rows.lower_row.Goals as goal
 
 pub loop-y-preserved : goal.loop-y-preserved
@@ -34,6 +35,6 @@ loop-y-preserved c =
     let home = get_or_read t.homes.items item c.index-home.result.now lh c.index-home.ensures 0 in
     let region = get_or_read t.regions.items y c.index-in-loop-y.result.now lr c.index-in-loop-y.ensures 0 in
     let r = row_more t rows c.args.next.now c.args.placed c.args.place item y c.loop-y.least c.loop-y.next value c.lesser-least.result
-    c.lesser-least.ensures.least (λ suits. c.lesser-least.ensures.cost (same_test c.index-in-loop-y.result.now c.index-home.result.now (region ∙ (sym suits ∙ sym home))))
+    c.lesser-least.ensures.least (λ suits. c.lesser-least.ensures.cost (eq-eqb c.index-in-loop-y.result.now c.index-home.result.now (region ∙ (sym suits ∙ sym home))))
     c.loop-y.invariant c.requires.item ly is in
     subst (λ (x : ℕ). IsRowPart t rows c.args.next.now c.args.placed c.args.place item (y + 1) c.lesser-least.result (set c.loop-y.next (item * x + y) value)) (sym em) r

@@ -1,4 +1,5 @@
-use Rattle.std.proofs.Common.{◌≡◌, ◌*◌, get_or, arith, ap, refl, true, false}
+use Rattle.std.proofs.Common.{◌*◌, get_or, arith, ap, refl, true, false}
+use Rattle.std.proofs.lemmas.Bool.{false≢true}
 use Rattle.slot_plan.proofs.Uses.{amount_read, amount_sum, amount_or, no_use, amounts_below, amounts_fit, fits_amount}
 use Rattle.slot_plan.proofs.slots.loaded.Goals as goal
 
@@ -32,11 +33,8 @@ returns-then-is_within-clause-fits c = λ k.
     let f = fits_amount c.sum_of-after.result c.index.result.now c.args.device.now.percent (c.if-is_within.ensures.0 refl) k in
     let m = ap (λ x. x * c.args.device.now.percent) a in omega arith)
 
-false_not_true : false ≡ true → ⊥
-false_not_true e = cc
-
 pub returns-else-is_within-clause-none : goal.returns-else-is_within-clause-none
-returns-else-is_within-clause-none c = λ all. false_not_true (c.if-is_within.ensures.1 (amounts_fit c.sum_of-after.result c.index.result.now c.args.device.now.percent (λ k.
+returns-else-is_within-clause-none c = λ all. false≢true (c.if-is_within.ensures.1 (amounts_fit c.sum_of-after.result c.index.result.now c.args.device.now.percent (λ k.
     (let a = amount_or c.args.used.now c.args.slot no_use c.requires.used k in
     let d = amount_or c.args.needs.now c.args.group no_use c.requires.group k in
     let s = amount_sum (get_or c.args.used.now c.args.slot no_use) (get_or c.args.needs.now c.args.group no_use) c.sum_of-after.result c.sum_of-after.ensures k in

@@ -4,4 +4,4 @@ use Rattle.slot_plan.specs.Plan.{distance}
 use Rattle.slot_plan.proofs.tables.distance_table.Given as goal
 
 abbrev pub invariant-loop-slot : goal.invariant-loop-slot
-invariant-loop-slot l = l.table.items ≡ table_of (distance l.device) (take l.slot-index l.places) l.places
+invariant-loop-slot l = l.table.items ≡ table_of (distance l.device) (take l.slot-index l.choice.places.items) l.choice.places.items

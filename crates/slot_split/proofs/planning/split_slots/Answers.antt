@@ -1,13 +1,10 @@
-use Rattle.std.proofs.Common.{◌≡◌, ◌+◌, ℕ, Option, Vec, sym, subst, arith}
+use Rattle.std.proofs.Common.{◌≡◌, ◌+◌, ℕ, Option, Vec, subst, arith}
 use Rattle.std.specs.Prelude.{MatchOption}
 use Rattle.std.specs.declared.alloc.Global.{Global}
 use Rattle.slot_split.specs.Halving.{IsLevel, HasNone}
 use Rattle.slot_split.specs.Regions.{IsBehind}
 use Rattle.slot_split.proofs.Levels.{behind_next, level_behind}
 use Rattle.slot_split.proofs.planning.split_slots.Goals as goal
-
-pub next_homes-requires-clause-homes : goal.next_homes-requires-clause-homes
-next_homes-requires-clause-homes c = subst (IsBehind c.args.graph.now c.args.device.now c.cuts-row_levels.result c.loop-level.level) (sym c.deref.ensures.value) c.loop-level.invariant
 
 pub loop-level-init : goal.loop-level-init
 loop-level-init c = c.in_ok-homes.ensures.items_if_clones_equal (λ y e. e)

@@ -1,48 +1,25 @@
-use Rattle.std.proofs.Common.{refl, inl, inr, subst}
-use Rattle.tapa_words.specs.declared.command.Command.{Command}
-use Rattle.tapa_words.specs.Meaning.{command}
-use Rattle.tapa_words.specs.Words.{texts, Gen, IsInRange}
-use Rattle.tapa_drive.proofs.Carried.{unread}
-use Rattle.tapa_drive.proofs.NetworkAnswered.{put_carried}
+use Rattle.tapa_words.specs.declared.command.Command.TheVariants.{Run, Build, Plan, Cosim, Vcd, Gen}
+use Rattle.command_answers.specs.Meaning.{end_of}
+use Rattle.command_answers.specs.Outside.{outside, store}
+use Rattle.tapa_drive.proofs.Answered.{carried_as}
 use Rattle.tapa_drive.proofs.top.carry_out.Goals as goal
 
-pub returns-in-Err-Usage : goal.returns-in-Err-Usage
-returns-in-Err-Usage g c = λ errors told. inl (record { done = tt; cause = rw c.in-Err-Usage.field-0-is at c.in-Err-Usage.ensures.refused; leaves = refl; reads = unread _ _ _ _ errors told })
+pub returns-in-Run : goal.returns-in-Run
+returns-in-Run g c = carried_as c.args.command (Run c.in-Run.source c.in-Run.top c.in-Run.data c.in-Run.workers c.in-Run.limit) (outside g.S.Shelf g.O.Sink c.args.shelf.now c.args.out.now) (outside g.S.Shelf g.O.Sink c.run_source.new.shelf c.run_source.new.out) (end_of c.run_source.result) c.in-Run.is c.run_source.ensures
 
-pub returns-in-Err-OutOfMemory : goal.returns-in-Err-OutOfMemory
-returns-in-Err-OutOfMemory g c = λ errors told. inl (record { done = tt; cause = tt; leaves = inl refl; reads = unread _ _ _ _ errors told })
+pub returns-in-Build : goal.returns-in-Build
+returns-in-Build g c = carried_as c.args.command (Build c.in-Build.source c.in-Build.top) (outside g.S.Shelf g.O.Sink c.args.shelf.now c.args.out.now) (outside g.S.Shelf g.O.Sink c.build_source.new.shelf c.build_source.new.out) (end_of c.build_source.result) c.in-Build.is c.build_source.ensures
 
-pub run_source-requires-clause-workers : goal.run_source-requires-clause-workers
-run_source-requires-clause-workers g c κs within =
-    let range = subst (λ (asked : Command). IsInRange (command asked)) c.in-Ok-Run.field-0-is c.in-Ok-Run.ensures.range in
-    (range.0, range.1)
+pub returns-in-Plan : goal.returns-in-Plan
+returns-in-Plan g c = carried_as c.args.command (Plan c.in-Plan.source c.in-Plan.top c.in-Plan.device c.in-Plan.mode c.in-Plan.aim) (outside g.S.Shelf g.O.Sink c.args.shelf.now c.args.out.now) (outside g.S.Shelf g.O.Sink c.plan_source.new.shelf c.plan_source.new.out) (end_of c.plan_source.result) c.in-Plan.is c.plan_source.ensures
 
-pub run_source-requires-clause-limit : goal.run_source-requires-clause-limit
-run_source-requires-clause-limit g c κs within = (subst (λ (asked : Command). IsInRange (command asked)) c.in-Ok-Run.field-0-is c.in-Ok-Run.ensures.range).2
+pub returns-in-Cosim : goal.returns-in-Cosim
+returns-in-Cosim g c = carried_as c.args.command (Cosim c.in-Cosim.text c.in-Cosim.data c.in-Cosim.limit c.in-Cosim.aim) (outside g.S.Shelf g.O.Sink c.args.shelf.now c.args.out.now) (outside g.S.Shelf g.O.Sink c.cosim_text.new.shelf c.cosim_text.new.out) (end_of c.cosim_text.result) c.in-Cosim.is c.cosim_text.ensures
 
-pub returns-in-Ok-Run : goal.returns-in-Ok-Run
-returns-in-Ok-Run g c = λ errors told. inl (c.run_source.ensures (texts c.args.words.now) errors told (rw c.in-Ok-Run.field-0-is at c.in-Ok-Run.ensures.asked))
+pub returns-in-Vcd : goal.returns-in-Vcd
+returns-in-Vcd g c = carried_as c.args.command (Vcd c.in-Vcd.file c.in-Vcd.net) (outside g.S.Shelf g.O.Sink c.args.shelf.now c.args.out.now) (outside g.S.Shelf g.O.Sink c.show_net.new.shelf c.show_net.new.out) (end_of c.show_net.result) c.in-Vcd.is c.show_net.ensures
 
-pub returns-in-Ok-Build : goal.returns-in-Ok-Build
-returns-in-Ok-Build g c = λ errors told. inl (c.build_source.ensures (texts c.args.words.now) errors told (rw c.in-Ok-Build.field-0-is at c.in-Ok-Build.ensures.asked))
-
-pub returns-in-Ok-Plan : goal.returns-in-Ok-Plan
-returns-in-Ok-Plan g c = λ errors told. inl (c.plan_source.ensures (texts c.args.words.now) errors told (rw c.in-Ok-Plan.field-0-is at c.in-Ok-Plan.ensures.asked))
-
-pub returns-in-Ok-Cosim : goal.returns-in-Ok-Cosim
-returns-in-Ok-Cosim g c = λ errors told. inl (c.cosim_text.ensures (texts c.args.words.now) errors told (rw c.in-Ok-Cosim.field-0-is at c.in-Ok-Cosim.ensures.asked))
-
-pub returns-in-Ok-Vcd : goal.returns-in-Ok-Vcd
-returns-in-Ok-Vcd g c = λ errors told. inl (c.show_net.ensures (texts c.args.words.now) errors told (rw c.in-Ok-Vcd.field-0-is at c.in-Ok-Vcd.ensures.asked))
-
-pub put_network-requires-clause-workers : goal.put_network-requires-clause-workers
-put_network-requires-clause-workers g c κs within =
-    let range = subst (λ (asked : Command). IsInRange (command asked)) c.in-Ok-Gen.field-0-is c.in-Ok-Gen.ensures.range in
-    (range.1, range.2)
-
-pub put_network-requires-clause-layers : goal.put_network-requires-clause-layers
-put_network-requires-clause-layers g c κs within = (subst (λ (asked : Command). IsInRange (command asked)) c.in-Ok-Gen.field-0-is c.in-Ok-Gen.ensures.range).0
-
-pub returns-in-Ok-Gen : goal.returns-in-Ok-Gen
-returns-in-Ok-Gen g c = λ errors told.
-    inr (Gen c.in-Ok-Gen.layers c.in-Ok-Gen.workers, rw c.in-Ok-Gen.field-0-is at c.in-Ok-Gen.ensures.asked, put_carried c.in-Ok-Gen.layers _ _ c.put_network.result c.put_network.ensures.whole c.put_network.ensures.refused (record { same_files = refl; none = λ name. refl }))
+pub returns-in-Gen : goal.returns-in-Gen
+returns-in-Gen g c =
+    carried_as c.args.command (Gen c.in-Gen.layers c.in-Gen.workers) (outside g.S.Shelf g.O.Sink c.args.shelf.now c.args.out.now) (outside g.S.Shelf g.O.Sink c.args.shelf.now c.put_network.new.out) (end_of c.put_network.result) c.in-Gen.is
+    (c.put_network.ensures (store g.S.Shelf c.args.shelf.now))

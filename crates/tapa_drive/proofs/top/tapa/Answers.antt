@@ -1,11 +1,9 @@
-use Rattle.std.proofs.Common.{ap}
 use Rattle.tapa_words.specs.Words.{texts}
-use Rattle.command_source.specs.Outside.{written}
-use Rattle.tapa_drive.proofs.AllDecided.{all_decided}
+use Rattle.command_answers.specs.Outside.{outside, written}
+use Rattle.tapa_drive.proofs.Decided.{decided}
 use Rattle.tapa_drive.proofs.top.tapa.Goals as goal
 
 pub returns-clause-decided : goal.returns-clause-decided
 returns-clause-decided g c =
-    all_decided (texts c.args.words.now) (g.S.Shelf.files c.args.shelf.now) (g.S.Shelf.faults c.args.shelf.now)
-    (written (g.O.Sink.contents c.args.out.now) (g.O.Sink.faults c.args.out.now)) (written (g.E.Sink.contents c.args.err.now) (g.E.Sink.faults c.args.err.now))
-    _ c.answer.result c.answer.ensures.answer (λ is. ap g.E.Sink.contents (c.answer.ensures.ok_err is))
+    decided (texts c.args.words.now) (outside g.S.Shelf g.O.Sink c.args.shelf.now c.args.out.now) (outside g.S.Shelf g.O.Sink c.answer.new.shelf c.answer.new.out)
+    (written g.E.Sink c.args.err.now) (written g.E.Sink c.answer.new.err) c.answer.result c.answer.ensures.answer

@@ -1,5 +1,6 @@
 use Rattle.std.proofs.Common.{◌≡◌, ◌<◌, ◌≤◌, ◌+◌, ◌-◌, ◌*◌, ℕ, List, [], ◌∷◌, ◌++◌, length, get_or, set, arith, sym, ap, subst, length-append, refl, true, false, ◌∙◌}
 use Rattle.std.proofs.lemmas.List.{get_or_read}
+use Rattle.std.proofs.lemmas.Bool.{false≢true}
 use Rattle.task_graph.specs.declared.Use.{Use}
 use Rattle.task_graph.specs.Streams.{amount_at}
 use Rattle.slot_plan.specs.Amounts.{IsAtMost}
@@ -62,9 +63,6 @@ explore-returns-clause-explored t c =
     below_all tables p c.args.self.now.best c.loop-place.self.best l
     (subst (λ n. ExploredBelow tables p n c.args.self.now.best c.loop-place.self.best) all c.loop-place.invariant.below)
 
-false_not_true : false ≡ true → ⊥
-false_not_true e = cc
-
 pub explore_place-returns-then-index-clause-explored : goal.explore_place-returns-then-index-clause-explored
 explore_place-returns-then-index-clause-explored t c =
     let tables = c.args.tables.now in
@@ -86,7 +84,7 @@ explore_place-returns-then-not-is_at_most-clause-explored t c =
     let at = c.requires.at in
     let n : c.len-item.result ≡ length p = c.len-item.ensures ∙ c.args.self.now.places.ok.0 in
     too_much tables p left c.args.spent s c.args.self.now.best at
-    (λ all. false_not_true (sym c.if-not-is_at_most.true ∙ c.is_at_most.ensures.1 (amounts_at_most _ _ (λ k.
+    (λ all. false≢true (sym c.if-not-is_at_most.true ∙ c.is_at_most.ensures.1 (amounts_at_most _ _ (λ k.
     (let a = amount_read tables.needs.items c.len-item.result c.index-need.result.now (let m = at.more in omega arith) c.index-need.ensures k in
     let b = amount_read left s c.index-left.result.now (let m = at.left_is.long in let o = at.place in omega arith) c.index-left.ensures k in
     let e = ap (λ v. amount_at tables.needs.items v k) n in

@@ -1,0 +1,9 @@
+pub mod Outside
+pub mod Files
+pub mod Refusal
+pub mod Answer
+pub mod Ends
+pub mod Steps
+pub mod Meaning
+pub mod Told
+pub mod Put

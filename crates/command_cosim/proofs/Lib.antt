@@ -1,0 +1,3 @@
+pub mod Carried
+pub mod DesignShapes
+pub mod Faults

@@ -1,0 +1,4 @@
+pub mod Lengths
+pub mod Nothings
+pub mod Summing
+pub mod Carried

@@ -1,4 +1,0 @@
-pub mod Layers
-pub mod Summaries
-pub mod Network
-pub mod Nothing

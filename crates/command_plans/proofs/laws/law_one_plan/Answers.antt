@@ -1,5 +1,0 @@
-use Rattle.command_plans.proofs.OnePlan.{plans_are_one, refusals_are_one, planned_or_refused}
-use Rattle.command_plans.proofs.laws.law_one_plan.Goals as goal
-
-pub returns : goal.returns
-returns c = record { plan = plans_are_one; refusal = refusals_are_one; either = planned_or_refused }

@@ -1,5 +1,0 @@
-use Rattle.command_source.proofs.Sources.{labels_tell}
-use Rattle.command_source.proofs.laws.law_labels_tell_parts_apart.Goals as goal
-
-pub returns : goal.returns
-returns c = labels_tell

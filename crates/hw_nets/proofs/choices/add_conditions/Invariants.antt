@@ -1,8 +1,0 @@
-use Rattle.std.proofs.Common.{◌≡◌, drop}
-use Rattle.hw_build.specs.Elements.{with_all}
-use Rattle.hw_build.specs.Choices.{any_leaves}
-use Rattle.hw_nets.specs.Entries.{entry_forms}
-use Rattle.hw_nets.proofs.choices.add_conditions.Given as goal
-
-abbrev pub invariant-loop-j : goal.invariant-loop-j
-invariant-loop-j l = with_all l.draft (any_leaves l.front l.j (entry_forms (drop l.j l.entries))) ≡ with_all l.initial.draft (any_leaves l.front 0 (entry_forms l.entries))

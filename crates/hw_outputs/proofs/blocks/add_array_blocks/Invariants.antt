@@ -1,9 +1,0 @@
-use Rattle.std.proofs.Common.{◌≡◌}
-use Rattle.hw_build.specs.Elements.{with_all}
-use Rattle.hw_build.specs.Scope.{each}
-use Rattle.hw_lines.specs.Texts.{array_block}
-use Rattle.hw_nets.specs.Shapes.{form}
-use Rattle.hw_outputs.proofs.blocks.add_array_blocks.Given as goal
-
-abbrev pub invariant-loop-a : goal.invariant-loop-a
-invariant-loop-a l = l.draft ≡ with_all l.initial.draft (each (array_block (form l.shape)) l.a)

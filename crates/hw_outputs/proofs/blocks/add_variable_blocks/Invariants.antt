@@ -1,9 +1,0 @@
-use Rattle.std.proofs.Common.{◌≡◌}
-use Rattle.hw_build.specs.Elements.{with_all}
-use Rattle.hw_build.specs.Scope.{each}
-use Rattle.hw_lines.specs.Texts.{variable_block}
-use Rattle.hw_nets.specs.Shapes.{form}
-use Rattle.hw_outputs.proofs.blocks.add_variable_blocks.Given as goal
-
-abbrev pub invariant-loop-r : goal.invariant-loop-r
-invariant-loop-r l = l.draft ≡ with_all l.initial.draft (each (variable_block (form l.shape)) l.r)

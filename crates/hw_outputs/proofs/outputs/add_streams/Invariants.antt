@@ -1,9 +1,0 @@
-use Rattle.std.proofs.Common.{◌≡◌}
-use Rattle.hw_build.specs.Elements.{with_all}
-use Rattle.hw_build.specs.Scope.{each}
-use Rattle.hw_lines.specs.Texts.{stream_outputs}
-use Rattle.hw_nets.specs.Shapes.{form}
-use Rattle.hw_outputs.proofs.outputs.add_streams.Given as goal
-
-abbrev pub invariant-loop-s : goal.invariant-loop-s
-invariant-loop-s l = l.draft ≡ with_all l.initial.draft (each (stream_outputs (form l.shape)) l.s)

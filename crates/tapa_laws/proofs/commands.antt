@@ -1,0 +1,4 @@
+pub mod KnownFiles
+pub mod NetOnce
+pub mod OneAnswer
+pub mod OneStep

@@ -1,0 +1,2 @@
+pub mod BuiltRuns
+pub mod OneText

@@ -1,0 +1,4 @@
+pub mod LegalOrRefused
+pub mod OneMeaning
+pub mod OneRefusal
+pub mod Pieces

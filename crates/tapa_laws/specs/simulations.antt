@@ -1,0 +1,3 @@
+pub mod BuiltRuns
+pub mod DumpedRuns
+pub mod OneText
