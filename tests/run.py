@@ -4,6 +4,7 @@
     tests/run.py [PROGRAM] [--only W | --failed] [-j N]   for example crates/tapa_cli/out/tapa_cli; without PROGRAM the one that `./tapa` runs
     tests/run.py --list                                   the groups of cases, each with what it tries
     tests/run.py write crates | rooms | groups            puts lists into docs/ARCHITECTURE.md and this folder's README.md
+    tests/run.py write laws                               puts the list of theorems into docs/THEOREMS.md
     tests/run.py write chain                              draws the chain of theorems, docs/chain.svg
     tests/run.py write reference PROGRAM                  puts circuits and what they show into crates/vlog_tests
     tests/run.py write mistakes PROGRAM                   records what is shown of the mistakes in cases/mistakes
@@ -16,11 +17,11 @@ import sys
 
 sys.dont_write_bytecode = True
 from runner import groups, rounds  # noqa: E402
-from runner.write import chain, crates, house, lists, mistakes, reference, rooms  # noqa: E402
+from runner.write import chain, crates, house, laws, lists, mistakes, reference, rooms  # noqa: E402
 from vechaqir import script  # noqa: E402
 from vechaqir.host import program  # noqa: E402
 
-WRITTEN = {"crates": crates, "rooms": rooms, "groups": groups}
+WRITTEN = {"crates": crates, "rooms": rooms, "groups": groups, "laws": laws}
 DRAWN = {"chain": chain.main, "mistakes": mistakes.main, "reference": reference.main}
 
 

@@ -9,6 +9,7 @@ Needs Debian's packages `yosys` and `nextpnr-ice40`. The circuit's ports are fol
 import os
 import sys
 import tempfile
+from pathlib import Path
 
 sys.dont_write_bytecode = True
 from vechaqir import script  # noqa: E402
@@ -40,8 +41,7 @@ def main(asked):
     lacking = board.missing()
     if lacking:
         raise script.Fault(f"this needs Debian's {' and '.join(lacking)}: apt-get install {' '.join(lacking)}")
-    with open(asked.text, encoding="utf-8") as file:
-        text = file.read()
+    text = Path(asked.text).read_text(encoding="utf-8")
     top = board.top_of(text)
     with tempfile.TemporaryDirectory(prefix="tapa-board-") as folder:
         if asked.keep:

@@ -2,14 +2,16 @@
 """Runs circuits in Icarus Verilog with memories that are not those of `tapa cosim`, with resets in the middle of runs, and compares what they carry and leave with
 what `tapa run` shows.
 
-    tools/check_memories.py PROGRAM [SOURCE TOP DATA [--text F.v [--memories random]]]
+    tools/check_memories.py PROGRAM [SOURCE TOP DATA [--text F.v] [--memories ram|bus|random]] [--page F.md]
 
-Each circuit (by default those of the examples that end) runs with the lines for a block RAM of docs/CIRCUIT.md around it, and with memories that are ready in random
-cycles and show random bits in the others. Each run is reset several times, for one cycle or more, at random moments, from registers that are unknown at first. Beside
-the report it is looked at that no memory is ready or changes while `rst` is 1, and that what a memory is asked for stays as it is until the memory is ready. With --text
-the circuit is read from a file, and not built from the source; an address that comes only with `ack` is found with random memories alone, since it does not settle where `ack` comes
-with the address. The random numbers are the same in each call. Needs `iverilog` and `vvp`.
+Each circuit (by default those of the examples that end) runs with the lines for a block RAM of docs/CIRCUIT.md around it, with those for a bus, which replies after one to
+eight cycles, and with memories that are ready in random cycles and show random bits in the others. Each run is reset several times, for one cycle or more, at random moments,
+from registers that are unknown at first. The script also checks that no memory is ready or changes while `rst` is 1, and that what a memory is asked for stays as it is until
+the memory is ready. With --text the circuit is read from a file, and not built from the source; an address that comes only with `ack` is found with random memories alone,
+since it does not settle where `ack` comes with the address. With --page the lines are those of another page. The random numbers are the same in each call. Needs `iverilog`
+and `vvp`.
 """
+import functools
 import json
 import os
 import random
@@ -17,30 +19,53 @@ import re
 import subprocess
 import sys
 import tempfile
+from pathlib import Path
 
 sys.dont_write_bytecode = True
 from vechaqir import script  # noqa: E402
 from vechaqir.measure.icarus import report, top_of  # noqa: E402
 
 ROOT = script.ROOT
+PAGE = os.path.join(ROOT, "docs", "CIRCUIT.md")
 LIMIT = 20_000
 
 
-def page_lines():
-    """The lines of docs/CIRCUIT.md for a block RAM."""
-    with open(os.path.join(ROOT, "docs", "CIRCUIT.md"), encoding="utf-8") as file:
-        return re.search(r"^```verilog\n(reg \[31:0\] cells .*?)^```$", file.read(), re.M | re.S)[1]
+def page_lines(page, begin):
+    """The lines of a page that begin so."""
+    found = re.search(rf"^```verilog\n({re.escape(begin)}.*?)^```$", Path(page).read_text(encoding="utf-8"), re.M | re.S)
+    if not found:
+        raise script.Usage(f"{page} has no lines of Verilog that begin with `{begin}`")
+    return found[1]
 
 
-def block_ram(lines, name, bits, size):
-    """These lines for a memory of this name, bits and size."""
+def block_ram(page, name, bits, size):
+    """The lines for a block RAM, for a memory of this name, bits and size."""
+    lines = page_lines(page, "reg [31:0] cells ")
     high = max(1, (size - 1).bit_length()) - 1
     for old, new in (("[31:0] cell", f"[{bits - 1}:0] cell"), ("[0:1023]", f"[0:{max(1, size) - 1}]"), ("64'd1024", f"64'd{size}"), ("32'd0", f"{bits}'d0"), ("[9:0]", f"[{high}:0]"), ("m_a_", f"m_{name}_")):
         lines = lines.replace(old, new)
     return re.sub(r"\b(cells|cell_read|cell_asked|is_fresh|is_inside)\b", rf"\1_{name}", lines)
 
 
-def random_memory(name, bits, size):
+def bus(page, name, bits, size):
+    """The lines for a bus, for a memory of this name, bits and size, and a bus that replies after one to eight cycles.
+
+    Their names are `bus_request`, `bus_we`, `bus_addr` and `bus_wdata`, which the bus takes, and `bus_reply` and `bus_rdata`, which it shows.
+    """
+    lines = page_lines(page, "reg is_asking;").replace("[31:0]", f"[{bits - 1}:0]").replace("m_a_", f"m_{name}_")
+    lines = re.sub(r"\b(is_asking|is_answered|asked_we|asked_addr|asked_wdata|answer|bus_\w+)\b", rf"\1_{name}", lines)
+    return f"""reg [{bits - 1}:0] cells_{name} [0:{max(1, size) - 1}]; reg [2:0] left_{name};
+wire bus_request_{name}; wire bus_we_{name}; wire [63:0] bus_addr_{name}; wire [{bits - 1}:0] bus_wdata_{name}; wire bus_reply_{name}; wire [{bits - 1}:0] bus_rdata_{name};
+{lines}assign bus_reply_{name} = !rst && bus_request_{name} && left_{name} == 0;
+assign bus_rdata_{name} = bus_addr_{name} < 64'd{size} ? cells_{name}[bus_addr_{name}] : {bits}'d0;
+always @(posedge clk) begin
+  if (bus_reply_{name} && bus_we_{name} && bus_addr_{name} < 64'd{size}) cells_{name}[bus_addr_{name}] <= bus_wdata_{name};
+  left_{name} <= bus_request_{name} === 1 && left_{name} !== 0 ? left_{name} - 1 : $random;
+end
+"""
+
+
+def random_memory(_page, name, bits, size):
     """A memory that is ready when `ready_NAME` says so, outside of reset, and shows noise where it is not ready."""
     return f"""reg [{bits - 1}:0] cells_{name} [0:{max(1, size) - 1}]; reg ready_{name}; reg [63:0] noise_{name};
 assign m_{name}_ack = !rst && ready_{name};
@@ -64,10 +89,7 @@ end
 """
 
 
-MEMORIES = {
-    "the lines of docs/CIRCUIT.md": lambda *memory: block_ram(page_lines(), *memory),
-    "random memories": random_memory,
-}
+MEMORIES = {"ram": block_ram, "bus": bus, "random": random_memory}
 
 
 def owners_of(text):
@@ -76,8 +98,8 @@ def owners_of(text):
     return {name: instance for _, instance, ports in instances for name in re.findall(r"\(\s*m_([\w$]+)_addr\s*\)", ports)}
 
 
-def bench(text, data, kind, resets):
-    """A testbench that resets the circuit in these cycles, each with how many cycles the reset takes; the first one is in cycle 0."""
+def bench(text, data, memory, resets):
+    """A testbench with memories by `memory`, that resets the circuit in these cycles, each with how many cycles the reset takes; the first one is in cycle 0."""
     name, ports, wires = top_of(text)
     bits_of = {port: bits for _, bits, port in ports}
     memories = [(port[2:-4], bits_of[port[:-3] + "rdata"], data.get("memories", {})[port[2:-4]]) for _, _, port in ports if port.endswith("_ack")]
@@ -90,7 +112,7 @@ def bench(text, data, kind, resets):
             yield f"wire [{bits - 1}:0] {port} = {bits}'d{int(values[port[2:]]) % 2**bits};"
     for label, bits, cells in memories:
         yield f"wire m_{label}_ack; wire m_{label}_we; wire [63:0] m_{label}_addr; wire [{bits - 1}:0] m_{label}_wdata; wire [{bits - 1}:0] m_{label}_rdata;"
-        yield MEMORIES[kind](label, bits, len(cells))
+        yield memory(label, bits, len(cells))
     yield f"{name} top (" + ", ".join(f".{port}({port})" for _, _, port in ports) + ");"
     yield from (held(label, f"top.{owners[label]}") for label, _, _ in memories if label in owners)
     yield "task fill; begin"
@@ -118,12 +140,11 @@ def bench(text, data, kind, resets):
     yield "endmodule"
 
 
-def shown_in_icarus(folder, text, data, kind, resets):
+def shown_in_icarus(folder, text, data, memory, resets):
     """The report of a run from its last reset on, without the number of cycles, and what was bad."""
     paths = [os.path.join(folder, name) for name in ("design.v", "bench.v", "bench")]
-    for path, lines in zip(paths, (text, "\n".join(bench(text, data, kind, resets)) + "\n")):
-        with open(path, "w", encoding="utf-8") as file:
-            file.write(lines)
+    for path, lines in zip(paths, (text, "\n".join(bench(text, data, memory, resets)) + "\n")):
+        Path(path).write_text(lines, encoding="utf-8")
     subprocess.run(["iverilog", "-g2005", "-gno-xtypes", "-o", paths[2], *paths[:2]], check=True)
     said = subprocess.run(["vvp", "-n", paths[2]], check=True, capture_output=True, text=True).stdout.splitlines()
     bad = sorted({line for line in said if line.startswith("bad ")})
@@ -143,7 +164,7 @@ def is_same(got, wanted, may_go_on):
     return len(got) == len(wanted) and all(map(agrees, got, wanted))
 
 
-def check(program, source, top, file, chance, text=None, kinds=tuple(MEMORIES)):
+def check(program, source, top, file, chance, text=None, kinds=tuple(MEMORIES), page=PAGE):
     """What of a source, or of this text of its circuit, is otherwise in Icarus Verilog; nothing where its run does not end."""
     words = [program, "run", source, top, *([file] if file else []), "--steps", "100000"]
     ran = subprocess.run(words, cwd=ROOT, capture_output=True, text=True, check=False)
@@ -152,20 +173,18 @@ def check(program, source, top, file, chance, text=None, kinds=tuple(MEMORIES)):
     wanted = [line if not line.startswith("done ") else "done" for line in ran.stdout.splitlines()]
     text = text or built(program, source, top)
     data = {}
-    with open(os.path.join(ROOT, source), encoding="utf-8") as given:
-        may_go_on = "tapa::detach" in given.read()
+    may_go_on = "tapa::detach" in Path(ROOT, source).read_text(encoding="utf-8")
     if file:
-        with open(os.path.join(ROOT, file), encoding="utf-8") as given:
-            data = json.load(given)
+        data = json.loads(Path(ROOT, file).read_text(encoding="utf-8"))
     wrong = []
     with tempfile.TemporaryDirectory(prefix="tapa-memories-") as folder:
         for kind in kinds:
             for _ in range(3):
                 moments = [0, *sorted(chance.sample(range(6, 90), 3))]
                 resets = [(moment, chance.choice((1, 1, 2, 5))) for moment in moments]
-                got, bad = shown_in_icarus(folder, text, data, kind, resets)
+                got, bad = shown_in_icarus(folder, text, data, functools.partial(MEMORIES[kind], page), resets)
                 if bad or not is_same(got, wanted, may_go_on):
-                    wrong.append(f"{source} with {kind}, reset at {resets}: {bad} {[line for line in got if line not in wanted]}")
+                    wrong.append(f"{source} with memories {kind}, reset at {resets}: {bad} {[line for line in got if line not in wanted]}")
     return wrong
 
 
@@ -184,7 +203,8 @@ def words():
     asked.add_argument("top", metavar="TOP", nargs="?", help="its top task")
     asked.add_argument("data", metavar="DATA", nargs="?", help="its data")
     asked.add_argument("--text", metavar="F.v", help="the circuit, in place of the one that is built of the source")
-    asked.add_argument("--memories", choices=("all", "random"), default="all", help="all memories, or the random ones alone")
+    asked.add_argument("--memories", choices=("all", *MEMORIES), default="all", help="all memories, or those of one kind alone")
+    asked.add_argument("--page", metavar="F.md", default=PAGE, help="the page with the lines, in place of docs/CIRCUIT.md")
     return asked
 
 
@@ -193,13 +213,12 @@ def main(asked):
         raise script.Usage("a text needs its source, and a source its top task")
     text = None
     if asked.text:
-        with open(asked.text, encoding="utf-8") as file:
-            text = file.read()
+        text = Path(asked.text).read_text(encoding="utf-8")
     program, chance = os.path.abspath(asked.program), random.Random(2001)
-    kinds = ("random memories",) if asked.memories == "random" else tuple(MEMORIES)
+    kinds = tuple(MEMORIES) if asked.memories == "all" else (asked.memories,)
     tried, wrong = 0, []
     for source, top, data in [(asked.source, asked.top, asked.data)] if asked.source else examples():
-        found = check(program, source, top, data, chance, text, kinds)
+        found = check(program, source, top, data, chance, text, kinds, asked.page)
         tried += found is not None
         wrong += found or []
     print("\n".join([*wrong, f"{tried} circuits, {len(wrong)} runs otherwise"]))

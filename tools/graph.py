@@ -8,6 +8,7 @@ With the messages of a run that has stopped, streams that an instance waits for 
 some. A round box is a memory of the top task, a dashed box an upper-level task. Nothing here is proved: the picture shows what the top module of the text joins.
 """
 import sys
+from pathlib import Path
 
 sys.dont_write_bytecode = True
 from vechaqir import script  # noqa: E402
@@ -22,11 +23,9 @@ def words():
 
 
 def main(asked):
-    with open(asked.circuit, encoding="utf-8") as file:
-        network, facts, late = networks.of_circuit(file.read())
+    network, facts, late = networks.of_circuit(Path(asked.circuit).read_text(encoding="utf-8"))
     if asked.told:
-        with open(asked.told, encoding="utf-8") as file:
-            late = networks.put_waits(network, facts, file.read().splitlines())
+        late = networks.put_waits(network, facts, Path(asked.told).read_text(encoding="utf-8").splitlines())
     print("\n".join(networks.drawing(network, facts, late)))
 
 

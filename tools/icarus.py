@@ -11,6 +11,7 @@ import shutil
 import subprocess
 import sys
 import tempfile
+from pathlib import Path
 
 sys.dont_write_bytecode = True
 from vechaqir import script  # noqa: E402
@@ -30,16 +31,14 @@ def words():
 
 
 def main(asked):
-    with open(asked.text, encoding="utf-8") as file:
-        text = file.read()
+    text = Path(asked.text).read_text(encoding="utf-8")
     found = inputs.read(asked.data) if asked.data else inputs.Data()
     data = {"scalars": found.scalars, "memories": found.memories, "waits": found.ready}
     icarus.missing(icarus.top_of(text)[1], data, asked.data or "{}")
     with tempfile.TemporaryDirectory(prefix="tapa-icarus-") as folder:
         made, ran = os.path.join(folder, "bench.v"), os.path.join(folder, "bench")
         dump = asked.dump or (os.path.join(folder, "bench.vcd") if asked.beside else None)
-        with open(made, "w", encoding="utf-8") as file:
-            file.write("\n".join(icarus.bench(text, data, asked.cycles, dump)) + "\n")
+        Path(made).write_text("\n".join(icarus.bench(text, data, asked.cycles, dump)) + "\n", encoding="utf-8")
         if asked.bench:
             shutil.copyfile(made, asked.bench)
         compiled = subprocess.run(["iverilog", "-g2005", "-gno-xtypes", "-o", ran, asked.text, made], check=False)

@@ -11,6 +11,7 @@ import os
 import re
 import subprocess
 import sys
+from pathlib import Path
 from argparse import REMAINDER
 
 sys.dont_write_bytecode = True
@@ -162,13 +163,11 @@ def compile_parts(kit, words, source, made):
     listing = f"{source}.ll"
     if subprocess.run([clang, "--no-default-config", "-x", "ir", source, "-S", "-emit-llvm", "-O0", "-Xclang", "-disable-llvm-passes", "-o", listing], check=False).returncode:
         return False
-    with open(listing, "rb") as file:
-        cut = Cut(Module(file.read()), min(count, 16))
+    cut = Cut(Module(Path(listing).read_bytes()), min(count, 16))
     os.remove(listing)
     running, objects = [], []
     for part in range(cut.parts):
-        with open(f"{source}.{part}.ll", "wb") as file:
-            file.write(text_of(cut, part))
+        Path(f"{source}.{part}.ll").write_bytes(text_of(cut, part))
         objects.append(f"{source}.{part}.o")
         given = {source: f"{source}.{part}.ll", made: objects[-1]}
         running.append(subprocess.Popen([clang, *(given.get(word, word) for word in words)]))

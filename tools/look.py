@@ -11,7 +11,7 @@ import tempfile
 
 sys.dont_write_bytecode = True
 from vechaqir import script  # noqa: E402
-from vechaqir.host import device, plan  # noqa: E402
+from vechaqir.host import device, estimate, plan  # noqa: E402
 from vechaqir.language import source  # noqa: E402
 from vechaqir.measure import tries  # noqa: E402
 from vechaqir.show import contents, page, report as reports  # noqa: E402
@@ -32,6 +32,14 @@ def planned(tapa, asked):
     return contents.plan_data(plan.parse(said.out.decode()), device.read(asked.device))
 
 
+def uses(tapa, asked):
+    """What a task uses of a device; nothing if the program does not say it."""
+    try:
+        return contents.uses_data(estimate.estimate(tapa, asked.source, asked.top))
+    except (script.Fault, script.Told):
+        return None
+
+
 def main(asked):
     read = source.read(asked.source)
     network = source.network(read, asked.top)
@@ -44,6 +52,7 @@ def main(asked):
     said = bench.program.call(["run", *bench.words])
     report = reports.signed_report(network, said.out.decode(), said.err.decode("utf-8", "replace"))
     made["run"] = contents.report_data(reports.rows(network, report, True), report)
+    made["uses"] = uses(bench.program, asked)
     if asked.device:
         made["plan"] = planned(bench.program, asked)
     sys.stdout.write(page.page(made))

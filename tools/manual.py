@@ -7,6 +7,7 @@
 import os
 import re
 import sys
+from pathlib import Path
 
 sys.dont_write_bytecode = True
 from vechaqir import script  # noqa: E402
@@ -17,8 +18,7 @@ SEE = "The pages that are installed with the command, in the folder docs: TUTORI
 
 def version():
     """The version of the program, from the file VERSION."""
-    with open(os.path.join(script.ROOT, "VERSION"), encoding="utf-8") as file:
-        return file.read().strip()
+    return Path(script.ROOT, "VERSION").read_text(encoding="utf-8").strip()
 
 
 def manual(text, name):
@@ -49,8 +49,7 @@ def main(asked):
     elif not asked.what:
         raise script.Usage("html needs a page")
     path = asked.what if asked.form == "html" else os.path.join(script.ROOT, "docs", "COMMAND.md")
-    with open(path, encoding="utf-8") as file:
-        text = file.read()
+    text = Path(path).read_text(encoding="utf-8")
     sys.stdout.write(markup.page_html(text, os.path.relpath(os.path.realpath(path), script.ROOT)) if asked.form == "html" else manual(text, name))
 
 

@@ -12,6 +12,7 @@ nets inside of tasks, which --gtkw names; --waves takes either.
 import json
 import os
 import sys
+from pathlib import Path
 
 sys.dont_write_bytecode = True
 from vechaqir import script  # noqa: E402
@@ -33,8 +34,7 @@ def write_save_file(table, path, dumped):
     """Writes the save file, and a translate file for each task beside it."""
     folder, stem = os.path.dirname(os.path.abspath(path)), os.path.splitext(os.path.basename(path))[0]
     for module, text in names.translations(table):
-        with open(os.path.join(folder, f"{stem}.{module}.states"), "w", encoding="utf-8") as file:
-            file.write(text)
+        Path(folder, f"{stem}.{module}.states").write_text(text, encoding="utf-8")
     with open(path, "w", encoding="utf-8") as file:
         file.writelines(f"{line}\n" for line in names.save_file(table, dumped, folder, stem))
 

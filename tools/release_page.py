@@ -4,9 +4,9 @@
     tools/release_page.py FOLDER STATE COMMIT KIT
 """
 import hashlib
-import os
 import re
 import sys
+from pathlib import Path
 
 sys.dont_write_bytecode = True
 from vechaqir import script  # noqa: E402
@@ -53,11 +53,9 @@ def words():
 
 
 def main(asked):
-    with open(os.path.join(asked.folder, "program", "tapa"), "rb") as file:
-        program = file.read()
+    program = Path(asked.folder, "program", "tapa").read_bytes()
     versions = [tuple(map(int, it.split(b"."))) for it in re.findall(rb"GLIBC_(\d+\.\d+)", program)]
-    with open(os.path.join(asked.folder, "VERSION"), encoding="utf-8") as file:
-        version = file.read().strip()
+    version = Path(asked.folder, "VERSION").read_text(encoding="utf-8").strip()
     glibc = ".".join(map(str, max(versions, default=(2, 2))))
     state = PROVED if asked.state == "proved" else UNPROVED
     print(PAGE.format(state=state, version=version, commit=asked.commit, kit=asked.kit, sum=hashlib.sha256(program).hexdigest(), glibc=glibc), end="")

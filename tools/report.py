@@ -12,6 +12,7 @@ Else the status is that of the run.
 import json
 import sys
 import tempfile
+from pathlib import Path
 
 sys.dont_write_bytecode = True
 from vechaqir import script  # noqa: E402
@@ -46,8 +47,7 @@ def ran(asked, read):
 
 
 def expected(path):
-    with open(path, encoding="utf-8") as file:
-        found = json.load(file)
+    found = json.loads(Path(path).read_text(encoding="utf-8"))
     if not isinstance(found, dict) or not all(isinstance(found.get(group, {}), dict) for group in ("streams", "memories")):
         raise script.Fault(f"{path}: no object with streams and memories")
     return found

@@ -5,6 +5,7 @@
     tools/written_out.py SRC LINE COL     the place in SRC of this place of the written-out text
 """
 import sys
+from pathlib import Path
 
 sys.dont_write_bytecode = True
 from vechaqir import script  # noqa: E402
@@ -21,8 +22,7 @@ def words():
 def main(asked):
     if len(asked.place) not in (0, 2):
         raise script.Usage("a place is a line and a column")
-    with open(asked.source, "rb") as file:
-        source = file.read()
+    source = Path(asked.source).read_bytes()
     try:
         if asked.place:
             print("{}:{}:{}".format(asked.source, *arrays.source_place(source, *asked.place)))

@@ -26,6 +26,7 @@ import statistics
 import subprocess
 import sys
 import tempfile
+from pathlib import Path
 
 sys.dont_write_bytecode = True
 HERE = os.path.dirname(os.path.abspath(__file__))
@@ -78,8 +79,7 @@ def waiting(tasks):
 
 def written(path):
     """A circuit of tests/measure/cosim_speed: its first line tells the top task, the scalars and how many cells each memory has, which are filled with numbers of a fixed seed."""
-    with open(path, encoding="utf-8") as file:
-        text = file.read()
+    text = Path(path).read_text(encoding="utf-8")
     _, top, told = text.split("\n")[0].split(maxsplit=2)
     told, numbers = json.loads(told), random.Random(7)
     memories = {name: [numbers.randrange(256) for _ in range(count)] for name, count in told["cells"].items()}
@@ -89,13 +89,11 @@ def written(path):
 def cases():
     """Each circuit: its name, its source, its top task and its data."""
     for path in sorted(glob.glob(os.path.join(ROOT, "examples", "*.cpp"))):
-        with open(path, encoding="utf-8") as file:
-            text = file.read()
+        text = Path(path).read_text(encoding="utf-8")
         words = shlex.split(text.split("\n")[0].removeprefix("// tapa run "))
         data = {}
         if len(words) > 2:
-            with open(os.path.join(ROOT, words[2]), encoding="utf-8") as file:
-                data = json.load(file)
+            data = json.loads(Path(ROOT, words[2]).read_text(encoding="utf-8"))
         times = SHORT if "stencil" in path else TIMES
         yield os.path.basename(path).removesuffix(".cpp"), longer(text, times), words[1], longer_data(data, times)
     yield "36 busy tasks in a row", busy(36, 2_000), "T", {}
@@ -110,8 +108,7 @@ def once(words, folder):
         ran = subprocess.Popen(words, cwd=folder, stdout=out, stderr=subprocess.DEVNULL)
         _, _, spent = os.wait4(ran.pid, 0)
         ran.returncode = 0
-    with open(os.path.join(folder, "said"), encoding="utf-8") as said:
-        return spent.ru_utime + spent.ru_stime, said.read().split("\n")
+    return spent.ru_utime + spent.ru_stime, Path(folder, "said").read_text(encoding="utf-8").split("\n")
 
 
 def by_turns(calls, folder, times, middle):
@@ -123,12 +120,10 @@ def by_turns(calls, folder, times, middle):
 def build(program, folder, source, top, data):
     """Writes the source, its data and its circuit into a folder, and gives the text of the circuit."""
     for name, text in (("r.cpp", source), ("d.json", json.dumps(data))):
-        with open(os.path.join(folder, name), "w", encoding="utf-8") as file:
-            file.write(text)
+        Path(folder, name).write_text(text, encoding="utf-8")
     with open(os.path.join(folder, "x.v"), "w", encoding="utf-8") as file:
         subprocess.run([program, "build", "r.cpp", top], cwd=folder, stdout=file, check=True)
-    with open(os.path.join(folder, "x.v"), encoding="utf-8") as file:
-        return file.read()
+    return Path(folder, "x.v").read_text(encoding="utf-8")
 
 
 def verilated(folder, more):
@@ -146,8 +141,7 @@ def verilated(folder, more):
 def measured(program, folder, text, data, simulators):
     """The cycles of a circuit, and the processor seconds of `cosim`, of Icarus and, where it is wanted and there, of Verilator."""
     with_verilator, more, times, middle = simulators
-    with open(os.path.join(folder, "bench.v"), "w", encoding="utf-8") as file:
-        file.write("\n".join(icarus.bench(text, data, CYCLES)) + "\n")
+    Path(folder, "bench.v").write_text("\n".join(icarus.bench(text, data, CYCLES)) + "\n", encoding="utf-8")
     subprocess.run(["iverilog", "-g2005", "-gno-xtypes", "-o", "bench", "x.v", "bench.v"], cwd=folder, check=True)
     compiled = verilated(folder, more) if with_verilator else None
     calls = [[program, "cosim", "x.v", "d.json", "--cycles", str(CYCLES)], ["vvp", "-n", "bench"], *([compiled] if compiled else [])]

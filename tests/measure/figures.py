@@ -12,6 +12,7 @@ import random
 import subprocess
 import sys
 import tempfile
+from pathlib import Path
 
 sys.dont_write_bytecode = True
 sys.path.insert(0, os.path.dirname(os.path.dirname(os.path.abspath(__file__))))
@@ -178,8 +179,7 @@ def balances(shape):
 def measured(program, folder, verb, source, data, words):
     for file, text in (("r.cpp", source), ("d.json", data)):
         if text is not None:
-            with open(os.path.join(folder, file), "w", encoding="utf-8") as it:
-                it.write(text)
+            Path(folder, file).write_text(text, encoding="utf-8")
     given = ["d.json"] if data is not None and "--device" not in words else []
     ran = subprocess.Popen([program, verb, "r.cpp", "T", *given, *words], cwd=folder, stdout=subprocess.DEVNULL, stderr=subprocess.PIPE)
     err = ran.stderr.read().decode()

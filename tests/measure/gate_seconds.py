@@ -13,6 +13,7 @@ import subprocess
 import sys
 import threading
 import time
+from pathlib import Path
 from argparse import REMAINDER
 
 sys.dont_write_bytecode = True
@@ -29,8 +30,7 @@ def processes():
     for name in os.listdir("/proc"):
         if name.isdigit():
             try:
-                with open(f"/proc/{name}/stat", encoding="latin-1") as file:
-                    fields = file.read().rpartition(")")[2].split()
+                fields = Path(f"/proc/{name}/stat").read_text(encoding="latin-1").rpartition(")")[2].split()
             except OSError:
                 continue
             found[int(name)] = int(fields[1]), sum(map(int, fields[11:15])), int(fields[19])
@@ -51,8 +51,7 @@ def below(found, root):
 def work_of(pid):
     """The crate that a process works on and the kind of work, if its words name one."""
     try:
-        with open(f"/proc/{pid}/cmdline", "rb") as file:
-            words = file.read().decode("utf-8", "replace").split("\0")
+        words = Path(f"/proc/{pid}/cmdline").read_bytes().decode("utf-8", "replace").split("\0")
         folder = os.readlink(f"/proc/{pid}/cwd")
     except OSError:
         return None
@@ -111,8 +110,7 @@ def watch(log, command):
 
 
 def table(log):
-    with open(log, encoding="utf-8", errors="replace") as file:
-        rows = re.findall(r"^seconds: (\w+) (\w+) ([\d.]+)$", file.read(), re.M)
+    rows = re.findall(r"^seconds: (\w+) (\w+) ([\d.]+)$", Path(log).read_text(encoding="utf-8", errors="replace"), re.M)
     wall = [seconds for crate, kind, seconds in rows if kind == "wall"]
     crates = {}
     for crate, kind, seconds in rows:

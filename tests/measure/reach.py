@@ -9,6 +9,7 @@ A crate without a row in the table counts nothing.
 import os
 import re
 import sys
+from pathlib import Path
 
 sys.dont_write_bytecode = True
 sys.path.insert(0, os.path.dirname(os.path.dirname(os.path.abspath(__file__))))
@@ -18,8 +19,7 @@ from vechaqir import script  # noqa: E402
 
 def libraries():
     """What each crate of crates.txt stands on."""
-    with open(os.path.join(ROOT, "crates.txt"), encoding="utf-8") as file:
-        return {name: words.split() for name, words in re.findall(r"^(\w+):(.*)$", file.read(), re.M)}
+    return {name: words.split() for name, words in re.findall(r"^(\w+):(.*)$", Path(ROOT, "crates.txt").read_text(encoding="utf-8"), re.M)}
 
 
 def seconds():

@@ -24,10 +24,11 @@ import subprocess
 import sys
 import tempfile
 import time
+from pathlib import Path
 
 sys.dont_write_bytecode = True
 sys.path.insert(0, os.path.dirname(os.path.dirname(os.path.abspath(__file__))))
-from runner.made.programs import apart, by_phases, chain, hub  # noqa: E402
+from runner.made.programs import apart, by_phases, chain, hub, one_heavy, pair, queue, uneven  # noqa: E402
 from vechaqir import script  # noqa: E402
 
 HERE = os.path.dirname(os.path.abspath(__file__))
@@ -48,52 +49,7 @@ PLAIN, TOKENS = 10, 400_000
 
 
 def source(name):
-    with open(os.path.join(HERE, "speed", f"{name}.cpp"), encoding="utf-8") as it:
-        return it.read()
-
-
-def pair(count, rounds):
-    """Two tasks with so many streams from the one to the other."""
-    writes = "".join(f"s{at} << i; " for at in range(count))
-    reads = "".join(f"s{at}.read(); " for at in range(count))
-    outs = ", ".join(f"tapa::ostream<int>& s{at}" for at in range(count))
-    ins = ", ".join(f"tapa::istream<int>& s{at}" for at in range(count))
-    streams = "".join(f"tapa::stream<int, 2> s{at}; " for at in range(count))
-    bound = ", ".join(f"s{at}" for at in range(count))
-    return (
-        f"void P({outs}) {{ for (int i = 0; i < {rounds}; ++i) {{ {writes}}} }}\n"
-        f"void C({ins}) {{ for (int i = 0; i < {rounds}; ++i) {{ {reads}}} }}\n"
-        f"void Top() {{ {streams}tapa::task().invoke(P, {bound}).invoke(C, {bound}); }}\n"
-    )
-
-
-def queue(depth, tokens):
-    """A task that is held up on its output, behind a stream of a depth."""
-    return (
-        f"void P(tapa::ostream<int>& q) {{ for (int i = 0; i < {tokens}; ++i) q << i; }}\n"
-        f"void M(tapa::istream<int>& p, tapa::ostream<int>& q) {{ for (int i = 0; i < {tokens}; ++i) q << p.read(); }}\n"
-        f"void C(tapa::istream<int>& q) {{ for (int i = 0; i < {tokens}; ++i) q.read(); }}\n"
-        f"void Top() {{ tapa::stream<int, {depth}> a; tapa::stream<int, 1> b; tapa::task().invoke(P, a).invoke(M, a, b).invoke(C, b); }}\n"
-    )
-
-
-def uneven(turns, tokens):
-    """A chain of tasks that pass tokens on, each after so many turns of its own."""
-    ends, tasks, calls = len(turns) - 1, "", ""
-    for at, count in enumerate(turns):
-        ports = ["tapa::istream<int>& p"] * (at > 0) + ["tapa::ostream<int>& q"] * (at < ends)
-        first, last = ("p.read()" if at > 0 else "i"), ("q << x; " if at < ends else "")
-        tasks += f"void S{at}({', '.join(ports)}) {{ for (int i = 0; i < {tokens}; ++i) {{ int x = {first}; for (int k = 0; k < {count}; ++k) {{ x = x * 5 + k; }} {last}}} }}\n"
-        bound = [f"s{at - 1}"] * (at > 0) + [f"s{at}"] * (at < ends)
-        calls += f".invoke(S{at}, {', '.join(bound)})"
-    streams = " ".join(f"tapa::stream<int, 16> s{at};" for at in range(ends))
-    return f"{tasks}void Top() {{ {streams} tapa::task(){calls}; }}\n"
-
-
-def one_heavy(turns, tasks, tokens):
-    """A task that makes turns beside a chain of light ones."""
-    busy = f"void B() {{ int x = 1; for (int i = 0; i < {turns}; ++i) {{ x = x * 5 + i; }} }}\n"
-    return busy + uneven([0] * tasks, tokens).replace("tapa::task()", "tapa::task().invoke(B)")
+    return Path(HERE, "speed", f"{name}.cpp").read_text(encoding="utf-8")
 
 
 def cases():
@@ -167,8 +123,7 @@ def anchors(folder):
 def put_one(folder, name, text, data):
     """Writes a source and its data."""
     for file, content in ((f"{name}.cpp", text), (f"{name}.json", json.dumps(data))):
-        with open(os.path.join(folder, file), "w", encoding="utf-8") as it:
-            it.write(content)
+        Path(folder, file).write_text(content, encoding="utf-8")
 
 
 def called(program, name, top):

@@ -1,10 +1,14 @@
-"""A client of the Language Server Protocol, as an editor is one, with the standard library alone."""
+"""Clients of the Language Server Protocol, as an editor is one: one by pipes, and one of a server within this process."""
 import json
 import os
 import select
 import subprocess
 import time
 
+from vechaqir.editor import server
+from vechaqir.host.program import Program
+
+URI = "file:///none/network.cpp"
 END = b"\r\n\r\n"
 
 
@@ -93,3 +97,42 @@ class Client:
         self.note("exit")
         _, err = self.running.communicate(timeout=30)
         return self.running.returncode, err
+
+
+class Inside:
+    """A server within this process, and the messages that it has sent."""
+
+    def __init__(self, program):
+        self.sent = []
+        self.server = server.Server(self.told, Program(program, False))
+        self.number = 0
+
+    def told(self, data):
+        found, rest = messages(data)
+        assert not rest
+        self.sent += found
+
+    def note(self, method, params):
+        self.server.take(framed({"method": method, "params": params}))
+
+    def ask(self, method, params):
+        self.number += 1
+        self.server.take(framed({"id": self.number, "method": method, "params": params}))
+        return next(it for it in reversed(self.sent) if it.get("id") == self.number)
+
+    def begin(self, text, uri=URI):
+        self.ask("initialize", {"capabilities": {}})
+        self.note("textDocument/didOpen", {"textDocument": {"uri": uri, "languageId": "cpp", "version": 1, "text": text}})
+        return self.settle()
+
+    def settle(self):
+        """Does all that is due; the diagnostics that were sent last."""
+        while self.server.due or self.server.searches:
+            time.sleep(self.server.wait() or 0)
+            self.server.idle()
+        found = [it for it in self.sent if it.get("method") == "textDocument/publishDiagnostics"]
+        return found[-1]["params"]["diagnostics"] if found else None
+
+    def change(self, text, uri=URI):
+        self.note("textDocument/didChange", {"textDocument": {"uri": uri, "version": 2}, "contentChanges": [{"text": text}]})
+        return self.settle()

@@ -1,6 +1,7 @@
 """What docs/STYLE.md asks of the pages and a script can see: links that resolve, no bare paths, the length of sentences, words, and names that exist."""
 import os
 import re
+from pathlib import Path
 
 from runner.trial import ROOT, read
 from vechaqir.show import markup
@@ -152,8 +153,7 @@ def known_words():
     found = set()
     for top in ("crates", "tools", "tests", "examples", ".ci", "tapa", "crates.txt"):
         for path in files(os.path.join(ROOT, top)):
-            with open(path, encoding="utf-8", errors="replace") as file:
-                found.update(re.findall(r"\w+", file.read()))
+            found.update(re.findall(r"\w+", Path(path).read_text(encoding="utf-8", errors="replace")))
             found.update(re.findall(r"\w+", os.path.basename(path)))
     return found
 
@@ -186,8 +186,7 @@ def try_page(trial, page, known, used):
     text = read(page)
     for finding in dead(page, text):
         trial.check(f"{page}: {finding}", False)
-    found = [] if page in LATER else [*wordy(page, text), *unwanted(page, text), *bare(page, text), *strangers(text, known)]
-    for finding in found:
+    for finding in [*wordy(page, text), *unwanted(page, text), *bare(page, text), *strangers(text, known)]:
         at = excused(page, finding)
         used.add(at)
         trial.check(f"{page}: {finding}", at is not None)
@@ -202,14 +201,12 @@ def try_all(trial):
     trial.check("each exception is needed, and there are at most ten", not stale and len(EXCEPTIONS) <= 10, f"   {stale}")
 
 
-# Pages that are not in the style yet; the list only gets shorter.
-LATER = {"docs/FROM_TAPA.md"}
-
 # What is not so, and why: the page, a piece of the finding, the reason. At most ten.
 EXCEPTIONS = (
     ("docs/STYLE.md", "Words: ", "the table shows what is not written"),
     ("docs/STYLE.md", "Ten pairs: ", "the left column shows what is not written"),
     ("docs/ARCHITECTURE.md", "The crates: ", "the list is made of the crates' own first sentences, which change when their crate is proved anew"),
     ("crates/README.md", "", "the list is made of the crates' own first sentences, too"),
+    ("docs/THEOREMS.md", "Laws of ", "the list is made of the laws' own first sentences, which change when their crate is proved anew"),
     ("tests/README.md", "What is tried: ", "the list is made of the groups' own first sentences"),
 )

@@ -4,8 +4,10 @@ import json
 import multiprocessing
 import os
 import signal
+import sys
 import time
 import traceback
+from pathlib import Path
 from typing import NamedTuple
 
 from runner import groups
@@ -15,6 +17,7 @@ from runner.trial import ROOT, Trial
 KEPT = os.path.join(ROOT, "out", "tests", "last.json")
 # The most lines of the summary that say what could not be tried, or what failed.
 MOST = 7
+FORK = multiprocessing.get_context("fork")
 
 
 class Done(NamedTuple):
@@ -50,11 +53,34 @@ def tried(asked):
     return Done(asked.name, trial.passed, trial.failed, time.monotonic() - begun, trial.notes, trial.lines)
 
 
+def sent(asked, pipe):
+    """Tries a group, and sends what it came to."""
+    signal.signal(signal.SIGINT, signal.SIG_DFL)
+    pipe.send(tried(asked))
+    pipe.close()
+
+
+def apart(asked):
+    """Tries a group in a process of its own, so that nothing that an earlier group leaves behind can matter; one whose process ends before it has failed."""
+    here, there = FORK.Pipe(duplex=False)
+    process = FORK.Process(target=sent, args=(asked, there))
+    begun = time.monotonic()
+    process.start()
+    there.close()
+    try:
+        return here.recv()
+    except EOFError:
+        process.join()
+        print(f"FAILED {asked.name}: its process ended with status {process.exitcode}", flush=True)
+        return Done(asked.name, 0, 1, time.monotonic() - begun, [], set())
+    finally:
+        process.join()
+
+
 def kept():
     """What is kept of the last time."""
     try:
-        with open(KEPT, encoding="utf-8") as file:
-            return json.load(file)
+        return json.loads(Path(KEPT).read_text(encoding="utf-8"))
     except (OSError, ValueError):
         return {"failed": [], "seconds": {}}
 
@@ -73,18 +99,18 @@ def keep(done):
 
 
 def all_of(program, names, is_whole, jobs):
-    """Tries groups, as many at once as there are jobs, the longest first; the one that looks at all others comes last."""
+    """Tries groups, each in a process of its own, as many at once as there are jobs, the longest first; the one that looks at all others comes last."""
     lines, seconds = set(), kept()["seconds"]
     first = [name for name in names if name != groups.LAST]
     if jobs > 1:
         first.sort(key=lambda name: -seconds.get(name, 0))
-        with multiprocessing.get_context("fork").Pool(jobs, signal.signal, (signal.SIGINT, signal.SIG_DFL), 1) as pool:
+        with FORK.Pool(jobs, signal.signal, (signal.SIGINT, signal.SIG_DFL), 1) as pool:
             for done in pool.imap_unordered(tried, [Asked(name, program, is_whole, set()) for name in first]):
                 lines |= done.lines
                 yield done
         first = []
     for name in first + [groups.LAST] * (groups.LAST in names):
-        done = tried(Asked(name, program, is_whole, lines))
+        done = apart(Asked(name, program, is_whole, lines))
         lines |= done.lines
         yield done
 
@@ -106,7 +132,11 @@ def summary(done, what, seconds):
 def run(program, names, is_whole, jobs):
     """Tries groups on a program, prints the summary, and gives the status."""
     what, begun = f"the {'proved' if program.proved else 'unproved'} program {program.path}", time.monotonic()
-    done = list(all_of(program.path, names, is_whole, jobs))
+    done = []
+    for it in all_of(program.path, names, is_whole, jobs):
+        done.append(it)
+        if sys.stderr.isatty():
+            print(f"{it.name}: {it.passed} passed, {it.failed} failed, {it.seconds:.0f} seconds", file=sys.stderr)
     keep(done)
     print("\n".join(summary(done, what, time.monotonic() - begun)))
     return 1 if any(it.failed for it in done) else 0

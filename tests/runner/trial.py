@@ -1,8 +1,10 @@
 """A built program, and what has been found of it."""
 import os
+import shlex
 import subprocess
 import sys
 import tempfile
+from pathlib import Path
 
 ROOT = os.path.dirname(os.path.dirname(os.path.dirname(os.path.abspath(__file__))))
 TESTS = os.path.join(ROOT, "tests")
@@ -14,8 +16,17 @@ SECONDS = 300
 
 def read(path):
     """The text of a file of the repository."""
-    with open(os.path.join(ROOT, path), encoding="utf-8") as file:
-        return file.read()
+    return Path(ROOT, path).read_text(encoding="utf-8")
+
+
+def sources(*folders):
+    """The sources of these folders of the repository, by their paths."""
+    return [f"{folder}/{name}" for folder in folders for name in sorted(os.listdir(os.path.join(ROOT, folder))) if name.endswith(".cpp")]
+
+
+def first_words(path):
+    """The words of `tapa run` in the first line of an example: its source, its top task, and its data."""
+    return shlex.split(read(path).split("\n")[0].removeprefix("// tapa run "))
 
 
 class Said:
@@ -34,6 +45,15 @@ def shorten(text):
     lines = text.splitlines()
     more = [f".. {len(lines) - 20} more lines"] if len(lines) > 20 else []
     return "".join(f"      {line[:200]}\n" for line in lines[:20] + more)
+
+
+def answer(words, **given):
+    """What a program answers to these words, by the arguments of `subprocess.run`."""
+    try:
+        ran = subprocess.run(words, **{"stdin": subprocess.DEVNULL, "stdout": subprocess.PIPE, "stderr": subprocess.PIPE, "timeout": SECONDS, "check": False, **given})
+    except subprocess.TimeoutExpired:
+        return Said("none: it had not ended", b"", b"")
+    return Said(ran.returncode, ran.stdout or b"", ran.stderr or b"")
 
 
 class Trial:
@@ -73,27 +93,13 @@ class Trial:
     def put(self, name, text):
         """Writes a file of the trial's own folder."""
         path = os.path.join(self.folder.name, name)
-        with open(path, "wb") as file:
-            file.write(text if isinstance(text, bytes) else text.encode())
+        Path(path).write_bytes(text if isinstance(text, bytes) else text.encode())
         return path
 
-    def run(self, words, folder=None, stdout=subprocess.PIPE, stderr=subprocess.PIPE, before=None):
+    def run(self, words, folder=None, before=None, **streams):
         """Runs the program with these words, in the trial's own folder if no other is given; `before` is called in its process, which may then
         not come to begin, so that what it writes does not count as told."""
-        try:
-            ran = subprocess.run(
-                [self.program, *words],
-                cwd=folder or self.folder.name,
-                stdin=subprocess.DEVNULL,
-                stdout=stdout,
-                stderr=stderr,
-                timeout=SECONDS,
-                preexec_fn=before,
-                restore_signals=False,
-            )
-        except subprocess.TimeoutExpired:
-            return Said("none: it had not ended", b"", b"")
-        said = Said(ran.returncode, ran.stdout or b"", ran.stderr or b"")
+        said = answer([self.program, *words], cwd=folder or self.folder.name, preexec_fn=before, restore_signals=False, **streams)
         if before is None:
             self.keep(said)
         return said

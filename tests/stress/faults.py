@@ -3,29 +3,30 @@
 
     tests/stress/faults.py PROGRAM [--only W]
 
-`calls`: each call of the system that opens, reads, writes or asks for memory fails in turn (where `strace` is there). `allocations`: each allocation of every command is refused in turn, alone, and
-one in five with all after it (where `cc` is there; runner/made/refusals.py has the lines; the gate tries a tenth). `files`: in place of each file a folder, a device, a ring of links, a socket, a pipe that closes early or comes byte by byte, a
-file that grows, shrinks or vanishes while it is read. `outputs`: what is closed, full, read-only, never read, cut after each byte. `limits`: memory, file size and
-open files, stepped. An answer is the usual one, or a documented one behind a front of the usual output. Each that is wrong is printed; the last line is
-`N passed, M failed`. runner/faults.py and runner/endings.py have what the gate tries of this.
+`calls`: each call of the system that opens, reads, writes or requests memory fails in turn (with `strace`). `allocations`: each allocation of every command is refused in turn, alone,
+and one in five with all after it (with `cc`). `files`: in place of each file a folder, a device, a ring of links, a socket, a pipe that closes early or comes byte by byte, a file that grows,
+shrinks or vanishes while it is read. `outputs`: what is closed, full, read-only, never read, cut after each byte. `limits`: memory, file size and open files, stepped. An answer is the
+usual one, or a documented one after a prefix of the usual output. Each that is wrong is printed; the last line is `N passed, M failed`. The groups faults and endings test some of it.
 """
 import collections
+import contextlib
 import os
 import resource
 import shutil
 import signal
 import socket
-import subprocess
 import sys
 import threading
 import time
+from pathlib import Path
 
 sys.dont_write_bytecode = True
 sys.path.insert(0, os.path.dirname(os.path.dirname(os.path.abspath(__file__))))
+from runner.ends import limit, read_front  # noqa: E402
 from runner.groups.faults import put_files, put_large  # noqa: E402
 from runner.made import refusals  # noqa: E402
 from runner.made.hostile import Judge  # noqa: E402
-from runner.trial import Said, Trial  # noqa: E402
+from runner.trial import Trial, answer  # noqa: E402
 from vechaqir import script  # noqa: E402
 
 # One line of each command over the files of runner/faults.py, and large ones.
@@ -33,12 +34,12 @@ LINES = [["run", "r.cpp", "T", "d.json", "--workers=2"], ["build", "r.cpp", "T"]
          ["plan", "r.cpp", "T", "v.json", "--plan", "split"], ["cosim", "x.v", "d.json"], ["gen", "1"]]
 LARGE = [["run", "l.cpp", "T", "l.json"], ["build", "l.cpp", "T"], ["build", "l.cpp", "T", "--device", "l_device.json"], ["plan", "l.cpp", "T", "l_device.json"], ["cosim", "l.v", "l.json"]]
 SECONDS = 30
-LIMITS = (signal.SIGPIPE, signal.SIGXFSZ)
 
 # The calls that are made to fail, with what they then answer, and the status that is to follow. A break that cannot be moved is told by another one (brk(2) of Linux).
 FULL = ["error=ENOSPC", "error=EIO", "error=EPIPE", "error=EINTR", "error=EAGAIN", "error=EFBIG"]
 CALLS = [("openat", ["error=EACCES", "error=EMFILE", "error=ENOMEM", "error=ELOOP", "error=EINTR"], "5"), ("read", ["error=EIO", "error=EINTR", "error=EAGAIN", "error=ENOMEM", "error=EISDIR"], "5"),
          ("read", ["retval=0"], "13"), ("write", FULL, "6"), ("brk", ["retval=0"], "9"), ("mmap", ["error=ENOMEM"], "9"), ("mremap", ["error=ENOMEM"], "9"), ("close", ["error=EIO", "error=EINTR"], "0")]
+
 
 class Faults:
     """A trial with the usual answers of its lines."""
@@ -48,19 +49,9 @@ class Faults:
         self.counts = collections.Counter()
         os.chdir(self.trial.folder.name)
 
-    def call(self, words, before=None, around=(), environment=None, **streams):
-        """Calls the program with the system's own way of signals, behind the words of another program if such are given."""
-        def begin():
-            for number in LIMITS:
-                signal.signal(number, signal.SIG_DFL)
-            if before:
-                before()
-        try:
-            given = {"stdin": subprocess.DEVNULL, "stdout": subprocess.PIPE, "stderr": subprocess.PIPE, **streams}
-            ran = subprocess.run([*around, self.trial.program, *words], timeout=SECONDS, preexec_fn=begin, env=environment or {}, check=False, **given)
-        except subprocess.TimeoutExpired:
-            return Said("none: it had not ended", b"", b"")
-        return Said(ran.returncode, ran.stdout or b"", ran.stderr or b"")
+    def call(self, words, before=None, around=(), **streams):
+        """Calls the program with the system's own way of signals, after the words of another program if such are given."""
+        return answer([*around, self.trial.program, *words], timeout=SECONDS, preexec_fn=before, env={}, **streams)
 
     def whole(self, words):
         """The usual answer."""
@@ -91,8 +82,7 @@ class Faults:
 def own_calls(faults, words, name):
     """Which calls of a name the program makes itself, behind those of the loader, counted from 1."""
     faults.call(words, around=["strace", "-o", "trace", "-e", f"trace={name},rt_sigaction"])
-    with open("trace", encoding="utf-8", errors="replace") as file:
-        lines = list(file)
+    lines = Path("trace").read_text(encoding="utf-8", errors="replace").splitlines()
     begun = next((at for at, line in enumerate(lines) if line.startswith("rt_sigaction")), 0)
     made = [at for at, line in enumerate(lines) if line.startswith(f"{name}(")]
     return [number + 1 for number, at in enumerate(made) if at > begun]
@@ -112,9 +102,9 @@ def try_calls(faults):
         for name, answers, statuses in CALLS:
             numbers = own_calls(faults, words, name)
             for number in some_of(numbers):
-                for answer in answers if words in LINES and len(numbers) < 20 else answers[:1]:
-                    said = faults.call(words, around=["strace", "-o", "trace", "-e", f"trace={name}", "-e", f"inject={name}:{answer}:when={number}"])
-                    faults.check(f"call {number} of {name} answers {answer}", said, words, statuses)
+                for reply in answers if words in LINES and len(numbers) < 20 else answers[:1]:
+                    said = faults.call(words, around=["strace", "-o", "trace", "-e", f"trace={name}", "-e", f"inject={name}:{reply}:when={number}"])
+                    faults.check(f"call {number} of {name} answers {reply}", said, words, statuses)
 
 
 def try_allocations(faults):
@@ -127,21 +117,16 @@ def fed(faults, words, name, pieces, pause=0.0):
     os.mkfifo("pipe")
 
     def feed():
-        try:
-            with open("pipe", "wb", buffering=0) as file:
-                for piece in pieces:
-                    file.write(piece)
-                    time.sleep(pause)
-        except OSError:
-            pass
+        with contextlib.suppress(OSError), open("pipe", "wb", buffering=0) as file:
+            for piece in pieces:
+                file.write(piece)
+                time.sleep(pause)
 
     feeder = threading.Thread(target=feed, daemon=True)
     feeder.start()
     said = faults.call(["pipe" if word == name else word for word in words])
-    try:
+    with contextlib.suppress(OSError):
         os.close(os.open("pipe", os.O_RDONLY | os.O_NONBLOCK))
-    except OSError:
-        pass
     feeder.join(5)
     os.remove("pipe")
     return said
@@ -149,8 +134,7 @@ def fed(faults, words, name, pieces, pause=0.0):
 
 def changing(faults, words, name, change):
     """The answer while a file is changed again and again by another thread; its last text is the usual one."""
-    with open(name, "rb") as file:
-        text = file.read()
+    text = Path(name).read_bytes()
     over = threading.Event()
 
     def go_on():
@@ -162,8 +146,7 @@ def changing(faults, words, name, change):
     said = faults.call(words)
     over.set()
     changer.join()
-    with open(name, "wb") as file:
-        file.write(text)
+    Path(name).write_bytes(text)
     return said
 
 
@@ -182,10 +165,8 @@ def grow(name, text):
 
 
 def vanish(name, text):
-    if os.path.exists(name):
-        os.remove(name)
-    with open(name, "wb") as file:
-        file.write(text)
+    Path(name).unlink(missing_ok=True)
+    Path(name).write_bytes(text)
 
 
 def put_strange():
@@ -194,9 +175,8 @@ def put_strange():
     os.symlink("ring_a", "ring_b")
     os.symlink("no_such_file", "dangling")
     os.makedirs("folder")
-    listener = socket.socket(socket.AF_UNIX)
-    listener.bind("socket")
-    listener.close()
+    with socket.socket(socket.AF_UNIX) as listener:
+        listener.bind("socket")
     return {"ring_a": "5", "dangling": "5", "folder": "5", "socket": "5", "r.cpp/below": "5", "a" * 300: "5", "folder/" * 700: "5", "/proc/self/mem": "5", "/dev/null": "13", "/dev/zero": "7", "/dev/full": "7",
             "/dev/urandom": "7", "/proc/self/maps": "13", "/dev/tty": "5", "": "25"}
 
@@ -209,8 +189,7 @@ def try_files(faults):
             for other, statuses in strange.items():
                 put = [other if word == name else word for word in words]
                 faults.check("a strange file", faults.call(put), put, statuses, faults.whole(words))
-            with open(name, "rb") as file:
-                text = file.read()
+            text = Path(name).read_bytes()
             put = ["pipe" if word == name else word for word in words]
             for size in sorted({0, 1, len(text) // 4, len(text) // 2, len(text) * 3 // 4, len(text) - 2, len(text)}):
                 faults.check(f"a pipe that closes after {size} bytes", fed(faults, words, name, [text[:size]]), put, "13", faults.whole(words))
@@ -230,17 +209,17 @@ def stuck():
     """The writing side of a pipe that is full and never read, and does not wait."""
     ours, theirs = os.pipe()
     os.set_blocking(theirs, False)
-    try:
+    with contextlib.suppress(BlockingIOError):
         while True:
             os.write(theirs, b"x" * 4096)
-    except BlockingIOError:
-        return ours, theirs
+    return ours, theirs
 
 
 def try_ends(faults, words):
     """Outputs that are closed, full, read-only, or never read."""
     def closed(*numbers):
         return lambda: [os.close(number) for number in numbers]
+
     for numbers in ((1,), (0, 1), (1, 2), (0, 1, 2)):
         said = faults.call(words, before=closed(*numbers))
         faults.trial.check(f"{numbers} are closed: {words}", said.status == 6 and said.out == b"" and said.err in (b"", b"tapa: cannot write\n"), f"   {said}")
@@ -258,56 +237,26 @@ def try_ends(faults, words):
     os.close(ours)
 
 
-def read_some(faults, words, most):
-    """What is read of an output of which so many bytes are taken before its reader goes away."""
-    ours, theirs = socket.socketpair()
-    ours.setsockopt(socket.SOL_SOCKET, socket.SO_RCVBUF, 1)
-    theirs.setsockopt(socket.SOL_SOCKET, socket.SO_SNDBUF, 1)
-    found = []
-
-    def listen():
-        while sum(map(len, found)) < most:
-            piece = ours.recv(min(7, most - sum(map(len, found))))
-            if not piece:
-                break
-            found.append(piece)
-        ours.close()
-
-    listener = threading.Thread(target=listen)
-    listener.start()
-    said = faults.call(words, stdout=theirs)
-    theirs.close()
-    listener.join()
-    return said, b"".join(found)
-
-
 def try_outputs(faults):
     for words in LINES:
         try_ends(faults, words)
         usual = faults.whole(words)
         for most in range(0, len(usual.out) + 1, 1 + len(usual.out) // 60):
-            said, got = read_some(faults, words, most)
-            is_right = said.status in (0, 6) and said.err in (b"", b"tapa: cannot write\n") and usual.out.startswith(got) and bool(said.err) == (said.status == 6)
-            faults.trial.check(f"the reader goes after {most} bytes: {words}", is_right, f"   {said} {got[-50:]}")
-        said, got = read_some(faults, words, len(usual.out) + 1)
-        faults.trial.check(f"a slow reader in short pieces: {words}", (said.status, got) == (0, usual.out), f"   {said}")
+            said = read_front(faults.call, words, most, 7)
+            is_right = said.status in (0, 6) and said.err in (b"", b"tapa: cannot write\n") and usual.out.startswith(said.out) and bool(said.err) == (said.status == 6)
+            faults.trial.check(f"the reader goes after {most} bytes: {words}", is_right, f"   {said}")
+        said = read_front(faults.call, words, len(usual.out) + 1, 7)
+        faults.trial.check(f"a slow reader in short pieces: {words}", (said.status, said.out) == (0, usual.out), f"   {said}")
 
 
 def try_limits(faults):
     """File size, memory and open files, stepped."""
-    def limit(what, most, is_ignored=False):
-        def begin():
-            if is_ignored:
-                signal.signal(signal.SIGXFSZ, signal.SIG_IGN)
-            resource.setrlimit(what, (most, most))
-        return begin
     for words in LINES:
         usual = faults.whole(words)
         for most in range(0, len(usual.out) + 1, 1 + len(usual.out) // 60):
             with open("cut", "wb") as file:
-                said = faults.call(words, stdout=file, before=limit(resource.RLIMIT_FSIZE, most, True))
-            with open("cut", "rb") as file:
-                said.out = file.read()
+                said = faults.call(words, stdout=file, before=limit(resource.RLIMIT_FSIZE, most), restore_signals=False)
+            said.out = Path("cut").read_bytes()
             faults.check(f"the output has room for {most} bytes", said, words, "6")
         with open("cut", "wb") as file:
             said = faults.call(words, stdout=file, before=limit(resource.RLIMIT_FSIZE, 1))

@@ -18,19 +18,19 @@ import shutil
 import sys
 import tempfile
 import time
+from pathlib import Path
 
 sys.dont_write_bytecode = True
 sys.path.insert(0, os.path.dirname(os.path.dirname(os.path.abspath(__file__))))
 from runner.groups import arrays, grammar as changes  # noqa: E402
 from runner.made import leaves, mutants  # noqa: E402
-from runner.made.programs import device, network  # noqa: E402
+from runner.made.programs import device, random_network  # noqa: E402
 from runner.made.hostile import Caller, Judge  # noqa: E402
-from runner.trial import ROOT, read  # noqa: E402
+from runner.trial import first_words, read, sources  # noqa: E402
 from vechaqir import script  # noqa: E402
 
 SECONDS, MEMORY = 10, 2 << 30
 DEVICES = [device(2, 1, 9000, []), device(4, 2, 2000, []), '{"version": 2, "rows": 2, "cols": 2, "slots": [{"LUT": 900, "FF": 900}, {"LUT": 900, "FF": 900}, {"LUT": 900, "FF": 900}, {"LUT": 900, "FF": 900}], "levels_rows": [3], "levels_cols": [1], "forbidden": [[1, 1]]}']
-KINDS = ["bool", "uint8_t", "int16_t", "int", "uint64_t"]
 WORDS = [b"", b"-", b"--", b"-x", b"--steps", b"--steps=", b"--steps=0", b"--steps=1000000000000", b"--steps=1000000000001", b"--steps=00000000000000000001", b"--workers=0", b"--workers=64", b"--workers=65", b"--workers",
          b"64", b"1", b"--cycles=5", b"--cycles=99999999999999999999", b"--plan", b"--plan=split", b"--plan=exact", b"--plan=", b"fit", b"exact", b"--device", b"--device=d.json", b"--no-balance", b"--no-balance=1", b"--vcd",
          b"--vcd=w.vcd", b"gen", b"vcd", b"run", b"build", b"plan", b"cosim", b"--help", b"\xff", "☃".encode(), b"a" * 5000, b"/", b"/dev/null", b"none", b"T", b"VecAdd", b"r.cpp", b"v.json", b"x.v", b"d.json"]
@@ -53,55 +53,14 @@ class Good:
 
 def examples():
     """The good files of the repository."""
-    for name in sorted(os.listdir(os.path.join(ROOT, "examples"))):
-        if name.endswith(".cpp"):
-            source = read(f"examples/{name}")
-            words = source.split("\n", 1)[0].split()[3:]
-            data = read(words[2]) if len(words) > 2 else "{}"
-            yield Good(source.encode(), words[1].split(",")[0], data.encode(), DEVICES[len(source) % len(DEVICES)].encode())
+    for path in sources("examples"):
+        source, (_, top, *data) = read(path), first_words(path)
+        yield Good(source.encode(), top, (read(data[0]) if data else "{}").encode(), DEVICES[len(source) % len(DEVICES)].encode())
     yield Good(read("tests/cases/circuits/features.cpp").encode(), "Top", read("tests/cases/circuits/features.json").encode(), DEVICES[0].encode())
     for name in ("detached", "operators", "states"):
         source = read(f"tests/cases/circuits/{name}.cpp")
         first = source.split("\n", 1)[0].split(" ", 2)
         yield Good(source.encode(), first[1], first[2].encode(), DEVICES[1].encode())
-
-
-def random_network(some):
-    """A network of random tasks, streams and device, for plans."""
-    count = some.choice([1, 2, 3, 5, 8, 13, 21, 22, 23, 40]) if some.random() < 0.97 else some.choice([200, 512])
-    streams = []
-    for _ in range(some.randint(0, 2 * count) if count > 1 else 0):
-        ends = some.sample(range(count), 2)
-        streams.append((*(sorted(ends) if some.random() < 0.95 else ends), some.choice(KINDS)))
-    rows, cols = some.choice([(1, 1), (2, 1), (2, 2), (4, 1), (3, 2), (8, 4)])
-    uses = [some.randint(0, 30) for _ in range(count)]
-    more = {}
-    if some.random() < 0.5:
-        more = {"version": 2, "levels_rows": [some.randint(0, 16) for _ in range(rows - 1)], "levels_cols": [some.randint(0, 16) for _ in range(cols - 1)]}
-        more["forbidden"] = [[some.randrange(rows), some.randrange(cols)] for _ in range(some.choice([0, 0, 1, 3]))]
-    pins = {f"T{task}${task}": [some.randrange(rows), some.randrange(cols)] for task in range(count) if some.random() < 0.2}
-    capacity = max(1, int(sum(uses) / rows / cols * some.choice([0.9, 1.1, 1.5, 3])))
-    given = device(rows, cols, capacity, uses, pins=pins, **more)
-    return Good(network(count, streams).encode(), "T", b"{}", given.encode())
-
-
-# A value of a device file that is at a bound of its range, or one past it.
-AT_BOUNDS = {"rows": [0, 1, 16, 17], "cols": [0, 1, 16, 17], "percent": [0, 1, 100, 101], "version": [0, 1, 2, 3], "levels": [0, 1, 16, 17], "LUT": [0, 2**32 - 1, 2**32], "FF": [0, 2**32 - 1, 2**32]}
-
-
-def at_bounds(some, device):
-    """A device file with one number at a bound, and lists that are one too short or too long for it."""
-    try:
-        tree = json.loads(device)
-    except ValueError:
-        return device
-    spots = [(it, key) for it in [tree, *tree.get("slots", []), *tree.get("tasks", {}).values()] if isinstance(it, dict) for key in AT_BOUNDS if key in it or it is tree]
-    it, key = some.choice(spots)
-    it[key] = some.choice(AT_BOUNDS[key])
-    for name in ("slots", "levels_rows", "levels_cols", "forbidden"):
-        if isinstance(tree.get(name), list) and tree[name] and some.random() < 0.2:
-            tree[name] = some.choice([tree[name][:-1], tree[name] + tree[name][-1:]])
-    return json.dumps(tree).encode()
 
 
 class Flood:
@@ -130,7 +89,7 @@ class Flood:
         if field == "source" and self.some.random() < 0.3:
             return self.by_grammar(good)
         if field == "device" and self.some.random() < 0.3:
-            return at_bounds(self.some, own)
+            return mutants.at_bounds(self.some, own)
         if field in ("data", "device") and self.some.random() < 0.5:
             return mutants.tree(self.some, own, other)
         return mutants.changed(self.some, own, other)
@@ -165,7 +124,7 @@ class Flood:
     def planned(self):
         """A plan, or a circuit for a device, of an example or of a random network, the files of which may be as they are."""
         is_random = self.some.random() < 0.5
-        good = random_network(self.some) if is_random else self.some.choice(self.goods)
+        good = Good(*random_network(self.some)) if is_random else self.some.choice(self.goods)
         files = {"r.cpp": good.source, "v.json": good.device} if is_random and self.some.random() < 0.7 else self.files(good, ["source", "device", "device"])
         mode = ["--plan", self.some.choice(["fit", "exact", "split"])]
         if self.some.random() < 0.3:
@@ -236,10 +195,8 @@ class Found:
         shutil.rmtree(path, ignore_errors=True)
         os.makedirs(path)
         for file, text in given.files.items():
-            with open(os.path.join(path, file), "wb") as it:
-                it.write(text)
-        with open(os.path.join(path, "words"), "w", encoding="utf-8") as it:
-            it.write(json.dumps([word.decode("utf-8", "backslashreplace") for word in given.words]) + "\n" + told + "\n")
+            Path(path, file).write_bytes(text)
+        Path(path, "words").write_text(json.dumps([word.decode("utf-8", "backslashreplace") for word in given.words]) + "\n" + told + "\n", encoding="utf-8")
 
     def count(self, given, verb, answer):
         self.inputs += 1

@@ -11,6 +11,7 @@ import os
 import random
 import sys
 import tempfile
+from pathlib import Path
 
 sys.dont_write_bytecode = True
 sys.path.insert(0, os.path.dirname(os.path.dirname(os.path.abspath(__file__))))
@@ -31,8 +32,7 @@ def try_program(program, seed, folder):
     some = random.Random(f"memories {seed}")
     paths = {name: os.path.join(folder, name) for name in ("leaf.cpp", "data.json", "device.json")}
     for name, text in (("leaf.cpp", leaves.source(seed)), ("data.json", json.dumps(leaves.DATA)), ("device.json", json.dumps(device(some)))):
-        with open(paths[name], "w", encoding="utf-8") as file:
-            file.write(text)
+        Path(paths[name]).write_text(text, encoding="utf-8")
     tried, wrong = 0, []
     for words in ([], ["--device", paths["device.json"]]):
         text = check_memories.built(program, paths["leaf.cpp"], "T", *words)

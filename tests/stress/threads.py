@@ -16,6 +16,7 @@ import sys
 import tempfile
 import threading
 import time
+from pathlib import Path
 
 sys.dont_write_bytecode = True
 sys.path.insert(0, os.path.dirname(os.path.dirname(os.path.abspath(__file__))))
@@ -54,8 +55,7 @@ class Runs:
         self.words, self.wanted = [], []
         for at, (source, top, data, limit) in enumerate(networks(seed)):
             for name, text in ((f"{at}.cpp", source), (f"{at}.json", json.dumps(data))):
-                with open(os.path.join(folder, name), "w", encoding="utf-8") as file:
-                    file.write(text)
+                Path(folder, name).write_text(text, encoding="utf-8")
             self.words.append(["run", f"{at}.cpp", top, f"{at}.json", "--steps", limit])
             self.wanted.append(self.answer(self.words[at]))
 

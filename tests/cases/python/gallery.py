@@ -1,14 +1,14 @@
 """What the designs of the gallery compute, in plain Python: each function takes the data of its file and gives the cells of the memories that it changes."""
 import json
 import os
+from pathlib import Path
 
 ROOT = os.path.dirname(os.path.dirname(os.path.dirname(os.path.dirname(os.path.abspath(__file__)))))
 
 
 def data(name):
     """The scalars and memories of an example's data file, in one dictionary."""
-    with open(os.path.join(ROOT, "examples", f"{name}.json"), encoding="utf-8") as file:
-        found = json.load(file)
+    found = json.loads(Path(ROOT, "examples", f"{name}.json").read_text(encoding="utf-8"))
     return {**found.get("scalars", {}), **found["memories"]}
 
 

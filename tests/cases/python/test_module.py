@@ -2,6 +2,7 @@
 import array
 import os
 import unittest
+from pathlib import Path
 
 from gallery import ROOT
 from vechaqir import Design, EOT, Failure, NoProgram, NotDone, Refused, Stopped, find
@@ -44,8 +45,7 @@ class Results(unittest.TestCase):
 
 
 def parts(name):
-    with open(os.path.join(ROOT, "examples", f"{name}.json"), encoding="utf-8") as file:
-        found = parse(file.read())
+    found = parse(Path(ROOT, "examples", f"{name}.json").read_text(encoding="utf-8"))
     return found.scalars, found.memories
 
 
@@ -139,6 +139,21 @@ class Exceptions(unittest.TestCase):
                 del os.environ["TAPA"]
             else:
                 os.environ["TAPA"] = before
+
+
+class Notebooks(unittest.TestCase):
+    def test_design(self):
+        design = Design(os.path.join(ROOT, "examples", "vector_add.cpp"), "VecAdd")
+        self.assertTrue(design._repr_svg_().startswith("<svg ") and "a_q" in design._repr_svg_())
+        self.assertIn("<td style=\"text-align:left\">Mmap2Stream$0</td>", design._repr_html_())
+        self.assertIn("does not have this task", Design(design.src, "Nobody")._repr_html_())
+
+    def test_result(self):
+        design = Design(os.path.join(ROOT, "examples", "vector_add.cpp"), "VecAdd")
+        given = {"n": 2}, {"a": [1, 2], "b": [3, -4], "c": [0, 0]}
+        for result in (design.run(*given), design.build().cosim(*given)):
+            self.assertTrue(result._repr_svg_().startswith("<svg ") and "Add$2" in result._repr_svg_())
+            self.assertIn("<td style=\"text-align:left\">4 -2</td>", result._repr_html_())
 
 
 class Texts(unittest.TestCase):

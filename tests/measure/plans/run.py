@@ -17,6 +17,7 @@ import subprocess
 import sys
 import tempfile
 import time
+from pathlib import Path
 
 sys.dont_write_bytecode = True
 from families import DESIGNS  # noqa: E402
@@ -40,8 +41,7 @@ class Suite:
 
     def put(self, name, text):
         path = os.path.join(self.folder, name)
-        with open(path, "w", encoding="utf-8") as file:
-            file.write(text)
+        Path(path).write_text(text, encoding="utf-8")
         return path
 
     def check(self, name, holds, told=""):

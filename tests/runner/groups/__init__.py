@@ -1,6 +1,7 @@
 """The groups of cases: each module here is a group named as it, and the first sentence of its docstring is its row of tests/README.md."""
 import ast
 import os
+from pathlib import Path
 
 from runner.write import lists
 
@@ -16,8 +17,7 @@ def names():
 
 def row(name):
     """What a group tries, in a sentence."""
-    with open(os.path.join(os.path.dirname(__file__), f"{name}.py"), encoding="utf-8") as file:
-        return lists.sentence(ast.get_docstring(ast.parse(file.read())))
+    return lists.sentence(ast.get_docstring(ast.parse(Path(os.path.dirname(__file__), f"{name}.py").read_text(encoding="utf-8"))))
 
 
 def table():

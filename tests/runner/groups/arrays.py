@@ -1,5 +1,5 @@
 """Random sources with stream arrays and counted invokes, compared with their text by a second implementation (`tools/vechaqir/language/arrays.py`): what is told of a source is
-what is told of that text. A text of the most bytes, and of one more. `tests/stress/arrays.py PROGRAM` tries more sources."""
+what is told of that text. A text of the most bytes, and of one more. `tests/stress/more.py PROGRAM arrays` tries more sources."""
 import random
 import re
 

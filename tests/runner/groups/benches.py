@@ -3,12 +3,10 @@
 import os
 import random
 import re
-import shlex
 import shutil
 import subprocess
-import sys
 
-from runner.trial import ROOT, read
+from runner.trial import ROOT, first_words, sources
 
 WAYS = ("none", "late", "random", "data")
 # The circuits that are made wrong, and how many of each; none has a detached task, whose streams may go on.
@@ -18,13 +16,7 @@ CHANGES = ((" + ", " - "), (" - ", " + "), (" == ", " < "), (" & ", " | "), (" |
 
 def words_of(name):
     """Source, top task and data of an example, by its first line."""
-    return shlex.split(read(f"examples/{name}.cpp").split("\n")[0].removeprefix("// tapa run "))
-
-
-def made(trial, words):
-    environment = {**os.environ, "TAPA": trial.program}
-    ran = subprocess.run([sys.executable, "tools/testbench.py", *words], cwd=ROOT, env=environment, stdin=subprocess.DEVNULL, capture_output=True, text=True, check=False)
-    return ran.returncode, ran.stdout, ran.stderr
+    return first_words(f"examples/{name}.cpp")
 
 
 def in_icarus(trial, *texts):
@@ -39,13 +31,13 @@ def in_icarus(trial, *texts):
 
 def try_examples(trial):
     """Each example passes with memories of one kind, the kinds by turns, and with registers for a device."""
-    names = sorted(name.removesuffix(".cpp") for name in os.listdir(os.path.join(ROOT, "examples")) if name.endswith(".cpp"))
-    for at, name in enumerate(names):
-        status, text, err = made(trial, [*words_of(name), "--waits", WAYS[at % len(WAYS)]])
+    for at, path in enumerate(sources("examples")):
+        name = os.path.basename(path).removesuffix(".cpp")
+        status, text, err = trial.tool("testbench.py", *words_of(name), "--waits", WAYS[at % len(WAYS)])
         said = in_icarus(trial, text) if status == 0 else err
         trial.check(f"the testbench of {name}, memories {WAYS[at % len(WAYS)]}", said.startswith("PASS: ") and "FAIL" not in said, f"   {said[:500]}")
     for way in WAYS:
-        status, text, err = made(trial, [*words_of("cannon"), "--waits", way, "--device", "examples/devices/two_halves.json", "--plan", "split"])
+        status, text, err = trial.tool("testbench.py", *words_of("cannon"), "--waits", way, "--device", "examples/devices/two_halves.json", "--plan", "split")
         said = in_icarus(trial, text) if status == 0 else err
         trial.check(f"the testbench of cannon on two dies, memories {way}", said.startswith("PASS: "), f"   {said[:500]}")
 
@@ -82,7 +74,7 @@ def wrong_circuits(trial, name, count):
 
 def try_wrong(trial):
     for name, count in WRONG:
-        _, bench, _ = made(trial, [*words_of(name), "--alone"])
+        _, bench, _ = trial.tool("testbench.py", *words_of(name), "--alone")
         for at, text in enumerate(wrong_circuits(trial, name, count)):
             said = in_icarus(trial, bench, text)
             trial.check(f"wrong circuit {at} of {name}", said.startswith("FAIL: ") and "PASS" not in said, f"   {said[:500]}")
@@ -95,13 +87,13 @@ def try_words(trial):
                                 (["examples/vector_add.cpp", "VecAdd", "examples/systolic.json"], 1, "tapa: examples/systolic.json: J2 scalars.n"),
                                 (["examples/too_shallow.cpp", "TooShallow", "--device", "examples/devices/two_slots.json"], 1, "the run stops"),
                                 (["examples/refused/divisor.cpp", "Top"], 1, ": C9 divisor")):
-        got, out, err = made(trial, words)
+        got, out, err = trial.tool("testbench.py", *words)
         trial.check(f"testbench.py {' '.join(words)}", got == status and part in out + err and "Traceback" not in err, f"   {got} {err[:300]}")
 
 
 def try_verilator(trial, name, way):
     """Verilator makes a program of an example's testbench, without a warning, and it passes."""
-    _, text, _ = made(trial, [*words_of(name), "--waits", way])
+    _, text, _ = trial.tool("testbench.py", *words_of(name), "--waits", way)
     folder = os.path.join(trial.folder.name, f"verilated_{name}")
     words = ["verilator", "--binary", "--top-module", "bench", "--Mdir", folder, "-CFLAGS", "-O0", trial.put("bench.v", text)]
     ran = subprocess.run(words, capture_output=True, text=True, check=False)

@@ -3,7 +3,7 @@ import os
 import re
 
 from runner.trial import ROOT, read
-from runner.write import chain, crates as listed, lists
+from runner.write import chain, crates as listed, laws, lists
 
 # Pages whose words between ` and ` are names of the code.
 OF_NAMES = ("docs/PROMISES.md", "docs/READING.md")
@@ -31,6 +31,15 @@ def try_lists(trial):
     table = read("docs/VERIFIED.md").partition("## What is proved, by room")[2].partition("\n## ")[0]
     rows = re.findall(r"^\| ([\w ]+) \| .* \|$", table, re.M)
     trial.check_equal("docs/VERIFIED.md has a row for each room that has code, in the order of crates.txt", [row for row in rows if row != "room"], [room for room in rooms if not room.startswith("tests")])
+
+
+def try_laws(trial):
+    """docs/THEOREMS.md has each law of the crates; no two have one name, but for the laws of two crates that speak of the names of modules; and each says what it proves."""
+    lists.check(trial, laws.LISTS, "laws")
+    names = [law.name for law in laws.all_laws()]
+    trial.check_equal("names that two laws have", sorted({name for name in names if names.count(name) > 1}), ["law_names"])
+    for law in laws.all_laws():
+        trial.check(f"{law.name} says what it proves", law.sentence.endswith("."), f"   {law.sentence}")
 
 
 def try_chain(trial):
@@ -112,6 +121,7 @@ def try_links(trial):
 
 def try_all(trial):
     try_lists(trial)
+    try_laws(trial)
     try_chain(trial)
     try_names(trial)
     try_figures(trial)

@@ -1,9 +1,7 @@
 """What `cosim --vcd` writes, compared with a second writer and the second evaluator in every net and cycle, of examples and of texts with up to 9,000 nets; and what `vcd` shows
-of every front part of a dump and of 200 random ones, two in three with a fault, compared with a second reader. `tests/stress/dumps.py PROGRAM` tries more."""
+of every front part of a dump and of 200 random ones, two in three with a fault, compared with a second reader. `tests/stress/more.py PROGRAM dumps` tries more."""
 import json
 import random
-import subprocess
-import sys
 
 from runner.second import cycles, verilog
 from runner.second.dumps import NoDump, Reading, rows_of, written
@@ -89,8 +87,7 @@ def try_pictures(trial):
     for name, (built, simulated, drawn) in PICTURES.items():
         text = trial.put("p.v", trial.run(["build", *built], ROOT).out)
         dump = trial.put("p.vcd", trial.run(["cosim", text, *simulated, "--vcd"], ROOT).out)
-        ran = subprocess.run([sys.executable, "tools/waves.py", dump, "--fill", *drawn], cwd=ROOT, capture_output=True, text=True, check=False)
-        trial.check_equal(f"docs/{name}.svg is drawn by waves.py", ran.stdout, read(f"docs/{name}.svg"))
+        trial.check_equal(f"docs/{name}.svg is drawn by waves.py", trial.tool("waves.py", dump, "--fill", *drawn)[1], read(f"docs/{name}.svg"))
 
 # ---- what `vcd` shows of a dump, beside the second reader
 
@@ -147,9 +144,9 @@ def try_shown(trial, about, text, net):
     trial.check_equal(about, (said.status, said.out.decode(), said.err.decode()), wanted_of("r.vcd", text, net))
 
 
-def try_random(trial, count):
+def try_random(trial, count, seed=18):
     """Random dumps, of which two in three have one fault."""
-    draw = random.Random(18)
+    draw = random.Random(seed)
     for number in range(count):
         text = random_dump(draw)
         if draw.random() < 0.67:

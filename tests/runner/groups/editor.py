@@ -1,5 +1,5 @@
 """The language server `tools/lsp.py` by a client that speaks its protocol: what it reports while a source is written, its answers, bytes that are no messages, and Neovim and the
-extension for Visual Studio Code where Neovim and node are there. `tests/stress/editor.py PROGRAM` sends 10,000 messages made at random."""
+extension for Visual Studio Code where Neovim and node are there. `tests/stress/more.py PROGRAM editor` sends 10,000 messages made at random."""
 import os
 import random
 import re
@@ -9,14 +9,12 @@ import subprocess
 import sys
 import time
 
-from runner.client import Client, framed, messages
+from runner.client import URI, Client, Inside, framed
 from runner.made import messages as made
 from runner.groups.explanations import quoted
 from runner.trial import ROOT, read
 from vechaqir.editor import server
-from vechaqir.host.program import Program
 
-URI = "file:///none/network.cpp"
 # The lines of a long source, and the most seconds of a processor from a change of it to its diagnostics. A machine of a quarter of the speed keeps it.
 LINES, MOST_SECONDS = 2_000, 1.0
 STAGE = """void Stage%d(tapa::istream<int>& in, tapa::ostream<int>& out, int n) {
@@ -34,45 +32,6 @@ STAGE = """void Stage%d(tapa::istream<int>& in, tapa::ostream<int>& out, int n) 
   }
 }
 """
-
-
-class Inside:
-    """A server within this process, and the messages that it has sent."""
-
-    def __init__(self, program):
-        self.sent = []
-        self.server = server.Server(self.told, Program(program, False))
-        self.number = 0
-
-    def told(self, data):
-        found, rest = messages(data)
-        assert not rest
-        self.sent += found
-
-    def note(self, method, params):
-        self.server.take(framed({"method": method, "params": params}))
-
-    def ask(self, method, params):
-        self.number += 1
-        self.server.take(framed({"id": self.number, "method": method, "params": params}))
-        return next(it for it in reversed(self.sent) if it.get("id") == self.number)
-
-    def begin(self, text, uri=URI):
-        self.ask("initialize", {"capabilities": {}})
-        self.note("textDocument/didOpen", {"textDocument": {"uri": uri, "languageId": "cpp", "version": 1, "text": text}})
-        return self.settle()
-
-    def settle(self):
-        """Does all that is due; the diagnostics that were sent last."""
-        while self.server.due or self.server.searches:
-            time.sleep(self.server.wait() or 0)
-            self.server.idle()
-        found = [it for it in self.sent if it.get("method") == "textDocument/publishDiagnostics"]
-        return found[-1]["params"]["diagnostics"] if found else None
-
-    def change(self, text, uri=URI):
-        self.note("textDocument/didChange", {"textDocument": {"uri": uri, "version": 2}, "contentChanges": [{"text": text}]})
-        return self.settle()
 
 
 # ---- answers

@@ -1,8 +1,7 @@
 """What the system does to a run: files at their limits and one byte more, long data, full devices, closed pipes, folders and pipes as files, words that are no UTF-8, too little
 memory."""
-import os
-import resource
-import subprocess
+from runner import ends
+from runner.ends import is_told, is_unwritten
 
 SOURCE_LIMIT = 262_144
 DATA_LIMIT = 33_554_432
@@ -26,10 +25,6 @@ void T() { tapa::stream<int, 1> q; tapa::task().invoke(P, q).invoke(C, q); }
 
 COPY = """void Copy(tapa::mmap<uint64_t> a) { a[0] = a[1]; } void T(tapa::mmap<uint64_t> a) { tapa::task().invoke(Copy, a); }
 """
-
-
-def is_told(said, status, line, out=b""):
-    return (said.status, said.out, said.err) == (status, out, line.encode())
 
 
 def padded(source, size):
@@ -79,35 +74,27 @@ def try_long_data(trial):
 
 def try_full_device(trial):
     """Where a write fails the status is 6, whatever it would have been."""
-    if not os.path.exists("/dev/full"):
-        trial.note("there is no /dev/full here, so no full device was tried")
+    if not ends.has_full(trial):
         return
     trial.put("r.cpp", PAIR)
     trial.put("s.cpp", STOPS)
-    with open("/dev/full", "wb") as full:
-        said = trial.run(["run", "r.cpp", "T"], stdout=full)
-        trial.check("the output is full", is_told(said, 6, "tapa: cannot write\n"), f"   {said}")
-        said = trial.run(["build", "r.cpp", "T"], stdout=full)
-        trial.check("the output is full of a circuit", is_told(said, 6, "tapa: cannot write\n"), f"   {said}")
-        said = trial.run(["run", "s.cpp", "T"], stdout=full)
-        trial.check("the output is full where a run stops", is_told(said, 6, "tapa: cannot write\n"), f"   {said}")
-        for words in (["run", "s.cpp", "T"], ["run", "r.cpp", "none"], ["run", "none", "T"], [], ["run", "r.cpp", "T", "--steps", "1"]):
-            said = trial.run(words, stderr=full)
-            trial.check(f"standard error is full: {words}", said.status == 6, f"   {said}")
-        said = trial.run(["run", "r.cpp", "T"], stderr=full)
-        trial.check("nothing is told, so a full error stream does not matter", is_told(said, 0, "", PAIR_REPORT), f"   {said}")
+    for words in (["run", "r.cpp", "T"], ["build", "r.cpp", "T"], ["run", "s.cpp", "T"]):
+        said = ends.full(trial, words, "stdout")
+        trial.check(f"the output is full: {words}", is_unwritten(said), f"   {said}")
+    for words in (["run", "s.cpp", "T"], ["run", "r.cpp", "none"], ["run", "none", "T"], [], ["run", "r.cpp", "T", "--steps", "1"]):
+        said = ends.full(trial, words, "stderr")
+        trial.check(f"standard error is full: {words}", said.status == 6, f"   {said}")
+    said = ends.full(trial, ["run", "r.cpp", "T"], "stderr")
+    trial.check("nothing is told, so a full error stream does not matter", is_told(said, 0, "", PAIR_REPORT), f"   {said}")
 
 
 def try_closed_pipe(trial):
     """A pipe that nobody reads any more fails as a full device does; the program is not killed without a word."""
     trial.put("r.cpp", PAIR)
-    reader, writer = os.pipe()
-    os.close(reader)
-    said = trial.run(["run", "r.cpp", "T"], stdout=writer)
-    trial.check("nobody reads the output", is_told(said, 6, "tapa: cannot write\n"), f"   {said}")
-    said = trial.run(["run", "r.cpp", "none"], stderr=writer)
+    said = ends.unread(trial, ["run", "r.cpp", "T"], "stdout")
+    trial.check("nobody reads the output", is_unwritten(said), f"   {said}")
+    said = ends.unread(trial, ["run", "r.cpp", "none"], "stderr")
     trial.check("nobody reads standard error", said.status == 6, f"   {said}")
-    os.close(writer)
 
 
 def try_strange_files(trial):
@@ -115,12 +102,7 @@ def try_strange_files(trial):
     said = trial.run(["run", "/", "T"])
     trial.check("a folder", is_told(said, 5, "tapa: cannot read /\n"), f"   {said}")
     trial.put("r.cpp", padded(PAIR, 200_000))
-    path = os.path.join(trial.folder.name, "pipe.cpp")
-    os.mkfifo(path)
-    writer = subprocess.Popen(["sh", "-c", "exec 2>&-; cat r.cpp > pipe.cpp"], cwd=trial.folder.name)
-    said = trial.run(["run", "pipe.cpp", "T"])
-    writer.kill()
-    writer.wait()
+    said = ends.piped(trial, ["run", "r.cpp", "T"], ["r.cpp"])
     trial.check("a pipe", is_told(said, 0, "", PAIR_REPORT), f"   {said}")
 
 
@@ -142,22 +124,7 @@ def try_little_memory(trial):
     cells = " ".join(["12345678901234567890"] * 60_000)
     trial.put("d.json", '{"memories": {"a": [' + cells.replace(" ", ", ") + "]}}")
     report = f"memory a: {cells}\ndone 3\n".encode()
-    short, has_begun = 0, False
-    for megabytes in (4, 6, 8, 10, 12, 14, 16, 20, 24, 32, 48, 64, 96, 128):
-        limit = (megabytes << 20, megabytes << 20)
-        said = trial.run(["run", "r.cpp", "T", "d.json"], before=lambda: resource.setrlimit(resource.RLIMIT_AS, limit))
-        if b"AddressSanitizer" in said.err:
-            trial.note("a build with a sanitizer has no limit on memory, so too little memory was not tried")
-            return
-        is_short = said.status == 9 and said.err == b"tapa: out of memory\n" and report.startswith(said.out)
-        is_whole = is_told(said, 0, "", report)
-        has_begun = has_begun or is_short or is_whole
-        short += is_short
-        if is_short:
-            trial.keep(said)
-        if has_begun:
-            trial.check(f"with {megabytes} MB", is_short or is_whole, f"   {said}")
-    trial.check("one of the limits is too little", short)
+    ends.try_little_memory(trial, ["run", "r.cpp", "T", "d.json"], report, [megabytes << 10 for megabytes in (4, 6, 8, 10, 12, 14, 16, 20, 24, 32, 48, 64, 96, 128)])
 
 
 def try_all(trial):

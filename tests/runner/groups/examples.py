@@ -4,16 +4,13 @@ import shlex
 import shutil
 import subprocess
 
-from runner.trial import ROOT, read
+from runner.trial import ROOT, first_words, read, sources
 
 FOLDERS = ("examples", "examples/refused")
 
 
 def names():
-    for folder in FOLDERS:
-        for name in sorted(os.listdir(os.path.join(ROOT, folder))):
-            if name.endswith(".cpp"):
-                yield f"{folder}/{name[: -len('.cpp')]}"
+    return [path.removesuffix(".cpp") for path in sources(*FOLDERS)]
 
 
 def text_of(path):
@@ -38,7 +35,7 @@ def try_plans(trial):
     for name in names():
         if name.startswith("examples/refused/") and not name.endswith("_mended"):
             continue
-        top = shlex.split(read(f"{name}.cpp").split("\n")[0])[4]
+        top = first_words(f"{name}.cpp")[1]
         for device in devices:
             said = trial.run(["plan", f"{name}.cpp", top, device], ROOT)
             last = [line.split() for line in said.out.decode().splitlines()[-3:]]

@@ -7,7 +7,7 @@ import shlex
 
 from runner.groups import documents
 from runner.groups.sources import context, table
-from runner.trial import ROOT, CASES, read
+from runner.trial import ROOT, CASES, read, sources
 from vechaqir.explain import explainer as explaining, messages, pages, refusals, usage
 from vechaqir.host.program import Program
 from vechaqir.language import patterns, source
@@ -85,10 +85,7 @@ def try_faulty(trial):
 
 def legal_sources():
     """Sources without a construct of the table: those that are accepted, and those that rules refuse which no construct breaks."""
-    for folder in ("examples", "tests/cases/circuits", "tests/measure/speed"):
-        for name in sorted(os.listdir(os.path.join(ROOT, folder))):
-            if name.endswith(".cpp"):
-                yield read(f"{folder}/{name}")
+    yield from map(read, sources("examples", "tests/cases/circuits", "tests/measure/speed"))
     for row in pages.rows().values():
         before, after = context(row.context)
         yield before + row.accepted + after

@@ -1,9 +1,9 @@
 """What the system does to `build`, `plan` and `cosim`: full and cut outputs, closed pipes, pipes, folders and missing files as files, reads that fail, too little memory.
 `tests/stress/faults.py PROGRAM` tries more."""
 import os
-import resource
-import subprocess
 
+from runner import ends
+from runner.ends import is_told, is_unwritten
 from runner.made import refusals
 
 SOURCE = """void P(tapa::mmap<const int> a, tapa::ostream<int>& q) { for (int i = 0; i < 3; ++i) q << a[i]; }
@@ -38,40 +38,27 @@ def put_files(trial):
     trial.put("x.v", trial.run(["build", "r.cpp", "T"]).out)
 
 
-def is_told(said, status, line, out=b""):
-    return (said.status, said.out, said.err) == (status, out, line.encode())
-
-
 def try_refused(trial):
     """Each refusal with its status, and with status 6 where it cannot be told."""
     for line, words in REFUSED.items():
         status = 4 if "room" in line or "plan" in line else 3 if ": J" in line else 1
         said = trial.run(words)
         trial.check(f"{words} is refused", is_told(said, status, line.rstrip(" ")), f"   {said}")
-        if os.path.exists("/dev/full"):
-            with open("/dev/full", "wb") as full:
-                said = trial.run(words, stderr=full)
+        if ends.has_full(trial):
+            said = ends.full(trial, words, "stderr")
             trial.check(f"standard error is full: {words}", (said.status, said.out) == (6, b""), f"   {said}")
 
 
 def try_full(trial, words, whole):
     """The output is full, nobody reads it any more, or it ends after some bytes: status 6, and a front of the text."""
-    if os.path.exists("/dev/full"):
-        with open("/dev/full", "wb") as full:
-            said = trial.run(words, stdout=full)
-        trial.check(f"the output is full: {words}", is_told(said, 6, "tapa: cannot write\n"), f"   {said}")
-    reader, writer = os.pipe()
-    os.close(reader)
-    said = trial.run(words, stdout=writer)
-    os.close(writer)
-    trial.check(f"nobody reads the output: {words}", is_told(said, 6, "tapa: cannot write\n"), f"   {said}")
-    path = os.path.join(trial.folder.name, "cut")
+    if ends.has_full(trial):
+        said = ends.full(trial, words, "stdout")
+        trial.check(f"the output is full: {words}", is_unwritten(said), f"   {said}")
+    said = ends.unread(trial, words, "stdout")
+    trial.check(f"nobody reads the output: {words}", is_unwritten(said), f"   {said}")
     for most in (0, 1, len(whole) // 2, len(whole) - 1):
-        with open(path, "wb") as file:
-            said = trial.run(words, stdout=file, before=lambda: resource.setrlimit(resource.RLIMIT_FSIZE, (most, most)))
-        with open(path, "rb") as file:
-            cut = file.read()
-        trial.check(f"the output ends after {most} bytes: {words}", said.status == 6 and whole.startswith(cut) and len(cut) <= most, f"   {said} {cut[-60:]}")
+        said = ends.cut(trial, words, most)
+        trial.check(f"the output ends after {most} bytes: {words}", said.status == 6 and whole.startswith(said.out) and len(said.out) <= most, f"   {said}")
 
 
 def try_undone(trial):
@@ -80,28 +67,18 @@ def try_undone(trial):
     said = trial.run(words)
     wanted = (7, b"stream q:\nmemory a: 7 8 9\nrunning 2\n", b"tapa: not done after 2 cycles\n")
     trial.check_equal("a simulation past its cycles", (said.status, said.out, said.err), wanted)
-    if os.path.exists("/dev/full"):
-        with open("/dev/full", "wb") as full:
-            trial.check("its report cannot be written", is_told(trial.run(words, stdout=full), 6, "tapa: cannot write\n"))
-            said = trial.run(words, stderr=full)
-            trial.check("its message cannot be written", (said.status, said.out) == (6, wanted[1]), f"   {said}")
+    if ends.has_full(trial):
+        trial.check("its report cannot be written", is_unwritten(ends.full(trial, words, "stdout")))
+        said = ends.full(trial, words, "stderr")
+        trial.check("its message cannot be written", (said.status, said.out) == (6, wanted[1]), f"   {said}")
 
 
 def try_pipes(trial, words, whole):
     """Each file, and all at once, as a pipe: it is read once, whole, and in its turn."""
     files = [word for word in words if "." in word]
     for chosen in [*([file] for file in files), files]:
-        named = [f"pipe_{word}" if word in chosen else word for word in words]
-        for file in chosen:
-            os.mkfifo(os.path.join(trial.folder.name, f"pipe_{file}"))
-        feeds = "; ".join(f"cat {file} > pipe_{file}" for file in chosen)
-        writer = subprocess.Popen(["sh", "-c", f"exec 2>&-; {feeds}"], cwd=trial.folder.name)
-        said = trial.run(named)
-        writer.kill()
-        writer.wait()
-        trial.check(f"pipes: {named}", is_told(said, 0, "", whole), f"   {said}")
-        for file in chosen:
-            os.remove(os.path.join(trial.folder.name, f"pipe_{file}"))
+        said = ends.piped(trial, words, chosen)
+        trial.check(f"{chosen} as pipes: {words}", is_told(said, 0, "", whole), f"   {said}")
 
 
 def try_unread(trial, words):
@@ -111,24 +88,6 @@ def try_unread(trial, words):
             named = [other if it == word else it for it in words]
             said = trial.run(named)
             trial.check(f"{named}", is_told(said, 5, f"tapa: cannot read {other}\n"), f"   {said}")
-
-
-def try_little_memory(trial, words, whole):
-    """Under a limit on memory a command ends well, or says that memory is out and has written a front of its text; one of the limits is too little."""
-    short, has_begun = 0, False
-    for quarter in (*range(8, 40), 48, 64, 128, 256, 512):
-        limit = (quarter << 18, quarter << 18)
-        said = trial.run(words, before=lambda: resource.setrlimit(resource.RLIMIT_AS, limit))
-        if b"AddressSanitizer" in said.err:
-            trial.note("a build with a sanitizer has no limit on memory, so too little memory was not tried")
-            return
-        is_short = said.status == 9 and said.err == b"tapa: out of memory\n" and whole.startswith(said.out)
-        is_whole = is_told(said, 0, "", whole)
-        has_begun = has_begun or is_short or is_whole
-        short += is_short
-        if has_begun:
-            trial.check(f"{words} with {quarter * 256} KB", is_short or is_whole, f"   {said.status} {said.err}")
-    trial.check(f"{words}: one of the limits is too little", short)
 
 
 def try_all(trial):
@@ -144,7 +103,7 @@ def try_all(trial):
     refusals.try_allocations(trial, 10)
     put_large(trial)
     for words in (["cosim", "l.v", "l.json"], ["build", "l.cpp", "T"], ["build", "l.cpp", "T", "--device", "l_device.json"], ["plan", "l.cpp", "T", "l_device.json"]):
-        try_little_memory(trial, words, trial.run(words).out)
+        ends.try_little_memory(trial, words, trial.run(words).out, [256 * quarter for quarter in (*range(8, 40), 48, 64, 128, 256, 512)])
 
 
 def put_large(trial):

@@ -3,6 +3,7 @@ import os
 import shutil
 import subprocess
 import sys
+from pathlib import Path
 
 from runner.trial import ROOT
 
@@ -46,8 +47,7 @@ def run_gate(folder, gate, cases, has_program=True):
     if has_program:
         scripts["tapa/crates/tapa_cli/out/tapa_cli"] = ""
     for name, text in scripts.items():
-        with open(f"{folder}/gate/{name}", "w", encoding="utf-8") as file:
-            file.write(f"#!/bin/sh\n{text}\n")
+        Path(f"{folder}/gate/{name}").write_text(f"#!/bin/sh\n{text}\n", encoding="utf-8")
         os.chmod(f"{folder}/gate/{name}", 0o755)
     environment = {**os.environ, "PATH": f"{folder}/gate/bin:{os.environ['PATH']}"}
     ran = subprocess.run(["sh", ".ci/run"], cwd=repository, env=environment, stdin=subprocess.DEVNULL, capture_output=True, text=True, check=False)

@@ -1,9 +1,10 @@
 """500 sources changed at random, compared with a second recogniser (`runner/second/recogniser.py`) that has the productions and limits from docs/LANGUAGE.md alone: where each of
-the two says P1 or P2, or that the source is a file of the grammar. What the rules on names and kinds say of it is not looked at. `tests/stress/grammar.py PROGRAM` tries more."""
+the two says P1 or P2, or that the source is a file of the grammar. What the rules on names and kinds say of it is not looked at. `tests/stress/more.py PROGRAM grammar` tries more."""
 import glob
 import os
 import random
 import re
+from pathlib import Path
 from typing import Callable, Dict, List, Tuple
 
 from runner.groups import sources
@@ -94,8 +95,7 @@ def pieces() -> List[Words]:
     texts = [text.encode() for text in rows()] + [leaves.source(seed).encode() for seed in range(LEAVES)]
     for folder in FOLDERS:
         for path in sorted(glob.glob(os.path.join(ROOT, folder, "*.cpp"))):
-            with open(path, "rb") as file:
-                texts.append(file.read())
+            texts.append(Path(path).read_bytes())
     found = []
     for text in texts:
         whole = words_of(text)

@@ -1,9 +1,13 @@
-"""Circuits in Icarus Verilog, where it is installed: the report of `cosim`, and the block RAM of docs/CIRCUIT.md and random memories, reset in the middle of runs, where what is
-asked of a memory stays until it is ready (`tools/check_memories.py`). `tests/stress/memories.py PROGRAM` tries more random programs."""
+"""Circuits in Icarus Verilog, where it is installed: the report of `cosim`, and the block RAM and the bus of docs/CIRCUIT.md and random memories, reset in the middle of runs,
+where what is asked of a memory stays until it is ready (`tools/check_memories.py`). `tests/stress/memories.py PROGRAM` tries more random programs."""
 import re
 import shutil
 
-from runner.trial import ROOT
+from runner.trial import ROOT, read
+
+STORES = """void F(tapa::mmap<int> m, int t) { int x = t; m[0] = x; x = m[0]; x += 4; m[0] = x; }
+void T(tapa::mmap<int> a, int t) { tapa::task().invoke(F, a, t); }
+"""
 
 
 def try_report(trial):
@@ -22,8 +26,18 @@ def try_report(trial):
         trial.check_equal(f"what icarus.py {' '.join(given)} says", trial.tool("icarus.py", *given), (1, "", f"tools/icarus.py: {wanted}\n"))
 
 
+def try_bus(trial):
+    """The lines of docs/CIRCUIT.md for a bus lose no store. If they compare the address only, they lose one."""
+    source, data = trial.put("stores.cpp", STORES), trial.put("stores.json", '{"scalars": {"t": 3}, "memories": {"a": [0]}}')
+    words = ["check_memories.py", trial.program, source, "T", data, "--memories", "bus"]
+    trial.check_equal("stores to a bus", trial.tool(*words), (0, "1 circuits, 0 runs otherwise\n", ""))
+    page = read("docs/CIRCUIT.md").replace(" && asked_we == m_a_we", "")
+    status, out, err = trial.tool(*words, "--page", trial.put("page.md", page))
+    trial.check("a bus that compares the address only loses a store", (status, out.count("['memory a: 0']"), out.endswith("1 circuits, 3 runs otherwise\n")) == (1, 3, True), out + err)
+
+
 def try_memories(trial):
-    """The lines of docs/CIRCUIT.md for a block RAM, and memories with random bits where they are not ready, with resets in the middle of runs."""
+    """The lines of docs/CIRCUIT.md for a block RAM and for a bus, and memories with random bits where they are not ready, with resets in the middle of runs."""
     for words in ([], ["tests/cases/circuits/features.cpp", "Top", "tests/cases/circuits/features.json"]):
         status, out, err = trial.tool("check_memories.py", trial.program, *words)
         trial.check(f"circuits with other memories {' '.join(words)}", (status, out.endswith(", 0 runs otherwise\n")) == (0, True), out + err)
@@ -41,4 +55,5 @@ def try_all(trial):
         trial.note("there is no Icarus Verilog here, so circuits were not tried in it")
         return
     try_report(trial)
+    try_bus(trial)
     try_memories(trial)

@@ -55,8 +55,7 @@ def try_install(trial):
 
 def try_manual(trial, prefix):
     page = f"{prefix}/share/man/man1/vtapa.1"
-    with open(page, encoding="utf-8") as file:
-        text = file.read()
+    text = read(page)
     for part in ("vtapa run SRC TOP", "more than N ticks", "\\-\\-no\\-balance"):
         trial.check(f"the page of man has {part}", part in text)
     if not shutil.which("man"):
@@ -115,8 +114,7 @@ def dead_links(folder):
     texts = {}
     for name in sorted(os.listdir(folder)):
         if name.endswith(".html"):
-            with open(os.path.join(folder, name), encoding="utf-8") as file:
-                texts[name] = file.read()
+            texts[name] = read(os.path.join(folder, name))
     for name, text in texts.items():
         for target in re.findall(r'(?:href|src)="([^"]*)"', text):
             path, _, part = target.partition("#")

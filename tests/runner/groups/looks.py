@@ -3,14 +3,11 @@ seconds of a processor, draws what its data say, and follows clicks and keys."""
 import json
 import os
 import re
-import shlex
-import subprocess
-import sys
 
 from runner import browser
 
 from runner.groups import networks
-from runner.trial import ROOT, read
+from runner.trial import first_words, sources
 
 # The most bytes of a page, and the most seconds of a processor until it is shown.
 MOST_BYTES, MOST_SECONDS = 16_777_216, 2
@@ -20,11 +17,11 @@ COUNTS = """return {
   ready: document.documentElement.dataset.ready,
   title: document.querySelector('#title').textContent,
   facts: document.querySelector('#facts').textContent,
-  tasks: document.querySelectorAll('#graph .task rect').length,
-  wires: document.querySelectorAll('#graph .wire .line').length,
-  uppers: document.querySelectorAll('#graph .upper rect').length,
-  memories: document.querySelectorAll('#graph .memory rect').length,
-  circle: document.querySelectorAll('#graph .circle').length,
+  tasks: document.querySelectorAll('#graph .whole .task rect').length,
+  wires: document.querySelectorAll('#graph .whole .wire .line').length,
+  uppers: document.querySelectorAll('#graph .whole .upper rect').length,
+  memories: document.querySelectorAll('#graph .whole .memory rect').length,
+  circle: document.querySelectorAll('#graph .whole .circle').length,
   lines: document.querySelectorAll('#code tr').length,
   slots: document.querySelectorAll('#floor .slot').length,
   chips: document.querySelectorAll('#floor .chip').length,
@@ -34,19 +31,18 @@ COUNTS = """return {
   colours: (() => { const it = document.querySelector('#tracks canvas'), found = new Set(), data = it.getContext('2d').getImageData(0, 0, it.width, it.height).data;
     for (let at = 0; at < data.length; at += 4) found.add(data[at] << 16 | data[at + 1] << 8 | data[at + 2]); return found.size; })(),
 }"""
-CLICK = """const task = document.querySelector('#graph .task[data-name="%s"]');
+CLICK = """const task = document.querySelector('#graph .whole .task[data-name="%s"]');
 task.dispatchEvent(new MouseEvent('click', {bubbles: true}));
-return [document.querySelector('#detail').textContent, document.querySelectorAll('#graph .wire.near').length, task.classList.contains('chosen')];"""
+return [document.querySelector('#detail').textContent, document.querySelectorAll('#graph .whole .wire.near').length, task.classList.contains('chosen')];"""
 
 
 def page_of(trial, name, words):
-    environment = {**os.environ, "TAPA": trial.program}
-    ran = subprocess.run([sys.executable, "tools/look.py", *words, "--no-tries"], cwd=ROOT, stdin=subprocess.DEVNULL, capture_output=True, text=True, check=False, env=environment)
-    trial.check(f"look.py of {name}", ran.returncode == 0, ran.stderr)
-    data = re.search(r'<script type="application/json" id="data">(.*?)</script>', ran.stdout, re.S)
-    whole = ran.returncode == 0 and data is not None and "http" not in ran.stdout.replace("http://www.w3.org/2000/svg", "") and len(ran.stdout) <= MOST_BYTES
-    trial.check(f"the page of {name} is whole, small, and asks for nothing else", whole, f"   {len(ran.stdout)} bytes")
-    return trial.put("page.html", ran.stdout), json.loads(data[1]) if data else {}
+    status, page, err = trial.tool("look.py", *words, "--no-tries")
+    trial.check(f"look.py of {name}", status == 0, err)
+    data = re.search(r'<script type="application/json" id="data">(.*?)</script>', page, re.S)
+    whole = status == 0 and data is not None and "http" not in page.replace("http://www.w3.org/2000/svg", "") and len(page) <= MOST_BYTES
+    trial.check(f"the page of {name} is whole, small, and asks for nothing else", whole, f"   {len(page)} bytes")
+    return trial.put("page.html", page), json.loads(data[1]) if data else {}
 
 
 def try_page(trial, shown, name, words):
@@ -89,7 +85,7 @@ def try_keys(trial, shown):
     shown.press("++t")
     after = shown.run("return [time.count, document.documentElement.classList.contains('dark')]")
     trial.check("keys zoom and change the colours", after[0] < before[0] and after[1] != before[1], f"   {before} {after}")
-    shown.run("document.querySelector('#graph .task[data-name=\"Add$2\"]').focus()")
+    shown.run("document.querySelector('#graph .whole .task[data-name=\"Add$2\"]').focus()")
     shown.press("\ue007")
     trial.check("Enter chooses a task", "task Add, line 7" in shown.run("return document.querySelector('#detail').textContent"))
     shown.press("\ue00c")
@@ -97,13 +93,11 @@ def try_keys(trial, shown):
 
 
 def try_pages(trial, shown):
-    for name in sorted(os.listdir(os.path.join(ROOT, "examples"))):
-        if name.endswith(".cpp"):
-            words = shlex.split(read(f"examples/{name}").split("\n")[0])[3:]
-            device = "two_dies" if name == "two_ways.cpp" else "u280"
-            has = try_page(trial, shown, name, [*words, "--device", f"examples/devices/{device}.json"])
-            if has and name == "too_shallow.cpp":
-                trial.check("a deadlock is shown", "A deadlock: Producer$0" in has["bound"] and has["circle"] == 2, f"   {has['bound']}")
+    for path in sources("examples"):
+        device = "two_dies" if path == "examples/two_ways.cpp" else "u280"
+        has = try_page(trial, shown, os.path.basename(path), [*first_words(path), "--device", f"examples/devices/{device}.json"])
+        if has and path == "examples/too_shallow.cpp":
+            trial.check("a deadlock is shown", "A deadlock: Producer$0" in has["bound"] and has["circle"] == 2, f"   {has['bound']}")
     trial.put("gen.cpp", networks.network(LAYERS))
     try_page(trial, shown, "a network of 512 tasks", [os.path.join(trial.folder.name, "gen.cpp"), "Gen"])
 

@@ -8,6 +8,7 @@ import shlex
 import subprocess
 import sys
 import warnings
+from pathlib import Path
 
 import vechaqir
 from runner.groups.module import interpreter_with
@@ -41,8 +42,7 @@ class Mistake:
 
     def put(self, folder):
         for name, text in self.files:
-            with open(os.path.join(folder, name), "w", encoding="utf-8") as file:
-                file.write(text)
+            Path(folder, name).write_text(text, encoding="utf-8")
 
     def text(self, shown):
         """The mistake with what is shown of it."""
@@ -159,8 +159,7 @@ def try_pytest(trial, found):
         given = inputs(found[0].words[3:4]) or ({}, {})
     test = TEST.format(at=0, source=os.path.join(folder, "F.cpp"), top=found[0].words[2], scalars=given[0], memories=given[1])
     path = os.path.join(folder, "test_mistake.py")
-    with open(path, "w", encoding="utf-8") as file:
-        file.write(test)
+    Path(path).write_text(test, encoding="utf-8")
     environment = {**os.environ, "TAPA": trial.program, "PYTHONPATH": os.path.join(ROOT, "tools"), "PYTHONDONTWRITEBYTECODE": "1"}
     ran = subprocess.run([python, "-m", "pytest", "-q", "-p", "no:cacheprovider", path], cwd=folder, env=environment, capture_output=True, text=True, check=False)
     shown = [line[len("E "):].strip() for line in ran.stdout.splitlines() if line.startswith("E ")]

@@ -3,14 +3,11 @@ of `cosim` in each cycle, and with the registers themselves where Icarus Verilog
 import json
 import os
 import re
-import shlex
 import shutil
-import subprocess
-import sys
 
 from runner.groups import networks
 from runner.made import leaves
-from runner.trial import ROOT, read
+from runner.trial import ROOT, first_words, read, sources as paths
 from vechaqir.host import dump
 from vechaqir.language import source
 from vechaqir.machine import run as machine_run
@@ -25,17 +22,14 @@ WAITS = {"read": "datum", "peek": "datum", "eot": "has", "open": "eot", "write":
 
 def sources():
     """Name, text, top and data of each example and of each source of tests/cases/circuits."""
-    for folder in ("examples", "tests/cases/circuits"):
-        for name in sorted(os.listdir(os.path.join(ROOT, folder))):
-            if name.endswith(".cpp"):
-                words = read(f"{folder}/{name}").split("\n")[0].removeprefix("// ")
-                if words.startswith("tapa "):
-                    words = shlex.split(words)
-                    data = [read(it) for it in words[4:] if it.endswith(".json")]
-                    yield f"{folder}/{name}", read(f"{folder}/{name}"), words[3], (data or ["{}"])[0]
-                else:
-                    top, _, data = words.partition(" ")
-                    yield f"{folder}/{name}", read(f"{folder}/{name}"), top, data or "{}"
+    for path in paths("examples", "tests/cases/circuits"):
+        text = read(path)
+        if text.startswith("// tapa "):
+            _, top, *words = first_words(path)
+            yield path, text, top, next((read(it) for it in words if it.endswith(".json")), "{}")
+        else:
+            top, _, data = text.split("\n")[0].removeprefix("// ").partition(" ")
+            yield path, text, top, data or "{}"
 
 
 def module_of(text, name):
@@ -115,7 +109,7 @@ def compared_with_cosim(trial, name, has, network, circuit, data, cycles):
 def compared_with_icarus(trial, name, has, network, circuit, data):
     """Each register of each instance has in each cycle, in Icarus Verilog, what the variable of its name holds."""
     path = os.path.join(trial.folder.name, "i.vcd")
-    subprocess.run([sys.executable, "tools/icarus.py", circuit, data, "--dump", path, "--cycles", CYCLES], cwd=ROOT, capture_output=True, check=False)
+    trial.tool("icarus.py", circuit, data, "--dump", path, "--cycles", CYCLES)
     dumped = dump.read(path)
     run = machine_run.Run(has, network, dumped)
     nets = [(it, dumped.name(f"t_{it.instance.label}.state"), [dumped.name(f"t_{it.instance.label}.x_{k}") for k in range(len(it.registers) or len(it.machine.registers))]) for it in run.followers]
@@ -141,8 +135,7 @@ def try_tool(trial):
     path = trial.put("v.vcd", trial.run(["cosim", circuit, "examples/vector_add.json", "--vcd"], ROOT).out)
     save = os.path.join(trial.folder.name, "v.gtkw")
     status, _, err = trial.tool("names.py", *words, "--gtkw", save, "--dump", path)
-    with open(save, encoding="utf-8") as file:
-        lines = file.read().splitlines()
+    lines = read(save).splitlines()
     trial.check("a save file for GTKWave", status == 0 and "-stream a_q: Mmap2Stream$0 to Add$2" in lines and "+{s_a_q_din} t_VecAdd.s_a_q_din[32:0]" in lines, f"   {lines[:6]} {err}")
     with open(os.path.join(trial.folder.name, "v.t_Add.states"), encoding="utf-8") as file:
         trial.check_equal("a translate file", file.read().splitlines()[2], "2 8: read a")

@@ -1,6 +1,5 @@
 """`gen`: the numbers of generated networks, worked out in Python, and what `run`, `build` and `cosim` tell of the same programs; words that are none."""
-import os
-import resource
+from runner import ends
 
 USAGE = "tapa: usage: tapa build|run|cosim|plan|gen|vcd\n"
 
@@ -81,31 +80,15 @@ def try_refused(trial):
 
 
 def try_full_device(trial):
-    if not os.path.exists("/dev/full"):
-        trial.note("there is no /dev/full here, so no full device was tried")
-        return
-    with open("/dev/full", "wb") as full:
-        said = trial.run(["gen", "1"], stdout=full)
-    trial.check("the output is full of a summary", (said.status, said.err.decode()) == (6, "tapa: cannot write\n"), f"   {said}")
+    if ends.has_full(trial):
+        said = ends.full(trial, ["gen", "1"], "stdout")
+        trial.check("the output is full of a summary", ends.is_unwritten(said), f"   {said}")
 
 
 def try_little_memory(trial):
     """Under a limit on memory the summary is written, or nothing is and memory is out; one of the limits is too little."""
-    wanted = trial.run(["gen", "7"])
-    short, has_begun = 0, False
-    for megabytes in (4, 6, 8, 10, 12, 14, 16, 20, 24, 32, 48, 64, 96, 128, 256):
-        limit = (megabytes << 20, megabytes << 20)
-        said = trial.run(["gen", "7"], before=lambda: resource.setrlimit(resource.RLIMIT_AS, limit))
-        if b"AddressSanitizer" in said.err:
-            trial.note("a build with a sanitizer has no limit on memory, so too little memory was not tried")
-            return
-        is_short = (said.status, said.out, said.err) == (9, b"", b"tapa: out of memory\n")
-        is_whole = (said.status, said.out, said.err) == (0, wanted.out, b"")
-        has_begun = has_begun or is_short or is_whole
-        short += is_short
-        if has_begun:
-            trial.check(f"a network with {megabytes} MB", is_short or is_whole, f"   {said}")
-    trial.check("one of the limits is too little for a network", short)
+    sizes = [megabytes << 10 for megabytes in (4, 6, 8, 10, 12, 14, 16, 20, 24, 32, 48, 64, 96, 128, 256)]
+    ends.try_little_memory(trial, ["gen", "7"], trial.run(["gen", "7"]).out, sizes, lambda out: not out)
 
 
 def try_all(trial):

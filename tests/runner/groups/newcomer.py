@@ -1,20 +1,15 @@
-"""Eight designs as TAPA users write them (`cases/newcomer/`): what each refusal on the way is explained as (`NAME.told`), and that `tools/prepare.py --write` and at most three
-edits by hand (`NAME.edits`) bring each to acceptance, where it gives what plain Python computes."""
+"""Eight designs as TAPA users write them (`cases/newcomer/`): how the first refusal of each is explained (`NAME.told`), and that `tools/port.py` ports seven as a whole, which then give what plain Python computes; and the list of constructs that the tool prints without libclang."""
 import json
 import os
 import re
-import subprocess
-import sys
 
+from runner.groups import port
 from runner.groups.explanations import GENERAL, NEVER, explained
-from runner.groups.sources import context
-from runner.trial import ROOT, CASES, read
-from vechaqir.explain import pages
+from runner.trial import CASES
 from vechaqir.language import source
-from vechaqir.language.matching import View
-from vechaqir.prepare import body, edits, top_level, upper, writing
 
-MOST_EDITS = 3
+# What is left of the design that polls several streams.
+LEFT = {"butterfly": 1}
 
 
 def vector_add():
@@ -39,7 +34,7 @@ def jacobi():
 def bandwidth():
     banks = [[5, 6, 7], [1, 2, 3]]
     data = {"scalars": {"n": 3, "flags": 3}, "memories": {"bank_0": banks[0], "bank_1": banks[1], "out": [0, 0]}}
-    return "Bandwidth", data, {"bank_0": [6, 7, 8], "bank_1": [2, 3, 4], "out": [18, 6]}
+    return "Bandwidth", data, {"bank_0": banks[0], "bank_1": banks[1], "out": [18, 6]}
 
 
 def cannon():
@@ -77,104 +72,30 @@ def chain():
 DESIGNS = {"vector_add": vector_add, "cannon": cannon, "bandwidth": bandwidth, "jacobi": jacobi, "page_rank": page_rank, "butterfly": butterfly, "fir": fir, "chain": chain}
 
 
-def edits_of(name):
-    """The edits by hand of a design: what stands there, and what instead."""
-    path = os.path.join(CASES, "newcomer", f"{name}.edits")
-    if not os.path.exists(path):
-        return []
-    with open(path, encoding="utf-8") as file:
-        return re.findall(r"^<<<\n(.*?)^===\n(.*?)^>>>$", file.read(), re.M | re.S)
-
-
-def edited(trial, name, text):
-    """A design with its edits by hand, each of one place."""
-    for before, after in edits_of(name):
-        trial.check(f"{name}: an edit by hand has its place", text.count(before) == 1, f"   {before}")
-        text = text.replace(before, after)
-    return text
-
-
-def prepared(trial, name):
-    """A design through `prepare.py --write`, the edits by hand, and `prepare.py --write` again."""
-    path = os.path.join(CASES, "newcomer", f"{name}.cpp")
-    out = os.path.join(trial.folder.name, f"{name}.cpp")
-    script = [sys.executable, os.path.join(ROOT, "tools/prepare.py")]
-    first = subprocess.run([*script, path, "--write", out], capture_output=True, text=True, check=False)
-    with open(out, encoding="utf-8") as file:
-        text = file.read()
-    marks = text.count(writing.MARK)
-    trial.check(f"{name}: prepare.py marks what is left", first.returncode == (1 if marks else 0) and f"; {marks} left" in first.stderr, f"   {first.stderr}")
-    text = re.sub(rf"^[ \t]*{re.escape(writing.MARK)}[^\n]*\n", "", text, flags=re.M)
-    trial.put(f"{name}.cpp", edited(trial, name, text))
-    second = subprocess.run([*script, out, "--write"], capture_output=True, text=True, check=False)
-    trial.check(f"{name}: nothing is left behind the edits by hand", second.returncode == 0, f"   {second.stderr}")
-    return out
-
-
-def try_design(trial, name):
-    top, data, wanted = DESIGNS[name]()
-    trial.check(f"{name}: at most {MOST_EDITS} edits by hand", len(edits_of(name)) <= MOST_EDITS)
-    _, told = explained(trial, ["run", os.path.join(CASES, "newcomer", f"{name}.cpp"), top])
-    trial.check(f"{name}: its first refusal is explained by its construct", "docs/FROM_TAPA.md" in told and GENERAL not in told and NEVER not in told, f"   {told}")
-    out = prepared(trial, name)
-    words = ["run", out, top, trial.put(f"{name}.json", json.dumps(data))]
-    said = trial.run(words)
-    cells = {key: [int(it) for it in row.split()] for key, row in re.findall(r"^memory (\w+):(.*)$", said.out.decode(), re.M)}
-    bits = {it.name: it.kind.bits for it in source.read(out).tasks[top].parameters}
-    trial.check(f"{name}: it is accepted, and gives what Python computes", said.status == 0 and all(cells[key] == [it % 2 ** bits[key] for it in row] for key, row in wanted.items()),
-                f"   {said}\n   {wanted}\n{explained(trial, words)[1]}")
-
-
-def way(name, path):
-    """The texts of a design on its way to acceptance: after each single thing that is mended, and after each edit by hand."""
-    text = source.read(path).text
-    yield text
-    for hand in [None, *edits_of(name)]:
-        if hand:
-            text = text.replace(hand[0].encode(), hand[1].encode())
-            yield text
-        for step in [*top_level.STEPS, *upper.STEPS, *body.STEPS] * 2:
-            while True:
-                after = edits.applied(text, step(View(source.parse(text, path))))
-                if after == text:
-                    break
-                text = after
-                yield text
-
-
-def told_on(trial, name):
-    """What a design is told on its way: each place and the first line of its explanation once, in order."""
-    top, path, found = DESIGNS[name]()[0], os.path.join(CASES, "newcomer", f"{name}.cpp"), []
-    for text in way(name, path):
-        _, told = explained(trial, ["run", trial.put(f"{name}.way.cpp", text), top])
-        place = re.match(r"tapa: .*?:\d+:\d+: ([A-Z]\d+)", told)
-        if place:
-            says = next(line for line in told.splitlines() if line.startswith("      = ") and "arrays written out" not in line)
-            found += [f"{place[1]} {says[8:]}"] * (f"{place[1]} {says[8:]}" not in found)
-            trial.check(f"{name}: each refusal on the way is explained", GENERAL not in told and NEVER not in told and "instead: " in told, f"   {told}")
-    return found
-
-
-def try_way(trial, name):
-    """Each refusal on the way is explained as tests/cases/newcomer has it."""
+def try_told(trial, name):
+    """The first refusal of a design is explained by its construct, with a place in docs/FROM_TAPA.md and the tool that ports it."""
+    _, told = explained(trial, ["run", os.path.join(CASES, "newcomer", f"{name}.cpp"), DESIGNS[name]()[0]])
+    trial.check(f"{name}: its first refusal is explained by its construct", "docs/FROM_TAPA.md" in told and "tools/port.py" in told and GENERAL not in told and NEVER not in told, f"   {told}")
+    place = re.match(r"tapa: .*?:\d+:\d+: ([A-Z]\d+)", told)
+    says = next((line for line in told.splitlines() if line.startswith("      = ") and "arrays written out" not in line), "")
     with open(os.path.join(CASES, "newcomer", f"{name}.told"), encoding="utf-8") as file:
-        trial.check_equal(f"{name}: what is told on its way", told_on(trial, name), file.read().splitlines())
+        trial.check_equal(f"{name}: how its first refusal is explained", f"{place[1] if place else told} {says[8:]}\n", file.read())
 
 
-def try_mended(trial):
-    """What is mechanical of the constructs of docs/FROM_TAPA.md is done so that it is accepted; a source that is accepted stays as it is."""
-    mended = 0
-    for row in pages.rows().values():
-        before, after = context(row.context)
-        text = (before + row.refused + after).encode()
-        found = writing.mended(text)
-        mended += found != text and trial.told(found) == "accepted"
-        trial.check(f"prepare.py changes nothing twice in {row.refused}", writing.mended(found) == found, f"   {found.decode()}")
-    trial.check("45 constructs are mended", mended >= 45, f"   {mended}")
-    for folder in ("examples", "tests/cases/circuits"):
-        for name in sorted(it for it in os.listdir(os.path.join(ROOT, folder)) if it.endswith(".cpp")):
-            text = read(f"{folder}/{name}").encode()
-            trial.check(f"prepare.py leaves {name} as it is", writing.mended(text, f"{folder}/{name}") == text)
+def try_ported(trial, name):
+    """A design through `port.py --write`; where nothing is left it gives what Python computes."""
+    top, data, wanted = DESIGNS[name]()
+    out = os.path.join(trial.folder.name, f"{name}.cpp")
+    status, told, said = port.asked(trial, [os.path.join(CASES, "newcomer", f"{name}.cpp"), top, "--write", out])
+    left = LEFT.get(name, 0)
+    trial.check(f"{name}: what is left of it", (status, f"; {left} left to change" in said) == (1 if left else 0, True), told + said)
+    if left or status:
+        return
+    words = ["run", out, top, trial.put(f"{name}.json", json.dumps(data))]
+    ran = trial.run(words)
+    cells = {key: [int(it) for it in row.split()] for key, row in re.findall(r"^memory (\w+):(.*)$", ran.out.decode(), re.M)}
+    bits = {it.name: it.kind.bits for it in source.read(out).tasks[top].parameters}
+    trial.check(f"{name}: it is accepted, and gives what Python computes", ran.status == 0 and all(cells.get(key) == [it % 2 ** bits[key] for it in row] for key, row in wanted.items()), f"   {ran}\n   {wanted}")
 
 
 LISTED = """using namespace tapa;
@@ -190,27 +111,31 @@ void U() {
   tapa::task().invoke<tapa::join, 2>(P, r).invoke(P, r).invoke<tapa::join, 3>(C, r)
     .invoke<tapa::join, 3>(P, s).invoke<tapa::join, 3>(C, s);
 }
+struct Req { int at; bool last; };
+void D(tapa::ostream<Req>& q, int n) {
+  if (n == 0) { q << n; } else if (int x = n + 1) { q << x; }
+  q.write(Req{0, true});
+}
 """
-CONSTRUCTS = {(1, "`using namespace`"), (2, "an array of the file"), (3, "a list of values"), (11, "an array of streams as one argument"), (11, "a counted invoke of a longer array")}
-# An array of which more elements are handed out than it has.
-KEPT = """void W() { tapa::streams<int, 2> q, r; tapa::task().invoke<tapa::join, 1>(P, q).invoke(P, q).invoke(P, q).invoke<tapa::join, 2>(C, r); }
-"""
+CONSTRUCTS = {(1, "`using namespace`"), (2, "an array of the file"), (3, "a list of values"), (11, "an array of streams as one argument"), (11, "a counted invoke of a longer array"), (14, "a struct"),
+              (16, "a declaration in a condition"), (15, "a type by another name"), (17, "a value in braces")}
 
 
 def try_listed(trial):
-    """The list of a source has each construct in its line, and none beside."""
-    path = trial.put("l.cpp", LISTED)
-    out = subprocess.run([sys.executable, os.path.join(ROOT, "tools/prepare.py"), path], capture_output=True, text=True, check=False).stdout
+    """The list of a source has each construct in its line, and none beside; a binary file is one sentence, at once."""
+    status, out, err = trial.tool("port.py", trial.put("l.cpp", LISTED))
     trial.check_equal("what is listed", {(int(line), construct) for line, construct in re.findall(r"^.*?:(\d+):\d+: (.*?): ", out, re.M)}, CONSTRUCTS)
-    before, after = context("tasks")
-    text = (before + KEPT + after).encode()
-    found = writing.mended(text).decode()
-    trial.check("an array with too few elements stays", "invoke<tapa::join, 1>(P, q).invoke(P, q).invoke(P, q)" in found, f"   {found}")
+    trial.check_equal("the status of a list", (status, err), (1, ""))
+    path = trial.put("binary.cpp", b"int x;\n" + bytes(range(256)) * 8000)
+    trial.check_equal("the list of a binary file", trial.tool("port.py", path), (1, "", f"tools/port.py: {path}:2: the byte 0x00 is not of a C++ source\n"))
+    status, out, _ = trial.tool("port.py", "examples/vector_add.cpp")
+    trial.check_equal("the list of a source that is accepted", (status, out), (0, ""))
 
 
 def try_all(trial):
-    try_mended(trial)
     try_listed(trial)
+    has_port = port.is_there(trial)
     for name in DESIGNS:
-        try_design(trial, name)
-        try_way(trial, name)
+        try_told(trial, name)
+        if has_port:
+            try_ported(trial, name)

@@ -2,19 +2,17 @@
 many bytes, where its reader goes away early or late, or where both outputs are full."""
 import os
 import pty
-import resource
 import socket
 import subprocess
 import threading
 
-from runner.groups.faults import REFUSED, WHOLE, is_told, put_files, put_large
+from runner import ends
+from runner.ends import is_told, is_unwritten
+from runner.groups.endings import STOPS
+from runner.groups.faults import REFUSED, WHOLE, put_files, put_large
 
 TOGETHER = 65_536
 
-STOPS = """void P(tapa::ostream<int>& q) { q << 1; q << 2; }
-void C(tapa::istream<int>& q) { q.open(); }
-void T() { tapa::stream<int, 1> q; tapa::task().invoke(P, q).invoke(C, q); }
-"""
 STOPPED = b"stream q: 1\nstopped 1\n"
 MESSAGES = b"tapa: P$0 waits to write q\ntapa: C$1 bad token on q\n"
 
@@ -119,50 +117,22 @@ def try_calls(trial):
 
 def try_cut(trial):
     """The output has room for so many bytes, at the ends of pieces and elsewhere: just these are written, and status 6 is told."""
-    path = os.path.join(trial.folder.name, "cut")
     for words in LONG:
         whole = trial.run(words).out
-        ends = {sum(map(len, in_pieces(whole)[:count])) for count in (1, 2, 3)}
-        for most in sorted({0, 1, 1_000, len(whole) - 1, len(whole)} | {end + step for end in ends for step in (-1, 0, 1) if end + step <= len(whole)}):
-            with open(path, "wb") as file:
-                said = trial.run(words, stdout=file, before=lambda: resource.setrlimit(resource.RLIMIT_FSIZE, (most, most)))
-            with open(path, "rb") as file:
-                said.out = file.read()
-            line = "tapa: cannot write\n" if most < len(whole) else ""
-            trial.check(f"the output has room for {most} bytes: {words}", is_told(said, 6 if line else 0, line, whole[:most]), f"   {said}")
-
-
-def read_front(trial, words, most):
-    """The answer where a reader takes so many bytes of the output and goes away; little has room on the way to it."""
-    ours, theirs = socket.socketpair()
-    ours.setsockopt(socket.SOL_SOCKET, socket.SO_RCVBUF, 1)
-    theirs.setsockopt(socket.SOL_SOCKET, socket.SO_SNDBUF, 1)
-    found = []
-
-    def listen():
-        while sum(map(len, found)) < most:
-            found.append(ours.recv(most - sum(map(len, found))))
-        ours.close()
-
-    listener = threading.Thread(target=listen)
-    listener.start()
-    said = trial.run(words, stdout=theirs)
-    theirs.close()
-    listener.join()
-    said.out = b"".join(found)
-    return said
+        borders = {sum(map(len, in_pieces(whole)[:count])) for count in (1, 2, 3)}
+        for most in sorted({0, 1, 1_000, len(whole) - 1, len(whole)} | {border + step for border in borders for step in (-1, 0, 1) if border + step <= len(whole)}):
+            said = ends.cut(trial, words, most)
+            is_right = is_unwritten(said, whole[:most]) if most < len(whole) else is_told(said, 0, "", whole)
+            trial.check(f"the output has room for {most} bytes: {words}", is_right, f"   {said}")
 
 
 def try_late(trial):
     """A reader goes away after 1,024 bytes; a pipe is full and does not wait. Where standard error fails too, the status tells it alone."""
     for words in LONG:
         whole = trial.run(words).out
-        said = read_front(trial, words, 1_024)
-        trial.check(f"a reader goes away: {words}", is_told(said, 6, "tapa: cannot write\n", whole[:1_024]), f"   {said}")
-        reader, writer = os.pipe()
-        os.close(reader)
-        said = trial.run(words, stdout=writer, stderr=writer)
-        os.close(writer)
+        said = ends.read_front(trial.run, words, 1_024)
+        trial.check(f"a reader goes away: {words}", is_unwritten(said, whole[:1_024]), f"   {said}")
+        said = ends.unread(trial, words, "stdout", "stderr")
         trial.check(f"nobody reads either: {words}", said.status == 6, f"   {said}")
     words = ["build", "l.cpp", "T"]
     reader, writer = os.pipe()
@@ -171,20 +141,18 @@ def try_late(trial):
     os.close(writer)
     with open(reader, "rb") as file:
         said.out = file.read()
-    trial.check("a full pipe that does not wait", said.out != b"" and is_told(said, 6, "tapa: cannot write\n", trial.run(words).out[:len(said.out)]), f"   {said}")
+    trial.check("a full pipe that does not wait", said.out != b"" and is_unwritten(said, trial.run(words).out[:len(said.out)]), f"   {said}")
 
 
 def try_untold(trial):
     """Where the report of a run that stops cannot be written, that is told, and none of its messages."""
-    if not os.path.exists("/dev/full"):
-        trial.note("there is no /dev/full here, so no full device was tried")
+    if not ends.has_full(trial):
         return
     for words in (["run", "s.cpp", "T"], ["cosim", "x.v", "d.json", "--cycles", "2"], *LONG):
-        with open("/dev/full", "wb") as full:
-            said = trial.run(words, stdout=full)
-            trial.check(f"the output is full: {words}", is_told(said, 6, "tapa: cannot write\n"), f"   {said}")
-            said = trial.run(words, stdout=full, stderr=full)
-            trial.check(f"both are full: {words}", said.status == 6, f"   {said}")
+        said = ends.full(trial, words, "stdout")
+        trial.check(f"the output is full: {words}", is_unwritten(said), f"   {said}")
+        said = ends.full(trial, words, "stdout", "stderr")
+        trial.check(f"both are full: {words}", said.status == 6, f"   {said}")
 
 
 def try_all(trial):

@@ -2,7 +2,7 @@
 import os
 import re
 
-from runner.trial import ROOT, read
+from runner.trial import ROOT, first_words, read, sources
 from vechaqir.show import svg
 
 TEXT = re.compile(r"<text ([^>]*)>([^<]*)</text>")
@@ -76,10 +76,8 @@ def try_finder(trial):
 
 def circuits(trial):
     """Name and text of the circuit of each example, of the features, and of one on two dies."""
-    for name in sorted(os.listdir(os.path.join(ROOT, "examples"))):
-        if name.endswith(".cpp"):
-            top = read(f"examples/{name}").split("\n")[0].split()[4]
-            yield name, trial.run(["build", f"examples/{name}", top], ROOT).out
+    for path in sources("examples"):
+        yield os.path.basename(path), trial.run(["build", *first_words(path)[:2]], ROOT).out
     yield "features.cpp", trial.run(["build", "tests/cases/circuits/features.cpp", "Top"], ROOT).out
     yield "two_ways.cpp on two dies", trial.run(["build", "examples/two_ways.cpp", "TwoWays", "--device", "examples/devices/two_dies.json"], ROOT).out
 
@@ -112,21 +110,19 @@ def try_floorplan(trial):
 
 def try_graph(trial):
     """The picture of README.md is what graph.py draws, and each example's circuit has a box for each task and an arrow for each stream."""
-    for name in sorted(os.listdir(os.path.join(ROOT, "examples"))):
-        if name.endswith(".cpp"):
-            source = f"examples/{name}"
-            top = read(source).split("\n")[0].split()[4]
-            text = trial.run(["build", source, top], ROOT).out.decode()
-            _, drawn, err = trial.tool("graph.py", trial.put("g.v", text))
-            joined = [len(re.findall(rf"^  {module}[\w$]+ {front}_[\w$]+ \(", text, re.M)) for module, front in (("t_", "t"), ("channel_", "c"))]
-            boxes = [len(re.findall(r'<rect [^>]*rx="4"', drawn)), drawn.count("marker-end=")]
-            trial.check(f"graph.py draws {name}", boxes == joined and joined[0] > 0, f"   {boxes} for {joined} {err}")
-            if name == "vector_add.cpp":
-                trial.check("docs/vector_add.svg is drawn by graph.py", drawn == read("docs/vector_add.svg"))
-            if name == "too_shallow.cpp":
-                told = trial.put("g.told", trial.run(["run", source, top], ROOT).err)
-                drawn = trial.tool("graph.py", trial.put("g.v", text), told)[1]
-                trial.check("docs/deadlock.svg is drawn by graph.py", drawn == read("docs/deadlock.svg") and "Producer$0 waits to write it" in drawn)
+    for source in sources("examples"):
+        name, top = os.path.basename(source), first_words(source)[1]
+        text = trial.run(["build", source, top], ROOT).out.decode()
+        _, drawn, err = trial.tool("graph.py", trial.put("g.v", text))
+        joined = [len(re.findall(rf"^  {module}[\w$]+ {front}_[\w$]+ \(", text, re.M)) for module, front in (("t_", "t"), ("channel_", "c"))]
+        boxes = [len(re.findall(r'<rect [^>]*rx="4"', drawn)), drawn.count("marker-end=")]
+        trial.check(f"graph.py draws {name}", boxes == joined and joined[0] > 0, f"   {boxes} for {joined} {err}")
+        if name == "vector_add.cpp":
+            trial.check("docs/vector_add.svg is drawn by graph.py", drawn == read("docs/vector_add.svg"))
+        if name == "too_shallow.cpp":
+            told = trial.put("g.told", trial.run(["run", source, top], ROOT).err)
+            drawn = trial.tool("graph.py", trial.put("g.v", text), told)[1]
+            trial.check("docs/deadlock.svg is drawn by graph.py", drawn == read("docs/deadlock.svg") and "Producer$0 waits to write it" in drawn)
 
 
 # A stream that takes two tokens in the cycles 1 and 2, and gives one in cycle 3.

@@ -3,11 +3,10 @@ makes the circuit as fast as it says."""
 import json
 import os
 import re
-import shlex
 
 from runner.groups import networks
 from runner.groups.names import LAYERS
-from runner.trial import ROOT, read
+from runner.trial import ROOT, first_words, read, sources
 
 # A worker that takes eight tokens before it gives any, beside a stream that is too shallow for them.
 SHALLOW = """void Give(tapa::ostream<int>& work, tapa::ostream<int>& past) {
@@ -64,12 +63,6 @@ def cycles_of(trial, text, data="{}", top="T"):
     trial.put("c.json", data)
     trial.put("c.v", trial.run(["build", "c.cpp", top]).out)
     return int(trial.run(["cosim", "c.v", "c.json"]).out.split()[-1])
-
-
-def try_example(trial, name):
-    """An example, by the words of its first line."""
-    text = read(f"examples/{name}")
-    try_sums(trial, name, shlex.split(text.split("\n")[0])[3:], "detach" in text)
 
 
 def try_sums(trial, name, words, has_detached):
@@ -164,7 +157,7 @@ def try_expected(trial):
         data = json.loads(read(f"examples/{name}.json"))
         data["scalars"] = {key: 3 if key == "mode" else count for key in data["scalars"]}
         data["memories"] = {key: [place % 97 for place in range(count + key.startswith("to_"))] for key in data["memories"]}
-        found = cycles_of(trial, read(f"examples/{name}.cpp"), json.dumps(data), read(f"examples/{name}.cpp").split("\n")[0].split()[4])
+        found = cycles_of(trial, read(f"examples/{name}.cpp"), json.dumps(data), first_words(f"examples/{name}.cpp")[1])
         trial.check_equal(f"the cycles of {name} with {count} elements", (found, found // count), (cycles, each))
 
 
@@ -186,9 +179,8 @@ def try_words(trial):
 
 
 def try_all(trial):
-    for name in sorted(os.listdir(os.path.join(ROOT, "examples"))):
-        if name.endswith(".cpp"):
-            try_example(trial, name)
+    for path in sources("examples"):
+        try_sums(trial, os.path.basename(path), first_words(path), "detach" in read(path))
     trial.put("gen.cpp", networks.network(LAYERS))
     try_sums(trial, "a network of 512 tasks", [os.path.join(trial.folder.name, "gen.cpp"), "Gen"], False)
     try_shallow(trial)

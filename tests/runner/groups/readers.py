@@ -1,11 +1,10 @@
 """The shared readers of `tools/vechaqir/`: the network that is read of a source, compared with the instances, ends of streams and widths in the circuit that is built of it;
 constants; and that any bytes can be read."""
-import os
 import random
 import re
 
 from runner.groups import arrays
-from runner.trial import ROOT, read
+from runner.trial import read, sources
 from vechaqir.language import kinds, lexemes, source
 
 # Constants of a source, and their numbers.
@@ -65,11 +64,10 @@ def try_network(trial, name, text, top):
 def try_networks(trial):
     """Sources of the examples, of tests, and made at random."""
     count = 0
-    for folder in ("examples", "tests/cases/circuits"):
-        for name in sorted(it for it in os.listdir(os.path.join(ROOT, folder)) if it.endswith(".cpp")):
-            text = read(f"{folder}/{name}").encode()
-            tops = [task.name for task in source.parse(text).tasks.values() if task.is_upper]
-            count += try_network(trial, name, text, tops[-1])
+    for path in sources("examples", "tests/cases/circuits"):
+        text = read(path).encode()
+        tops = [task.name for task in source.parse(text).tasks.values() if task.is_upper]
+        count += try_network(trial, path, text, tops[-1])
     for seed in range(40):
         text = arrays.Source(f"readers {seed}", most_changes=0).text().encode()
         count += try_network(trial, f"random source {seed}\n{text.decode()}", text, "T")

@@ -1,6 +1,7 @@
 """Runs that explanations make once more in Python (`tools/vechaqir/machine/untimed.py`), compared with the program: ticks, tokens, cells and the end of each example and of 120 networks made at random; and depths that end a deadlock."""
 import json
 import os
+from pathlib import Path
 
 from runner.groups.workers import Network
 from runner.trial import ROOT
@@ -84,8 +85,7 @@ def try_networks(trial):
 def try_depths(trial, name, path, given):
     """The depths that are said to end a run end it, and none of them may be less."""
     read = source.read(path)
-    with open(given, "rb") as file:
-        run = replay.given(read, source.network(read, "T"), file.read(), [path, "T", given])
+    run = replay.given(read, source.network(read, "T"), Path(given).read_bytes(), [path, "T", given])
     search = depths.Search(run)
     search.end += SECONDS
     found = search.least()

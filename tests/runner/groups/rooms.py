@@ -8,9 +8,8 @@ from runner import groups
 from runner.trial import ROOT, read
 from runner.write import lists, rooms
 
-# The most lines of a module and of a function, and the modules that are longer still; the list only gets shorter.
+# The most lines of a module and of a function.
 MODULE, FUNCTION = 300, 40
-LONG = {"tests/measure/speed.py", "tests/runner/groups/documents.py", "tests/runner/groups/editor.py", "tests/stress/faults.py", "tests/stress/floods.py"}
 
 
 def modules():
@@ -30,8 +29,7 @@ def try_rooms(trial):
 
 def try_sizes(trial):
     found = modules()
-    trial.check_equal(f"modules of more than {MODULE} lines", sorted(path for path, text in found.items() if text.count("\n") > MODULE and path not in LONG), [])
-    trial.check_equal("modules that are short by now", sorted(path for path in LONG & set(found) if found[path].count("\n") <= MODULE), [])
+    trial.check_equal(f"modules of more than {MODULE} lines", [path for path, text in found.items() if text.count("\n") > MODULE], [])
     functions = [(path, it) for path, text in found.items() for it in ast.walk(ast.parse(text)) if isinstance(it, ast.FunctionDef)]
     trial.check_equal(f"functions of more than {FUNCTION} lines", [f"{path}: {it.name}" for path, it in functions if it.end_lineno - it.lineno >= FUNCTION], [])
 
@@ -42,8 +40,7 @@ def try_pyflakes(trial):
         trial.note("pyflakes is not installed, so unused names were not looked for")
         return
     said = subprocess.run([flakes, "tools", "tests"], cwd=ROOT, capture_output=True, text=True, check=False).stdout.splitlines()
-    # the porting tool has unused names still
-    trial.check_equal("what pyflakes says", [line for line in said if not line.startswith("tools/vechaqir/port/")], [])
+    trial.check_equal("what pyflakes says", said, [])
 
 
 def try_all(trial):

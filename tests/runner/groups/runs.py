@@ -2,6 +2,7 @@
 import os
 import re
 import shlex
+from pathlib import Path
 
 from runner.trial import CASES, read
 
@@ -57,8 +58,7 @@ def text_of(lines):
 def try_command(trial, name, command, folder=None):
     said = trial.run(command.words, folder)
     if command.into:
-        with open(os.path.join(folder or trial.folder.name, command.into), "wb") as file:
-            file.write(said.out)
+        Path(folder or trial.folder.name, command.into).write_bytes(said.out)
         said.out = b""
     wanted = (command.status, text_of(command.out), text_of(command.err))
     told = f"   wanted:\n      status {command.status}\n{text_of(command.out + command.err).decode()}   got:\n      {said}"

@@ -3,6 +3,7 @@ import glob
 import os
 import random
 import subprocess
+from pathlib import Path
 
 from runner.trial import ROOT, read
 
@@ -45,8 +46,7 @@ def try_help(trial, path):
 def random_file(some, folder, number):
     """A file with pieces of what the tools read."""
     path = os.path.join(folder, f"{number}.{some.choice(['cpp', 'json', 'v', 'vcd', 'txt'])}")
-    with open(path, "wb") as file:
-        file.write("".join(some.choice(PIECES) for _ in range(some.randrange(40))).encode("latin-1"))
+    Path(path).write_bytes("".join(some.choice(PIECES) for _ in range(some.randrange(40))).encode("latin-1"))
     return path
 
 

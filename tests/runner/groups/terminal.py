@@ -6,6 +6,7 @@ import signal
 import subprocess
 import sys
 import time
+from pathlib import Path
 
 from runner.copied import repository, run_script
 from runner.groups.tools import EXPLAINED
@@ -76,8 +77,7 @@ def with_terminal(words, folder):
 
 def put_program(folder, text):
     path = f"{folder}/crates/tapa_cli/out/tapa_cli"
-    with open(path, "w", encoding="utf-8") as file:
-        file.write(text)
+    Path(path).write_text(text, encoding="utf-8")
     os.chmod(path, 0o755)
 
 
@@ -130,8 +130,7 @@ def try_asked(trial, folder, words, bare):
         is_shown = "      = tapa run SRC TOP [DATA] [--workers W] [--steps N]" in lines and any(line.startswith("      |   --steps N ") for line in lines) and lines[-1] == "      = docs/COMMAND.md"
         trial.check(f"./tapa --explain {' '.join(asked)} shows the commands with their words", (status, out, lines[0]) == (2, "", USAGE) and is_shown, f"   {status} {lines}")
         trial.check_equal(f"./tapa {' '.join(asked)} in a pipe", run_script(["./tapa", *asked], folder), (2, "", [USAGE]))
-    with open(f"{folder}/VERSION", "w", encoding="utf-8") as file:
-        file.write("1.2.3\n")
+    Path(f"{folder}/VERSION").write_text("1.2.3\n", encoding="utf-8")
     trial.check("./tapa --explain --version shows the version", "      = tapa 1.2.3" in run_script(["./tapa", "--explain", "--version"], folder)[2])
 
 
@@ -159,8 +158,7 @@ def try_unproved(trial):
     missing = run_script(words, folder, path="/usr/bin:/bin")
     trial.check("./tapa without the kit", missing[:2] == (125, "") and "Rattle kit" in missing[2][0], f"   {missing}")
     os.makedirs(f"{folder}/out/unproved")
-    with open(f"{folder}/out/unproved/stamp", "w", encoding="utf-8") as file:
-        file.write(os.path.abspath(trial.program) + "\n")
+    Path(f"{folder}/out/unproved/stamp").write_text(os.path.abspath(trial.program) + "\n", encoding="utf-8")
     said = run_script(words, folder)
     trial.check("./tapa says that what runs is unproved", said[:2] == (1, "") and said[2][0].startswith("tapa: UNPROVED: "), f"   {said}")
     trial.check_equal("./tapa with an unproved program tells what is told", said[2][1:], EXPLAINED.split("\n")[:1])

@@ -4,9 +4,10 @@ import os
 import re
 import shutil
 import subprocess
+from pathlib import Path
 
 from runner.copied import repository
-from runner.trial import ROOT, read
+from runner.trial import ROOT, first_words, read, sources
 
 EXPLAINED = """tapa: examples/refused/conditional_read.cpp:8:31: C8 operation in a conditional place
     8 |   while (!q.eot(nullptr) && q.peek(nullptr) == 0) { q.read(); }
@@ -85,13 +86,11 @@ def try_written_out(trial):
 
 def try_data_tools(trial):
     """A template is a data file without faults; signed.py shows each number by its kind."""
-    for name in sorted(os.listdir(os.path.join(ROOT, "examples"))):
-        if name.endswith(".cpp"):
-            source = f"examples/{name}"
-            top = read(source).split("\n")[0].split()[4]
-            _, made, err = trial.tool("template.py", source, top, "8")
-            said = trial.run(["run", source, top, trial.put("t.json", made), "--steps", "10000"], ROOT)
-            trial.check(f"the template of {name} is a data file of it", said.status in (0, 7, 8), f"   {said} {err}")
+    for source in sources("examples"):
+        top = first_words(source)[1]
+        _, made, err = trial.tool("template.py", source, top, "8")
+        said = trial.run(["run", source, top, trial.put("t.json", made), "--steps", "10000"], ROOT)
+        trial.check(f"the template of {source} is a data file of it", said.status in (0, 7, 8), f"   {said} {err}")
     for words, status, part in ((["examples/vector_add.cpp", "Add"], 1, "Add invokes no task, so it is no top task: examples/vector_add.cpp has VecAdd"), (["examples/vector_add.cpp", "VecAdd", "65537"], 2, "CELLS: 65537 is no")):
         said = trial.tool("template.py", *words)
         trial.check(f"template.py {' '.join(words)}", said[:2] == (status, "") and part in said[2], f"   {said}")
@@ -128,8 +127,7 @@ def try_editors(trial):
     for name in ("tools/editors/tapa.vim", "w.cpp"):
         os.makedirs(os.path.dirname(f"{folder}/{name}"), exist_ok=True)
     shutil.copy(os.path.join(ROOT, "tools/editors/tapa.vim"), f"{folder}/tools/editors/tapa.vim")
-    with open(f"{folder}/w.cpp", "w", encoding="utf-8") as file:
-        file.write(ARRAYS)
+    Path(f"{folder}/w.cpp").write_text(ARRAYS, encoding="utf-8")
     words = ["vim", "-u", "NONE", "-es", "-S", f"{folder}/tools/editors/tapa.vim", "+silent make w.cpp T"]
     words += [f"+call writefile([expand('%:t') . ' ' . line('.') . ' ' . col('.')], '{told}')", "+qa!"]
     subprocess.run(words, cwd=folder, stdin=subprocess.DEVNULL, capture_output=True, timeout=20, check=False)

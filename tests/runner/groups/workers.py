@@ -5,6 +5,7 @@ import os
 import random
 import subprocess
 import time
+from pathlib import Path
 
 COUNT = 200
 WORKERS = ("2", "3", "64")
@@ -124,8 +125,7 @@ def times_of(process):
     found = {}
     try:
         for thread in os.listdir(f"/proc/{process.pid}/task"):
-            with open(f"/proc/{process.pid}/task/{thread}/schedstat", encoding="ascii") as file:
-                found[thread] = int(file.read().split()[0])
+            found[thread] = int(Path(f"/proc/{process.pid}/task/{thread}/schedstat").read_text(encoding="ascii").split()[0])
     except (OSError, ValueError, IndexError):
         pass
     return found

@@ -2,6 +2,7 @@
 import os
 import re
 import subprocess
+from pathlib import Path
 
 from runner.trial import ROOT
 
@@ -48,8 +49,7 @@ def ports_of(text):
 
 def hand_text(name):
     """The RTL by hand of a leaf task."""
-    with open(os.path.join(FOLDER, f"{name}.v"), encoding="utf-8") as file:
-        return file.read()
+    return Path(FOLDER, f"{name}.v").read_text(encoding="utf-8")
 
 
 def choice(bits, name):
@@ -92,8 +92,7 @@ def compare(circuit, name, folder, cycles, seed=1):
     """What Icarus Verilog says of a task's printed module, out of the text of a circuit, next to its RTL by hand."""
     printed = module_of(circuit, f"t_{name}")
     path, program = os.path.join(folder, f"{name}_bench.v"), os.path.join(folder, f"{name}_bench")
-    with open(path, "w", encoding="utf-8") as file:
-        file.write(printed + hand_text(name) + bench(ports_of(printed), name, cycles, seed))
+    Path(path).write_text(printed + hand_text(name) + bench(ports_of(printed), name, cycles, seed), encoding="utf-8")
     built = subprocess.run(["iverilog", "-g2005", "-o", program, path], capture_output=True, text=True, check=False)
     if built.returncode:
         return built.stderr

@@ -3,8 +3,9 @@ import os
 import re
 import resource
 import signal
+from pathlib import Path
 
-from runner.groups.documents import messages
+from runner.groups.messages import messages
 from runner.trial import read
 
 # What stands for the case's own words in a message; `told` has the file that it names.
@@ -57,8 +58,7 @@ class Caller:
     def put(self, name, text):
         if self.texts.get(name) != text:
             self.texts[name] = text
-            with open(name, "wb") as file:
-                file.write(text)
+            Path(name).write_bytes(text)
 
     def call(self, words):
         """The answer to these words; the outputs go to files of the folder."""
@@ -72,8 +72,7 @@ class Caller:
         signal.setitimer(signal.ITIMER_REAL, 0)
         outputs = []
         for name in (".out", ".err"):
-            with open(name, "rb") as file:
-                outputs.append(file.read())
+            outputs.append(Path(name).read_bytes())
         return Answer(os.waitstatus_to_exitcode(status), outputs, self.is_stopped, used)
 
 

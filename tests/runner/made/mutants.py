@@ -180,3 +180,22 @@ def tree(some, text, _):
         else:
             above[last] = value(some)
     return json.dumps(it, ensure_ascii=some.random() < 0.5).encode()
+
+
+# A value of a device file that is at a bound of its range, or one past it.
+AT_BOUNDS = {"rows": [0, 1, 16, 17], "cols": [0, 1, 16, 17], "percent": [0, 1, 100, 101], "version": [0, 1, 2, 3], "levels": [0, 1, 16, 17], "LUT": [0, 2**32 - 1, 2**32], "FF": [0, 2**32 - 1, 2**32]}
+
+
+def at_bounds(some, device):
+    """A device file with one number at a bound, and lists that are one too short or too long for it."""
+    try:
+        tree = json.loads(device)
+    except ValueError:
+        return device
+    spots = [(it, key) for it in [tree, *tree.get("slots", []), *tree.get("tasks", {}).values()] if isinstance(it, dict) for key in AT_BOUNDS if key in it or it is tree]
+    it, key = some.choice(spots)
+    it[key] = some.choice(AT_BOUNDS[key])
+    for name in ("slots", "levels_rows", "levels_cols", "forbidden"):
+        if isinstance(tree.get(name), list) and tree[name] and some.random() < 0.2:
+            tree[name] = some.choice([tree[name][:-1], tree[name] + tree[name][-1:]])
+    return json.dumps(tree).encode()

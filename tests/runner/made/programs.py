@@ -85,3 +85,66 @@ def by_phases(tokens, turns, rounds):
         f"void A({ends}) {{ {start}q << x; x = x + p.read(); {end} }}\nvoid B({ends}) {{ {start}x = x + p.read(); q << x; {end} }}\n"
         "void Top() { tapa::stream<int, 1> a; tapa::stream<int, 1> b; tapa::task().invoke(A, a, b).invoke(B, b, a); }\n"
     )
+
+
+def pair(count, rounds):
+    """Two tasks with so many streams from the one to the other."""
+    writes = "".join(f"s{at} << i; " for at in range(count))
+    reads = "".join(f"s{at}.read(); " for at in range(count))
+    outs = ", ".join(f"tapa::ostream<int>& s{at}" for at in range(count))
+    ins = ", ".join(f"tapa::istream<int>& s{at}" for at in range(count))
+    streams = "".join(f"tapa::stream<int, 2> s{at}; " for at in range(count))
+    bound = ", ".join(f"s{at}" for at in range(count))
+    return (
+        f"void P({outs}) {{ for (int i = 0; i < {rounds}; ++i) {{ {writes}}} }}\n"
+        f"void C({ins}) {{ for (int i = 0; i < {rounds}; ++i) {{ {reads}}} }}\n"
+        f"void Top() {{ {streams}tapa::task().invoke(P, {bound}).invoke(C, {bound}); }}\n"
+    )
+
+
+def queue(depth, tokens):
+    """A task that is held up on its output, behind a stream of a depth."""
+    return (
+        f"void P(tapa::ostream<int>& q) {{ for (int i = 0; i < {tokens}; ++i) q << i; }}\n"
+        f"void M(tapa::istream<int>& p, tapa::ostream<int>& q) {{ for (int i = 0; i < {tokens}; ++i) q << p.read(); }}\n"
+        f"void C(tapa::istream<int>& q) {{ for (int i = 0; i < {tokens}; ++i) q.read(); }}\n"
+        f"void Top() {{ tapa::stream<int, {depth}> a; tapa::stream<int, 1> b; tapa::task().invoke(P, a).invoke(M, a, b).invoke(C, b); }}\n"
+    )
+
+
+def uneven(turns, tokens):
+    """A chain of tasks that pass tokens on, each after so many turns of its own."""
+    ends, tasks, calls = len(turns) - 1, "", ""
+    for at, count in enumerate(turns):
+        ports = ["tapa::istream<int>& p"] * (at > 0) + ["tapa::ostream<int>& q"] * (at < ends)
+        first, last = ("p.read()" if at > 0 else "i"), ("q << x; " if at < ends else "")
+        tasks += f"void S{at}({', '.join(ports)}) {{ for (int i = 0; i < {tokens}; ++i) {{ int x = {first}; for (int k = 0; k < {count}; ++k) {{ x = x * 5 + k; }} {last}}} }}\n"
+        bound = [f"s{at - 1}"] * (at > 0) + [f"s{at}"] * (at < ends)
+        calls += f".invoke(S{at}, {', '.join(bound)})"
+    streams = " ".join(f"tapa::stream<int, 16> s{at};" for at in range(ends))
+    return f"{tasks}void Top() {{ {streams} tapa::task(){calls}; }}\n"
+
+
+def one_heavy(turns, tasks, tokens):
+    """A task that makes turns beside a chain of light ones."""
+    busy = f"void B() {{ int x = 1; for (int i = 0; i < {turns}; ++i) {{ x = x * 5 + i; }} }}\n"
+    return busy + uneven([0] * tasks, tokens).replace("tapa::task()", "tapa::task().invoke(B)")
+
+
+def random_network(some):
+    """A network of random tasks and streams: its source, top task, data and a random device for it."""
+    count = some.choice([1, 2, 3, 5, 8, 13, 21, 22, 23, 40]) if some.random() < 0.97 else some.choice([200, 512])
+    streams = []
+    for _ in range(some.randint(0, 2 * count) if count > 1 else 0):
+        ends = some.sample(range(count), 2)
+        streams.append((*(sorted(ends) if some.random() < 0.95 else ends), some.choice(["bool", "uint8_t", "int16_t", "int", "uint64_t"])))
+    rows, cols = some.choice([(1, 1), (2, 1), (2, 2), (4, 1), (3, 2), (8, 4)])
+    uses = [some.randint(0, 30) for _ in range(count)]
+    more = {}
+    if some.random() < 0.5:
+        more = {"version": 2, "levels_rows": [some.randint(0, 16) for _ in range(rows - 1)], "levels_cols": [some.randint(0, 16) for _ in range(cols - 1)]}
+        more["forbidden"] = [[some.randrange(rows), some.randrange(cols)] for _ in range(some.choice([0, 0, 1, 3]))]
+    pins = {f"T{task}${task}": [some.randrange(rows), some.randrange(cols)] for task in range(count) if some.random() < 0.2}
+    capacity = max(1, int(sum(uses) / rows / cols * some.choice([0.9, 1.1, 1.5, 3])))
+    given = device(rows, cols, capacity, uses, pins=pins, **more)
+    return network(count, streams).encode(), "T", b"{}", given.encode()

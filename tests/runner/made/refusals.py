@@ -8,8 +8,9 @@ import concurrent.futures
 import os
 import shutil
 import subprocess
+from pathlib import Path
 
-from runner.trial import Said
+from runner.trial import answer
 
 SECONDS = 30
 
@@ -91,11 +92,7 @@ def library(trial):
 
 def call(trial, words, environment):
     """What the program answers to these words in this environment."""
-    try:
-        ran = subprocess.run([trial.program, *words], cwd=trial.folder.name, stdin=subprocess.DEVNULL, capture_output=True, timeout=SECONDS, env=environment, check=False)
-    except subprocess.TimeoutExpired:
-        return Said("none: it had not ended", b"", b"")
-    return Said(ran.returncode, ran.stdout, ran.stderr)
+    return answer([trial.program, *words], cwd=trial.folder.name, timeout=SECONDS, env=environment)
 
 
 def allocations(trial, refuser, words):
@@ -106,8 +103,7 @@ def allocations(trial, refuser, words):
     call(trial, words, {"LD_PRELOAD": refuser, "REFUSE_COUNT": count})
     if not os.path.exists(count):
         return 0
-    with open(count, encoding="utf-8") as file:
-        return int(file.read())
+    return int(Path(count).read_text(encoding="utf-8"))
 
 
 def is_allowed(said, usual):
@@ -124,12 +120,12 @@ def try_line(trial, refuser, words, each, statuses):
     trial.check(f"the allocations of {' '.join(words)} are counted", count > 0, f"   {usual}")
     tries = [(at, after) for at in range(0, count, each) for after in ([False, True] if at // each % 5 == 0 else [False])]
 
-    def answer(this):
+    def refused(this):
         at, after = this
         return call(trial, words, {"LD_PRELOAD": refuser, "REFUSE_AT": str(at), **({"REFUSE_AFTER": "1"} if after else {})})
 
     with concurrent.futures.ThreadPoolExecutor(os.cpu_count() or 1) as pool:
-        for (at, after), said in zip(tries, pool.map(answer, tries)):
+        for (at, after), said in zip(tries, pool.map(refused, tries)):
             statuses[words[0], said.status] += 1
             trial.check(f"allocation {at} of {count} is refused{' with all after it' if after else ''}: {' '.join(words)}", is_allowed(said, usual), f"   {said}")
     return len(tries)

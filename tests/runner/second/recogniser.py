@@ -29,7 +29,6 @@ class State(NamedTuple):
 
 # A reading of a part: the number of its state, the lexeme that it begins with, and what stands around it.
 Item = Tuple[int, int, Around]
-TextPlace = Tuple[int, int]
 
 
 def first_lexemes(of: grammar.Grammar) -> Dict[str, Set[str]]:

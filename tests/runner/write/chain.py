@@ -2,7 +2,7 @@
 
 Each box has a sentence, and the name of its theorem or definition with its crate. The runner checks that the picture is this one and that each name is in its crate.
 """
-import os
+from pathlib import Path
 from typing import NamedTuple
 
 from runner.trial import ROOT
@@ -38,7 +38,7 @@ class Box(NamedTuple):
 BOXES = {
     "tapa": Box(0, 6, 0, ("each answer of the program is what its files mean,", "or has its cause"), "tapa", "tapa_drive", BLUE),
     "run": Box(0, 2, 1, ("a run reports the streams", "and the end of its network"), "DoneRun", "run_program"),
-    "circuit": Box(2, 2, 1, ("the text is that of a circuit, which", "carries the streams in every run"), "IsCircuitOf", "hw_top"),
+    "circuit": Box(2, 2, 1, ("the text is that of a circuit, which", "carries the streams in every run"), "IsCircuitOf", "circuit_meaning"),
     "cosim": Box(4, 2, 1, ("a simulation reports", "the design's one run"), "IsSimulated", "sim_output"),
     "settle": Box(0, 1, 2, ("any order gives", "the outcome"), "settle", "net_core"),
     "lower": Box(1, 1, 2, ("a machine makes", "its task's ticks"), "lower", "task_fsm"),
@@ -92,6 +92,5 @@ def main(words):
     """Draws the picture anew."""
     if words:
         return 2
-    with open(os.path.join(ROOT, PICTURE), "w", encoding="utf-8") as file:
-        file.write("\n".join(drawing()) + "\n")
+    Path(ROOT, PICTURE).write_text("\n".join(drawing()) + "\n", encoding="utf-8")
     return 0

@@ -5,6 +5,7 @@ The runner checks that the lists there are these.
 """
 import os
 import re
+from pathlib import Path
 
 from runner.trial import ROOT
 from runner.write import lists
@@ -27,8 +28,7 @@ def what_it_is(crate):
     for name in ("lib.rt", "main.rt"):
         path = os.path.join(ROOT, "crates", crate, "src", name)
         if os.path.exists(path):
-            with open(path, encoding="utf-8") as file:
-                lines = file.read().splitlines()
+            lines = Path(path).read_text(encoding="utf-8").splitlines()
             comment = []
             for line in lines:
                 if not line.startswith("//"):
@@ -63,8 +63,7 @@ def theorems(crate):
     count = 0
     for at, _, names in os.walk(os.path.join(ROOT, "crates", crate, "src")):
         for name in names:
-            with open(os.path.join(at, name), encoding="utf-8") as file:
-                count += len(re.findall(r"^pub fn law_\w+\(", file.read(), re.M))
+            count += len(re.findall(r"^pub fn law_\w+\(", Path(at, name).read_text(encoding="utf-8"), re.M))
     return count
 
 

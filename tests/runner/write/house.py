@@ -2,8 +2,8 @@
 
 The runner refuses what is not in tests/runner/exceptions.txt, and what there holds no more.
 """
-import os
 import sys
+from pathlib import Path
 
 from runner.groups import house
 from runner.trial import ROOT, read
@@ -22,8 +22,7 @@ def main(words):
                 gone.remove(line)
             else:
                 kept.append(line)
-        with open(os.path.join(ROOT, house.EXCEPTIONS), "w", encoding="utf-8") as file:
-            file.write("\n".join(kept) + "\n")
+        Path(ROOT, house.EXCEPTIONS).write_text("\n".join(kept) + "\n", encoding="utf-8")
         return 0
     print("\n".join(are))
     kinds = [line.split()[0] for line in are]

@@ -1,6 +1,6 @@
 """Lists that pages have of what is in the repository, each between two comments: `tests/run.py write NAME` writes them, and the runner checks that they are so."""
-import os
 import re
+from pathlib import Path
 
 from runner.trial import ROOT, read
 
@@ -21,8 +21,7 @@ def put(page, name, text):
     before, _, after = read(page).partition(begin(name))
     if not after:
         raise ValueError(f"{page} has no place for the list {name}")
-    with open(os.path.join(ROOT, page), "w", encoding="utf-8") as file:
-        file.write(before + begin(name) + text + END + after.partition(END)[2])
+    Path(ROOT, page).write_text(before + begin(name) + text + END + after.partition(END)[2], encoding="utf-8")
 
 
 def sentence(text):

@@ -1,5 +1,6 @@
 """Records what is shown of the mistakes in tests/cases/mistakes: the files are written anew, to be read before they are kept."""
 import os
+from pathlib import Path
 
 from runner.trial import Trial
 
@@ -14,7 +15,6 @@ def main(words):
     trial.begin("mistakes")
     for path in mistakes.paths():
         found = [mistake.text(mistakes.shown_of(trial, mistake)) for mistake in mistakes.mistakes(path)]
-        with open(path, "w", encoding="utf-8") as file:
-            file.write("".join(found))
+        Path(path).write_text("".join(found), encoding="utf-8")
     trial.folder.cleanup()
     return 0

@@ -2,7 +2,7 @@
 
 It is run after a change of what `build` prints or of a source there; the texts by hand that stand in front stay as they are. The runner checks that both files are so.
 """
-import os
+from pathlib import Path
 
 from runner.groups import reference
 from runner.trial import ROOT, Trial
@@ -13,6 +13,5 @@ def main(words):
     if len(words) != 1:
         return 2
     for path, text in zip((reference.STDIN, reference.STDOUT), reference.files(Trial(words[0]))):
-        with open(os.path.join(ROOT, path), "w", encoding="utf-8") as file:
-            file.write(text)
+        Path(ROOT, path).write_text(text, encoding="utf-8")
     return 0

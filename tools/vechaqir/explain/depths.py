@@ -1,5 +1,5 @@
 """The least depths with which a run that stops comes to its end, if there are such."""
-import time
+import os
 from typing import Dict, List, Optional
 
 from ..host.program import NoProgram, Program, TimedOut
@@ -9,21 +9,28 @@ from . import pages
 from .replay import ALL, Given, replay
 
 DEEPEST, TICKS = 4_096, 20_000_000
+# The most seconds of CPU time, and of wall-clock time, of the program's own run with the depths that are found.
+CPU, WALL = 1, 20.0
 Depths = Dict[Declared, int]
 
 
+def cpu_seconds() -> float:
+    """The CPU time of this process and of the programs that it has called."""
+    return sum(os.times()[:4])
+
+
 class Search:
-    """The search of depths for one run, within a second."""
+    """The search of depths for one run, within a second of CPU time: a loaded machine gives the same answer."""
 
     def __init__(self, run: Given) -> None:
-        self.run, self.end = run, time.monotonic() + ALL
+        self.run, self.end = run, cpu_seconds() + ALL
         self.names = declarations(run.source, run.network.top)
         self.own: Depths = {self.names[it.name]: it.depth or 2 for it in run.network.streams}
         self.is_late = False
 
     def outcome(self, depths: Depths) -> Optional[Outcome]:
         """The run with these depths; None if there is no time for it."""
-        left = self.end - time.monotonic()
+        left = self.end - cpu_seconds()
         flat = {name: depths[declared] for name, declared in self.names.items() if declared in depths}
         found = replay(self.run, TICKS, left, flat) if left > 0 else None
         self.is_late = self.is_late or found is None or found.end == "limit"
@@ -88,6 +95,6 @@ def is_confirmed(run: Given, depths: Depths, program: Optional[Program]) -> bool
         return True
     try:
         words = ["run", "/dev/stdin", run.network.top] + ([run.data] if run.data else [])
-        return program.call(words, with_depths(run.source, depths), ALL).status == 0
+        return program.call(words, with_depths(run.source, depths), WALL, CPU).status == 0
     except (NoProgram, TimedOut):
         return False

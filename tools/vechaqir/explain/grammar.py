@@ -6,22 +6,20 @@ from ..language import kinds, lexemes, patterns
 from ..language.matching import matches
 from . import pages, reasons
 from .base import Case, Why, counted, listed
+from .own import own_word, refused
 
 FROM_TAPA = "docs/FROM_TAPA.md"
 ENDS = ("number", "name", "text")
 PAIRS = "brackets come in pairs, and the first that is left open ends at the end of the file"
 WHOLE = "a statement is read as a whole, up to its end"
 QUALIFIED = "the words of TAPA are in the namespace `tapa`"
-SIZES = ("a computed size", "a size that is not written")
-QUALIFIERS = ("tapa", "std", "const", "hls")
 TYPES = ("istream", "ostream", "stream", "streams", "mmap")
 
 
 def of_row(construct: str, before: Optional[List[str]] = None, word: str = "") -> Why:
     """What the row of a construct says; `word` is what the source itself calls it."""
     row = pages.rows().get(construct)
-    is_list = re.fullmatch(r"`[^`]+`(, `[^`]+`)*", construct) and f"`{word}`" in construct
-    what = f"`{word}` is not in the language" if is_list else f"{construct} is not in the language" if f"`{word}`" in construct else f"`{word}`: {construct} is not in the language" if word else f"{construct} is not in the language"
+    what = refused(construct, word)
     reason = reasons.of("", construct)
     if row is None:
         return Why([what, *(before or [])], reason=reason)
@@ -34,32 +32,10 @@ def found_row(case: Case) -> Optional[Why]:
     return of_row(pattern.construct, named(case, pattern.construct), own_word(case, pattern.construct)) if pattern else None
 
 
-def own_word(case: Case, construct: str) -> str:
-    """What the source calls a construct: a word of it, the name that an item declares, a number, or the name next to it."""
-    view, at = case.view, case.at
-    quoted = [it for it in (at, at - 1, at + 1, at + 2) if f"`{view.text(it)}`" in construct and view.text(it)]
-    if quoted:
-        return view.text(quoted[0])
-    item = next((it for it in view.items if it.begin <= at < it.end), None)
-    if item and item.name and item.kind != "task" and view.regions[at] in ("file", "other"):
-        return "" if item.name in QUALIFIERS else item.name
-    if construct in SIZES and view.is_name((view.enclosing(at) or 0) - 1):
-        return view.text((view.enclosing(at) or 0) - 1)
-    if view.kind(at) == "number":
-        return view.text(at)
-    if view.text(at) == "." and view.kind(at + 1) == "number":
-        return f"{view.text(at - 1) if view.kind(at - 1) == 'number' else ''}.{view.text(at + 1)}"
-    left = at - (view.text(at) == "(")
-    while left > at - 5 and view.text(left) not in (";", "{", "}", "(", ",") and not (view.is_name(left) and view.text(left) not in QUALIFIERS):
-        left -= 1
-    names = [it for it in (left, at + 1, at + 2) if view.is_name(it) and view.text(it) not in QUALIFIERS]
-    return view.text(names[0]) if names and len(view.text(names[0])) <= 40 else ""
-
-
 def named(case: Case, construct: str) -> List[str]:
     """What the source itself says of a construct."""
     view, at = case.view, case.at
-    if construct in ("a kind by another name", "a field"):
+    if construct in ("a type by another name", "a field"):
         word = next((view.text(it) for it in (at - 1, at) if view.text(it) in view.structs | view.aliases), "")
         return [f"`{word}` is a {'struct' if word in view.structs else 'name'} that this source declares"] * bool(word)
     if construct == "a function":

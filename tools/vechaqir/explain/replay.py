@@ -8,7 +8,7 @@ from ..language.network import Network
 from ..language.source import Source
 from ..machine.untimed import ENDED, WRITES, Outcome, Running, Untimed
 
-# Seconds of one run here, and of all runs of one explanation.
+# Seconds of CPU time of one run here, and of all runs of one explanation.
 SECONDS, ALL = 0.8, 1.0
 
 
@@ -35,7 +35,7 @@ def given(source: Optional[Source], network: Optional[Network], text: Optional[b
 
 
 def replay(run: Given, most: int, seconds: float = SECONDS, depths: Optional[Mapping[str, int]] = None) -> Optional[Outcome]:
-    """The run for at most so many ticks and seconds; None if it cannot be made here."""
+    """The run for at most so many ticks and seconds of CPU time; None if it cannot be made here."""
     try:
         return Untimed(run.source, run.network, run.scalars, run.memories, depths).run(most, seconds)
     except (ValueError, LookupError, TypeError, MemoryError, RecursionError, SyntaxError):

@@ -1,6 +1,7 @@
 """Data files (docs/DATA.md): the scalars and memories of a run, and in which cycles a circuit's memories are ready."""
 import json
 from dataclasses import dataclass, field
+from pathlib import Path
 from typing import Dict, List, Protocol, Sequence
 
 
@@ -51,8 +52,7 @@ def parse(text: str, name: str = "{}") -> Data:
 
 def read(path: str) -> Data:
     """The data of a file. Raises OSError and BadData."""
-    with open(path, "rb") as file:
-        text = file.read()
+    text = Path(path).read_bytes()
     try:
         return parse(text.decode(), path)
     except UnicodeDecodeError as error:
@@ -76,8 +76,7 @@ def text_of(data: Data) -> str:
 
 def write(path: str, data: Data) -> None:
     """Writes a data file. Raises OSError."""
-    with open(path, "w", encoding="utf-8") as file:
-        file.write(text_of(data))
+    Path(path).write_text(text_of(data), encoding="utf-8")
 
 
 def template(task: _Task, cells: int = 4) -> Data:

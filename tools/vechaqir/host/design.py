@@ -1,8 +1,10 @@
 """A design as scripts and tests have it: it is checked, run, built, simulated and planned by calls of the program `tapa`, and called as a function."""
+import importlib
 import json
 import os
 import tempfile
 from dataclasses import dataclass
+from pathlib import Path
 from typing import Any, Dict, List, Mapping, Optional, Sequence, Tuple, Union
 
 from ..language import source
@@ -47,14 +49,14 @@ class Interface:
         bits = {name: taken(given, f"ready[{name!r}]") for name, given in ready.items()}
         return data.text_of(data.Data(numbers, cells, bits)).encode()
 
-    def result(self, outcome: Outcome, given: bytes, is_run: bool, proved: bool) -> Result:
-        """The result of a call of `run` or `cosim` with these data, or its exception."""
-        call = Call(self.src, self.top, given)
+    def result(self, outcome: Outcome, given: bytes, program: Program, circuit: str = "") -> Result:
+        """The result of a call of `run` with these data, or of `cosim` with a circuit too, or its exception."""
+        call, is_run = Call(self.src, self.top, given, program=program, circuit=circuit), not circuit
         if outcome.status not in (DONE, PAST_LIMIT, STOPPED):
             raise refused_or_failed(outcome, call)
         raw = report.parse(outcome.out.decode(), outcome.err.decode("utf-8", "replace"))
         shown = report.with_signs(raw, shapes(self.streams), shapes(self.memories))
-        result = Result(shown.streams, shown.memories, shown.count if is_run else None, None if is_run else shown.count, proved, self.memories)
+        result = Result(shown.streams, shown.memories, shown.count if is_run else None, None if is_run else shown.count, program.proved, self.memories, call)
         if outcome.status == STOPPED:
             raise Stopped(outcome, result, shown.waiting, call)
         if outcome.status == PAST_LIMIT:
@@ -99,12 +101,11 @@ class Circuit:
             path = os.path.join(folder, "circuit.v")
             self.write(path)
             outcome = self.program.call(["cosim", path, GIVEN, *no_options(cycles, "--cycles")], given)
-        return self.interface.result(outcome, given, False, self.program.proved)
+        return self.interface.result(outcome, given, self.program, self.text)
 
     def write(self, path: str) -> None:
         """Writes the Verilog text. Raises OSError."""
-        with open(path, "w", encoding="utf-8") as file:
-            file.write(self.text)
+        Path(path).write_text(self.text, encoding="utf-8")
 
 
 class Design:
@@ -118,6 +119,14 @@ class Design:
 
     def __repr__(self) -> str:
         return f"Design({self.src!r}, {self.top!r})"
+
+    def _repr_html_(self) -> str:
+        """What a notebook shows: the network, and a table of its streams."""
+        return str(importlib.import_module("vechaqir.show.notebook").design_html(self.src, self.top))
+
+    def _repr_svg_(self) -> str:
+        """The network as a picture."""
+        return str(importlib.import_module("vechaqir.show.notebook").network_svg(self.src, self.top))
 
     def _read(self) -> Interface:
         """What the source says of its top task; nothing of a top that is not there, which the program refuses."""
@@ -140,7 +149,7 @@ class Design:
         interface = self._read()
         words = ["run", self.src, self.top, GIVEN, *no_options(workers, "--workers"), *no_options(steps, "--steps")]
         given = interface.data(scalars, memories, {})
-        return interface.result(self.program.call(words, given), given, True, self.program.proved)
+        return interface.result(self.program.call(words, given), given, self.program)
 
     def build(self, device: Optional[Device] = None, plan: str = "fit", balance: bool = True) -> Circuit:
         """The circuit: for a device with the registers of its floorplan, which is found by `fit`, `exact` or `split`, and with their balance. Raises

@@ -8,6 +8,7 @@ from __future__ import annotations
 import copy
 import json
 from dataclasses import dataclass, field
+from pathlib import Path
 from typing import Any, Dict, List, Mapping, Optional, Tuple, Union
 
 RESOURCES = ("LUT", "FF", "BRAM", "DSP", "URAM")
@@ -163,8 +164,7 @@ def _slot_place(given: Any) -> SlotPlace:
 
 def read(path: str) -> Device:
     """The device of a file. OSError where it cannot be read, DeviceFault where it describes no device."""
-    with open(path, "rb") as file:
-        return parse(file.read())
+    return parse(Path(path).read_bytes())
 
 
 def one_slot(tasks: Optional[Mapping[str, Amounts]] = None) -> Device:

@@ -20,7 +20,6 @@ class Net(NamedTuple):
 
     name: str
     width: int
-    is_register: bool
     key: str
 
 
@@ -50,7 +49,7 @@ class Dump:
                 scopes.pop()
             elif words[0] == "$var" and len(words) > 4 and words[2].isdecimal():
                 name = ".".join([*scopes, words[4].lstrip("\\")])
-                self.nets[name] = Net(name, int(words[2]), words[1] == "reg", words[3])
+                self.nets[name] = Net(name, int(words[2]), words[3])
             elif words[0] == "$enddefinitions":
                 return
             elif words[0] not in ("$timescale", "$date", "$version", "$comment"):

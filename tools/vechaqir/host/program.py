@@ -1,10 +1,13 @@
 """The program `tapa`: where it is, whether it is the proved one, and how it is called."""
 import os
+import resource
 import shutil
+import signal
 import subprocess
 import sys
 from dataclasses import dataclass
-from typing import List, NamedTuple, Optional, Sequence
+from pathlib import Path
+from typing import List, NamedTuple, Optional, Sequence, Tuple
 
 from .faults import Fault
 
@@ -35,35 +38,49 @@ class Program:
     path: str
     proved: bool
 
-    def call(self, words: Sequence[str], input: bytes = b"", timeout: Optional[float] = None) -> Outcome:
-        """Runs the program with these words and this standard input, for at most `timeout` seconds.
+    def call(self, words: Sequence[str], input: bytes = b"", timeout: Optional[float] = None, cpu: Optional[int] = None) -> Outcome:
+        """Runs the program with these words and this standard input, for at most `timeout` seconds of wall-clock time and `cpu` seconds of CPU time.
 
-        Raises NoProgram where it cannot be started, and TimedOut.
+        Raises NoProgram if it cannot be started, and TimedOut.
         """
         try:
-            ran = subprocess.run([self.path, *words], input=input, stdout=subprocess.PIPE, stderr=subprocess.PIPE, timeout=timeout, check=False)
+            with subprocess.Popen([self.path, *words], stdin=subprocess.PIPE, stdout=subprocess.PIPE, stderr=subprocess.PIPE) as ran:
+                out, err = self._answer(ran, input, timeout, cpu)
         except subprocess.TimeoutExpired as late:
             raise TimedOut(f"{self.path} {' '.join(words)}: not ended after {late.timeout:g} seconds") from None
         except (OSError, ValueError) as error:
             raise NoProgram(f"{self.path}: {error}") from None
-        return Outcome(ran.returncode, ran.stdout, ran.stderr)
+        if cpu is not None and ran.returncode in (-signal.SIGXCPU, -signal.SIGKILL):
+            raise TimedOut(f"{self.path} {' '.join(words)}: not ended after {cpu} seconds of CPU time")
+        return Outcome(ran.returncode, out, err)
+
+    @staticmethod
+    def _answer(ran: "subprocess.Popen[bytes]", input: bytes, timeout: Optional[float], cpu: Optional[int]) -> Tuple[bytes, bytes]:
+        """Both outputs of a program that was started; it is killed if it takes too long, or if the caller is interrupted."""
+        try:
+            if cpu is not None:
+                resource.prlimit(ran.pid, resource.RLIMIT_CPU, (cpu, cpu))
+            return ran.communicate(input, timeout)
+        except BaseException:
+            ran.kill()
+            raise
 
 
 def find(build: bool = True) -> Program:
-    """The program to call: the one that the variable TAPA names; in a repository the proved one where it is built and no source is newer, and else the
-    unproved one, which is built at the first call (about a minute) unless `build` is False; in a release the one that came with it; and else the command
-    `tapa` of the PATH.
+    """The program to call: the one that the variable TAPA names; in a release or an installation the one in the folder `program`; in a repository the proved
+    one if it is built and no source is newer, and otherwise the unproved one, which is built at the first call unless `build` is False; and otherwise the
+    command `tapa` of the PATH. Without TAPA it is the one that `./tapa` runs.
 
     Raises NoProgram.
     """
     named = os.environ.get("TAPA")
     if named:
         return given(named)
+    released = os.path.join(ROOT, "program", "tapa")
+    if os.access(released, os.X_OK):
+        return given(released)
     if os.path.isdir(os.path.join(ROOT, "crates", "tapa_cli")):
         return _of_repository(build)
-    released = os.path.join(ROOT, "program", "tapa")
-    if os.path.exists(released):
-        return given(released)
     return _of_path()
 
 
@@ -112,8 +129,7 @@ def _of_repository(build: bool) -> Program:
         return Program(proved_path(), True)
     stamp = os.path.join(ROOT, "out", "unproved", "stamp")
     if is_newer_than_sources(stamp):
-        with open(stamp, encoding="utf-8") as file:
-            kept = file.read().strip()
+        kept = Path(stamp).read_text(encoding="utf-8").strip()
         if os.access(kept, os.X_OK):
             return Program(kept, False)
     if not build:

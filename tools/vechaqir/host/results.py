@@ -9,11 +9,25 @@ from typing import Any, Dict, List, Optional, Tuple
 from ..language.kinds import Kind
 from ..language.lexemes import Place
 from .cells import array
-from .program import Outcome
+from .program import Outcome, Program
 from .report import Report, Token, Waiting, text_of
 
 PLACED = re.compile(r"tapa: (?P<file>.*):(?P<line>\d+):(?P<column>\d+): (?P<code>[A-Z]\d+) (?P<text>.*)")
 KEYED = re.compile(r"tapa: (?P<file>.*): (?P<code>[A-Z]\d)(?: (?P<key>.*))?")
+
+
+@dataclass(frozen=True)
+class Call:
+    """What the program was asked: a source and its top task, the bytes of the data or the device that the module passed on, with their names in messages, the program, and the text
+    of a circuit that was simulated."""
+
+    source: str
+    top: str
+    given: bytes = b""
+    device: Optional[str] = None
+    words: Tuple[str, ...] = ()
+    program: Optional[Program] = None
+    circuit: str = ""
 
 
 @dataclass
@@ -31,6 +45,15 @@ class Result:
     cycles: Optional[int] = None
     proved: bool = False
     kinds: Dict[str, Kind] = field(default_factory=dict, repr=False)
+    call: Optional[Call] = field(default=None, repr=False, compare=False)
+
+    def _repr_html_(self) -> str:
+        """What a notebook shows: the network, what each task does in each cycle, and a table of streams and memories."""
+        return str(importlib.import_module("vechaqir.show.notebook").result_html(self))
+
+    def _repr_svg_(self) -> str:
+        """What each task does in each cycle of the circuit, as a picture."""
+        return str(importlib.import_module("vechaqir.show.notebook").result_svg(self))
 
     def array(self, memory: str) -> Any:
         """The last cells of a memory as an array of numpy, with the type of its kind. KeyError, and ImportError where numpy is not there."""
@@ -40,17 +63,6 @@ class Result:
         end = "done" if self.ticks is None else "ticks"
         count = self.cycles if self.ticks is None else self.ticks
         return text_of(Report(self.streams, self.memories)) + (f"{end} {count}" if count is not None else "")
-
-
-@dataclass(frozen=True)
-class Call:
-    """What the program was asked of: a source and its top task, and the bytes of what the module handed over, of data and of a device, by their names in messages."""
-
-    source: str
-    top: str
-    given: bytes = b""
-    device: Optional[str] = None
-    words: Tuple[str, ...] = ()
 
 
 class Failure(Exception):

@@ -52,6 +52,17 @@ def is_foreign(view: View, at: int) -> bool:
     return view.is_name(at)
 
 
+def is_within(view: View, at: int) -> bool:
+    """An assignment that declares no variable in a condition."""
+    bracket = view.enclosing(at)
+    return bracket is None or view.text(bracket - 1) not in ("if", "while") or view.text(bracket + 1) not in RESERVED
+
+
+def is_statement(view: View, at: int) -> bool:
+    """An operator that does not write or read, or a number that is not the first one in the braces of a value."""
+    return view.text(at) not in ("<<", ">>") and not (view.text(at - 1) == "{" and view.is_name(at - 2))
+
+
 def is_no_number(view: View, at: int) -> bool:
     """A word that begins with a digit and has an exponent or a floating-point suffix."""
     word = view.text(at).lower()
@@ -103,11 +114,11 @@ FILES: List[Pattern] = [
     Pattern("`static` or `inline` before a task", "P1", "file", ("@static|inline void",)),
     Pattern("`static_assert`", "P1", "", ("@static_assert", "static_assert @(")),
     Pattern("`using namespace`", "P1", "", ("@using namespace",)),
-    Pattern("a name for a kind", "P1", "", ("@using|typedef",)),
+    Pattern("a name for a type", "P1", "", ("@using|typedef",)),
     Pattern("a struct", "P1", "", ("@struct|class|union",)),
     Pattern("an enumeration", "P1", "", ("@enum",)),
     Pattern("a declaration of a task", "P1", "", ("void NAME (..) @;",)),
-    Pattern("a `;` behind a task", "P1", "file", ("} @;",), lambda view, at: view.text(view.open.get(at - 1, 0) - 1) not in ("=", "]")),
+    Pattern("a `;` after a task", "P1", "file", ("} @;",), lambda view, at: view.text(view.open.get(at - 1, 0) - 1) not in ("=", "]")),
     Pattern("`float`, `double`, `half`", "P1", "", ("@float|double", "half @NAME", "< @half", "tapa :: @streams < float|double|half")),
     Pattern("a variable of the file", "P1", "file", ("@ANY",), is_item("variable")),
     Pattern("`auto`", "P1", "file", ("const|constexpr @auto",)),
@@ -137,7 +148,7 @@ KINDS: List[Pattern] = [
     Pattern("`vec_t`, `hls::vector`", "P1", "", ("tapa :: @vec_t", "@tapa :: vec_t", "@vec_t", "tapa :: @streams < tapa :: vec_t")),
     Pattern("a container of `std`", "P1", "", ("std :: @vector|array|deque|queue|string|pair|tuple|complex|map|list", "@std :: vector|array|pair|string|complex")),
     Pattern("`char`, `signed`", "P1", "", ("@char|signed|wchar_t", "unsigned @char", "tapa :: @streams < char|signed")),
-    Pattern("the words of a kind in another order", "P1", "", ("int @long|short|unsigned", "long|short @unsigned", "KIND @const NAME")),
+    Pattern("the words of a type in another order", "P1", "", ("int @long|short|unsigned", "long|short @unsigned", "KIND @const NAME")),
     Pattern("`volatile`, `register`", "P1", "", ("@volatile|register WORD", "volatile|register @WORD")),
     Pattern("a number with an exponent or `f`", "L3", "", ("@NUMBER",), is_no_number),
     Pattern("a number with a point", "P1 L3", "", ("NUMBER @.", "@. NUMBER")),
@@ -176,13 +187,13 @@ CALLS: List[Pattern] = [
     Pattern("a loop over several streams", "P1", "", ("TAPA_WHILE_NEITHER_EOT|TAPA_WHILE_NONE_EOT @(", "TAPA_WHILE_NOT_EOT ( NAME @,")),
     Pattern("a channel of an `async_mmap`", "P1", "", (". read_addr|read_data|write_addr|write_data|write_resp @ANY",)),
     Pattern("a function that copies", "P1", "leaf", ("memcpy|memset|memmove @(", "std :: @memcpy|memset|copy|fill|move|swap")),
-    Pattern("a limit of a kind", "P1 C1", "leaf upper", (f"@{LIMITS}", "std :: @numeric_limits", "= @nullptr")),
+    Pattern("a limit of a type", "P1 C1", "leaf upper", (f"@{LIMITS}", "std :: @numeric_limits", "= @nullptr")),
     Pattern("printing and checking", "P1 C1", "leaf upper", (f"{PRINTING} @(", "std :: @cout|cerr|clog|printf|endl", "@cout|cerr|clog <<")),
     Pattern("`ap_wait`", "P1", "leaf", ("ap_wait|ap_wait_n|wait @(",)),
     Pattern("`sizeof` and casts of bits", "P1", "leaf", (f"@sizeof|{BITS}", f"@tapa :: {BITS}", f"tapa :: @{BITS}", f"@* {BITS}", f"{BITS} < ... @ANY", f"@std :: {BITS}", f"std :: @{BITS}")),
     Pattern("a function of `std`", "P1", "leaf", ("std :: @NAME",), is_foreign),
     Pattern("`tapa::reg` and other functions of `tapa`", "P1", "leaf", ("@tapa :: NAME", "tapa :: @NAME"), lambda view, at: view.text(at - 1) != "[" and view.text(at - 3) != "["),
-    Pattern("a conversion by a kind of several words", "P1", "leaf", ("unsigned @int|short|long .. (", "long @long|int .. (", "short @int ("), lambda view, at: view.text(at - 2) in ("=", "+", "-", "<<", "*")),
+    Pattern("a conversion by a type of several words", "P1", "leaf", ("unsigned @int|short|long .. (", "long @long|int .. (", "short @int ("), lambda view, at: view.text(at - 2) in ("=", "+", "-", "<<", "*")),
 ]
 
 STATEMENTS: List[Pattern] = [
@@ -205,7 +216,7 @@ STATEMENTS: List[Pattern] = [
     Pattern("a value in braces", "P1", "leaf", ("( @{", "<< NAME @{", "( NAME @{", "NAME NAME = @{", ", @{")),
     Pattern("a pointer", "P1", "leaf", ("KIND @*", "START NAME @* NAME =", "START NAME @* NAME ;")),
     Pattern("a reference", "P1", "leaf", ("KIND @&", "START NAME @& NAME =")),
-    Pattern("a kind by another name", "P1", "leaf head upper", (
+    Pattern("a type by another name", "P1", "leaf head upper", (
         "START NAME @NAME", "const @NAME NAME", "( @NAME NAME", ", @NAME NAME", "tapa :: NAME < @NAME", "tapa :: NAME < const @NAME", "UNARY ( NAME ) @NAME", "UNARY ( NAME ) @NUMBER", "static_cast < @NAME",
         "tapa :: @streams < NAME", "for ( NAME @NAME"), lambda view, at: view.text(at - 1) not in ("throw", "try", "not", "and", "or") and view.text(at - 3) != "invoke"),
     Pattern("exceptions and memory of a program", "P1", "leaf", ("throw|try|catch @ANY", "@new|delete|this")),
@@ -220,11 +231,10 @@ STATEMENTS: List[Pattern] = [
 EXPRESSIONS: List[Pattern] = [
     Pattern("`++` within an expression", "P1", "leaf", ("ASSIGN ... @STEP", "NAME << ... @STEP", "if|while ( ... @STEP", "[ .. @STEP", "( NAME @STEP )"),
             lambda view, at: view.text((view.enclosing(at) or 0) - 1) != "for"),
-    Pattern("an assignment within an expression", "P1", "leaf", ("ASSIGN .. @ASSIGN", "if|while ( ... @ASSIGN")),
-    Pattern("an operator behind `<<`", "P1", "leaf", ("START NAME << ... @COMPARE", "START NAME << ... @BITWISE", "START NAME << ... @>>"), lambda view, at: view.text(at - 1) != "&&"),
+    Pattern("an assignment within an expression", "P1", "leaf", ("ASSIGN .. @ASSIGN", "if|while ( ... @ASSIGN"), is_within),
+    Pattern("an operator after `<<`", "P1", "leaf", ("START NAME << ... @COMPARE", "START NAME << ... @BITWISE", "START NAME << ... @>>"), lambda view, at: view.text(at - 1) != "&&"),
     Pattern("a comma between expressions", "P1", "leaf", ("@,",), is_in_for),
-    Pattern("an expression without effect", "P1", "leaf", ("START NAME @OPERATOR", "START NAME @;", "START NAME . NAME (..) @OPERATOR", "START @NUMBER"),
-            lambda view, at: view.text(at) not in ("<<", ">>")),
+    Pattern("an expression without effect", "P1", "leaf", ("START NAME @OPERATOR", "START NAME @;", "START NAME . NAME (..) @OPERATOR", "START @NUMBER"), is_statement),
     Pattern("a function that is called", "P1", "leaf", ("NAME @(",), is_called),
 ]
 

@@ -4,11 +4,11 @@ The wrapper shifts one input pin through a register for every input bit, and fol
 so every path of the whole starts and ends at a register and the clock that nextpnr reports is that of the circuit itself.
 """
 import json
-import os
 import re
 import shutil
 import statistics
 import subprocess
+from pathlib import Path
 from typing import Dict, List, Sequence, Tuple
 
 from ..host.faults import Fault
@@ -105,11 +105,9 @@ def call(words: Sequence[str], folder: str) -> str:
 
 def cells_of(folder: str, text: str, top: str, synthesis: str) -> Dict[str, int]:
     """How many cells of each type Yosys makes of a module by a synthesis command."""
-    with open(os.path.join(folder, "design.v"), "w", encoding="utf-8") as file:
-        file.write(text)
+    Path(folder, "design.v").write_text(text, encoding="utf-8")
     call(["yosys", "-q", "-p", f"read_verilog design.v; {synthesis} -top {top}; tee -q -o stat.json stat -json"], folder)
-    with open(os.path.join(folder, "stat.json"), encoding="utf-8") as file:
-        told = json.load(file)
+    told = json.loads(Path(folder, "stat.json").read_text(encoding="utf-8"))
     modules = told["modules"]
     found: Dict[str, int] = modules.get(f"\\{top}", next(iter(modules.values())))["num_cells_by_type"]
     return found
@@ -135,8 +133,7 @@ def ice40(folder: str, text: str, top: str) -> Dict[str, int]:
 
 def netlist(folder: str, text: str, top: str) -> None:
     """Makes the netlist of a circuit in its wrapper, `board.json`."""
-    with open(os.path.join(folder, "board.v"), "w", encoding="utf-8") as file:
-        file.write(text + wrapper(text, top))
+    Path(folder, "board.v").write_text(text + wrapper(text, top), encoding="utf-8")
     call(["yosys", "-q", "-p", "read_verilog board.v; synth_ice40 -top board -json board.json"], folder)
 
 

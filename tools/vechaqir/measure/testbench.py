@@ -32,7 +32,6 @@ class Memory:
     first: List[int]
     last: List[int]
     ready: List[int]
-    is_stored: bool
 
 
 @dataclass(frozen=True)
@@ -64,7 +63,7 @@ def made_of(network: Network, given: Data, report: Report, limit: int) -> Bench:
     for it in network.memories:
         first = [number & ((1 << it.kind.bits) - 1) for number in given.memories.get(it.name, [])]
         last = report.memories.get(it.name, first)
-        memories.append(Memory(it.name, it.kind.bits, first, last, given.ready.get(it.name, []), not it.is_const))
+        memories.append(Memory(it.name, it.kind.bits, first, last, given.ready.get(it.name, [])))
     scalars = [(it.name, it.kind.bits, given.scalars.get(it.name, 0) & ((1 << it.kind.bits) - 1)) for it in network.scalars]
     return Bench(network.top, scalars, streams, memories, report.end == "done", limit)
 

@@ -7,6 +7,7 @@ from __future__ import annotations
 
 import copy
 import os
+from pathlib import Path
 from argparse import Namespace
 from dataclasses import dataclass
 from typing import Dict, List, Optional, Sequence
@@ -52,8 +53,7 @@ class Bench:
 
     def put(self, name: str, text: bytes) -> str:
         path = os.path.join(self.folder, name)
-        with open(path, "wb") as file:
-            file.write(text)
+        Path(path).write_bytes(text)
         return path
 
     def refused(self, err: bytes, words: Sequence[str]) -> NotBuilt:

@@ -30,4 +30,5 @@ def told(placement: Placement, seed: int, is_by_levels: bool) -> str:
     """What is told of a placement."""
     least = ": no placement costs less" if placement.is_least and not is_by_levels else ""
     of = f"attempt {placement.number + 1} of {placement.attempts}, seed {seed}"
-    return f"cost {placement.plan.cost}, {registers(placement.plan)} registers with the balance's, by {of}{least}"
+    plan = placement.plan
+    return f"cost {plan.cost}, registers {plan.registers} for balance, {registers(plan) - plan.registers} at borders, by {of}{least}"

@@ -6,7 +6,7 @@ from typing import List, NamedTuple, Optional, Tuple
 
 from ..host import program
 from ..host.faults import Fault
-from . import worker
+from . import listing, worker
 from .faults import Mark, Note
 from .source import clang
 
@@ -39,6 +39,14 @@ def listed(marks: List[Mark], notes: List[Note]) -> List[str]:
     rows: List[Tuple[str, int, int, str]] = [(it.file, it.line, 0, f"{it.construct} becomes {it.becomes}") for it in notes]
     rows += [(it.file, it.line, 1, f"left: {it}") for it in marks]
     return [f"{file}:{line}: {text}" for file, line, _, text in sorted(rows)]
+
+
+def constructs(path: str, seconds: int) -> int:
+    """Lists the constructs of a source that the program refuses; the status says whether there are none."""
+    found = listing.listed(path, seconds)
+    for line in found:
+        print(line)
+    return 1 if found else 0
 
 
 def asked(given: Options, called: str) -> int:

@@ -36,7 +36,9 @@ def ported(source: str, top: str, bits: Optional[int], check: List[str], tapa: s
         found = porting.ported(source, top, bits)
         answer = Answer(found.text, found.marks, found.notes)
     except Unusable as why:
-        answer.fault = str(why)
+        answer.fault = str(why) if source in str(why) or "apt-get" in str(why) else f"{source}: {why}"
+    except Refused as why:
+        answer.fault = f"{source}: {why.why}"
     except OSError as why:
         answer.fault = f"{why.filename}: {why.strerror}" if why.filename else str(why)
     except RecursionError:

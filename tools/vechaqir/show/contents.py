@@ -6,6 +6,7 @@ from array import array
 from typing import Any, Dict, List, Optional, Sequence
 
 from ..host.device import RESOURCES, Device
+from ..host.estimate import Estimate
 from ..host.plan import Plan
 from ..host.report import Report
 from ..language.network import Network
@@ -16,6 +17,7 @@ from ..measure.profile import CODES, Profile, StreamProfile, TaskProfile
 from ..measure.text import shorter_turns
 from ..measure.tries import Change
 from .dot import by_graphviz
+from .folding import folded
 from .graph import lay_out
 from .report import Row, past_end, shortened
 
@@ -39,11 +41,13 @@ def page_data(source: Source, network: Network, found: Profile) -> Dict[str, Any
         "lastTick": found.last_tick(),
         "span": span,
         "graph": _graph(network),
+        "folded": _graph(folded(network)) if network.uppers else None,
         "tasks": [_task(it, span) for it in found.tasks.values()],
         "streams": [_stream(it, span) for it in found.streams.values()],
         "memories": [it.name for it in network.memories],
         "costs": {line: [cost.ticks, cost.waits] for line, cost in found.lines().items()},
-        "bound": {"cycles": bounds.cycles, "tasks": bounds.tasks, "lines": bounds.lines, "memories": bounds.memories, "rooms": bounds.rooms},
+        "uses": None,
+        "bound": {"cycles": bounds.cycles, "tasks": bounds.tasks, "lines": list(bounds.lines.items()), "memories": bounds.memories, "rooms": bounds.rooms},
         "shorter": shorter_turns(found, bounds),
         "circle": circle(waiting_for(found)),
         "waiting": {label: [str(wait), other] for label, (wait, other) in waiting_for(found).items()} if not found.is_done else {},
@@ -104,6 +108,11 @@ def _stream(stream: StreamProfile, span: int) -> Dict[str, Any]:
 
 def _fullest(fills: "array[int]", span: int) -> Sequence[int]:
     return fills if span == 1 else [max(fills[at:at + span]) for at in range(0, len(fills), span)]
+
+
+def uses_data(found: Estimate) -> List[List[Any]]:
+    """What an instance of each leaf task uses of a device, and how many there are."""
+    return [[task, count, *found.tasks[task]] for task, count in found.counts().items()]
 
 
 def plan_data(plan: Plan, device: Device) -> Dict[str, Any]:

@@ -47,14 +47,22 @@ class Scene:
         self.colour = {task: COLOURS[at % len(COLOURS)] for at, task in enumerate(self.counts)}
         self.most = max(map(len, self.inside.values()))
         self.resources = [at for at in range(len(RESOURCES)) if any(slot[at] for slot in self.device.slots)]
-        self.side = next((side for side in SIDES if self._high(side) <= HIGH), SIDES[-1])
-        tasks = (self.most + 1) // 2 * ROW if self.most <= LABELLED else self._high(self.side)
+        self.side = next((side for side in SIDES if self._high(self.most, side) <= HIGH), SIDES[-1])
         self.top = 12 + BAR * len(self.resources)
-        self.height = self.top + max(ROW, tasks) + INSIDE
+        # a row of slots is as high as its fullest slot needs
+        self.heights = [self.top + max(ROW, self._tasks(row)) + INSIDE for row in range(self.device.rows)]
 
-    def _high(self, side: int) -> int:
-        """How high the small boxes of the fullest slot stand."""
-        return math.ceil(self.most / self.in_row(side)) * (side + 3)
+    def _tasks(self, row: int) -> int:
+        """How high the boxes of the fullest slot of a row stand."""
+        most = max((len(labels) for place, labels in self.inside.items() if place[0] == row), default=0)
+        return (most + 1) // 2 * ROW if self.most <= LABELLED else self._high(most, self.side)
+
+    def _high(self, count: int, side: int) -> int:
+        """How high small boxes stand."""
+        return math.ceil(count / self.in_row(side)) * (side + 3)
+
+    def height(self, place: SlotPlace) -> float:
+        return self.heights[place[0]]
 
     def in_row(self, side: int) -> int:
         """How many small boxes stand in a row."""
@@ -62,7 +70,7 @@ class Scene:
 
     def corner(self, place: SlotPlace) -> Tuple[float, float]:
         """The upper left corner of a slot."""
-        return MARGIN + place[1] * (WIDTH + ACROSS), MARGIN + place[0] * (self.height + DOWN)
+        return MARGIN + place[1] * (WIDTH + ACROSS), MARGIN + sum(it + DOWN for it in self.heights[:place[0]])
 
 
 def bundles(plan: Plan, links: Sequence[Link]) -> Dict[Tuple[SlotPlace, SlotPlace], Bundle]:
@@ -101,7 +109,7 @@ def labelled(x: float, y: float, labels: Sequence[str], scene: Scene) -> Iterato
     for number, label in enumerate(labels):
         left, top = x + INSIDE + number % 2 * (wide + 6), y + number // 2 * ROW
         yield svg.box(left, top, wide, ROW - 3, scene.colour[task_of(label)])
-        yield svg.text(left + wide / 2, top + 12, svg.cut(label, 11, wide - 6), 11, "middle")
+        yield svg.text(left + wide / 2, top + 12, svg.cut_name(label, 11, wide - 6), 11, "middle")
 
 
 def small(x: float, y: float, labels: Sequence[str], scene: Scene) -> Iterator[str]:
@@ -117,7 +125,7 @@ def slot(scene: Scene, place: SlotPlace, used: Amounts) -> Iterator[str]:
     (x, y), number = scene.corner(place), scene.device.number(place)
     is_shut, labels = scene.device.is_forbidden(number), scene.inside[place]
     tasks = "forbidden" if is_shut else "1 task" if len(labels) == 1 else f"{len(labels)} tasks"
-    yield svg.box(x, y, WIDTH, scene.height, SHUT if is_shut else svg.PAPER)
+    yield svg.box(x, y, WIDTH, scene.height(place), SHUT if is_shut else svg.PAPER)
     yield svg.text(x + 2, y - 6, f"slot {place[0]} {place[1]}", 12, is_bold=True)
     yield svg.text(x + WIDTH - 2, y - 6, tasks, 11, "end", colour=svg.QUIET)
     for at, resource in enumerate(scene.resources):
@@ -141,14 +149,14 @@ def border(scene: Scene, here: SlotPlace, there: SlotPlace, bundle: Bundle) -> I
     bits, streams = f"{bundle.bits} bits", "1 stream" if bundle.streams == 1 else f"{bundle.streams} streams"
     if here[0] == there[0]:
         left, right = (x + WIDTH, to_x) if x < to_x else (x, to_x + WIDTH)
-        middle = y + scene.height / 2 + (-30 if x < to_x else 30)
+        middle = y + scene.height(here) / 2 + (-30 if x < to_x else 30)
         yield arrow(left + math.copysign(3, right - left), middle, right - math.copysign(3, right - left), middle, bundle.bits)
         yield svg.text((left + right) / 2, middle - 14, svg.cut(bits, 11, ACROSS - 12), 11, "middle")
         yield svg.text((left + right) / 2, middle + 22, svg.cut(streams, 10, ACROSS - 12), 10, "middle", colour=svg.QUIET)
         return
-    upper, lower = (y + scene.height, to_y) if y < to_y else (y, to_y + scene.height)
+    upper, lower = (y + scene.height(here), to_y) if y < to_y else (y, to_y + scene.height(there))
     middle = x + (WIDTH / 4 if y < to_y else 3 * WIDTH / 4) - 30
-    above = min(y, to_y) + scene.height
+    above = min(y, to_y) + scene.height(here if y < to_y else there)
     yield arrow(middle, upper + math.copysign(3 if y < to_y else 20, lower - upper), middle, lower - math.copysign(20 if y < to_y else 3, lower - upper), bundle.bits)
     yield svg.text(middle + 16, above + 18, svg.cut(bits, 11, WIDTH / 2 - 40), 11)
     yield svg.text(middle + 16, above + 32, svg.cut(streams, 10, WIDTH / 2 - 40), 10, colour=svg.QUIET)
@@ -157,10 +165,10 @@ def border(scene: Scene, here: SlotPlace, there: SlotPlace, bundle: Bundle) -> I
 def words(scene: Scene, width: float) -> List[str]:
     """The lines below the slots: streams with registers, or how many there are, and the sums."""
     crossing, plan = scene.plan.crossing(), scene.plan
-    lines = [f"{it.name}: {it.width} bits, {it.latency} registers on the way, {it.balance} more for balance" for it in crossing]
+    lines = [f"{it.name}: {it.width} bits, {it.latency} registers at borders, {it.balance} for balance" for it in crossing]
     if len(lines) > TOLD:
         bits = sum(it.width * it.latency for it in crossing)
-        lines = [f"{len(lines)} of {len(plan.streams)} streams have registers: {bits} bits of them on the way over borders"]
+        lines = [f"{len(lines)} of {len(plan.streams)} streams have registers: {bits} bits of them at borders"]
     return [svg.cut(line, 12, width) for line in [*lines, f"cost {plan.cost}, registers {plan.registers} for balance, dual {plan.dual}"]]
 
 
@@ -183,7 +191,7 @@ def drawing(plan: Plan, device: Device, links: Sequence[Link]) -> Iterator[str]:
     """The lines of the SVG file of a plan on its device. Without links, as where no source is known, no bundle is drawn."""
     scene = Scene(plan, device, links)
     width = max(2 * MARGIN + device.cols * WIDTH + (device.cols - 1) * ACROSS, 2 * MARGIN + 480)
-    bottom = MARGIN + device.rows * (scene.height + DOWN) - DOWN + 28
+    bottom = MARGIN + sum(it + DOWN for it in scene.heights) - DOWN + 28
     parts = [part for place, used in sorted(plan.slots.items()) for part in slot(scene, place, used)]
     parts += [part for (here, there), bundle in sorted(bundles(plan, links).items()) for part in border(scene, here, there, bundle)]
     shown, y = legend(scene, bottom, width)

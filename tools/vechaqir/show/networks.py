@@ -10,7 +10,7 @@ from ..language.lexemes import Place
 from ..language.network import Channel, Instance, Network
 from ..language.syntax import Parameter
 from .graph import SIZE, SMALL, Box, Picture, Wire, lay_out
-from .svg import INK, LINE, PAPER, QUIET, box, path, picture, text
+from .svg import INK, LINE, PAPER, QUIET, box, path, picture, text, text_width
 
 LATE = "#b3541e"
 
@@ -87,8 +87,12 @@ def put_waits(network: Network, facts: Dict[str, str], messages: List[str]) -> L
 
 def drawing(network: Network, facts: Dict[str, str], late: List[str]) -> Iterator[str]:
     """The lines of the SVG file; streams with registers on their way have a colour of their own."""
-    found = lay_out(network, facts)
-    yield from picture(found.width, found.height, _parts(found, network.top, late))
+    yield from drawing_of(lay_out(network, facts), network.top, late)
+
+
+def drawing_of(found: Picture, title: str, late: List[str]) -> Iterator[str]:
+    """The lines of the SVG file of a network that is laid out."""
+    yield from picture(found.width, found.height, _parts(found, title, late))
 
 
 def _parts(found: Picture, title: str, late: List[str]) -> Iterator[str]:
@@ -98,14 +102,19 @@ def _parts(found: Picture, title: str, late: List[str]) -> Iterator[str]:
             yield box(it.x, it.y, it.width, it.height, "none", LINE, 6, "4 3")
             yield text(it.x + 8, it.y + 14, it.label, SMALL, colour=QUIET)
     for wire in found.wires:
-        yield from _wire(wire, wire.name in late)
+        yield path(wire.way, LATE if wire.name in late else LINE, 2 if wire.name in late else 1.2)
     for it in found.boxes:
         if it.kind != "upper":
             yield from _box(it)
+    # names are above all arrows, so that none is crossed out
+    for wire in found.wires:
+        yield from _name(wire)
 
 
-def _wire(it: Wire, is_late: bool) -> Iterator[str]:
-    yield path(it.way, LATE if is_late else LINE, 2 if is_late else 1.2)
+def _name(it: Wire) -> Iterator[str]:
+    for words, y, size in ((it.label, it.label_y - 4, text_width(it.label, SMALL, True)), (it.facts, it.label_y + 11, text_width(it.facts, SMALL))):
+        if words:
+            yield f'<rect x="{it.label_x:.1f}" y="{y - 0.78 * SMALL:.1f}" width="{size:.1f}" height="{SMALL}" fill="#ffffff" fill-opacity="0.85"/>'
     yield text(it.label_x, it.label_y - 4, it.label, SMALL, is_bold=True)
     yield text(it.label_x, it.label_y + 11, it.facts, SMALL, colour=QUIET)
 

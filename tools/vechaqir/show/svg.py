@@ -34,6 +34,15 @@ def cut(words: str, size: float, width: float, is_bold: bool = False) -> str:
     return words + ".."
 
 
+def cut_name(name: str, size: float, width: float, is_bold: bool = False) -> str:
+    """A name, or two dots and its end if it is wider than this: names of one upper-level task begin with the same words."""
+    if text_width(name, size, is_bold) <= width:
+        return name
+    while name and text_width(".." + name, size, is_bold) > width:
+        name = name[1:]
+    return ".." + name
+
+
 def text(x: float, y: float, words: str, size: float = 12, anchor: str = "start", is_bold: bool = False, colour: str = INK) -> str:
     """A line of text whose base line begins, has its middle, or ends at a place."""
     style = f' font-size="{size:g}"' + (f' text-anchor="{anchor}"' if anchor != "start" else "") + (' font-weight="bold"' if is_bold else "")

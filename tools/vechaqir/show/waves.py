@@ -4,7 +4,7 @@ from __future__ import annotations
 from typing import Dict, Iterator, List, NamedTuple, Optional, Sequence, Tuple
 
 from ..host.dump import Dump, Value
-from .svg import QUIET, cut, line, picture, text, text_width
+from .svg import QUIET, cut_name, line, picture, text, text_width
 
 # The width of a picture, the height of a row and of a wave in it, the most nets that are drawn unasked, and the widest column of names.
 WIDTH, ROW, HIGH, MOST, NAMES = 960, 26, 14, 40, 260
@@ -123,7 +123,7 @@ def _parts(rows: Sequence[Row], scale: Scale, is_fill: bool) -> Iterator[str]:
     yield from _axis(scale, len(rows))
     for number, row in enumerate(rows):
         y = TOP + ROW * number
-        yield text(scale.left - 8, y + 11, cut(row.name, SIZE, scale.left - 16), SIZE, "end")
+        yield text(scale.left - 8, y + 11, cut_name(row.name, SIZE, scale.left - 16), SIZE, "end")
         if is_fill:
             most = max([it.value or 0 for it in row.runs] or [0])
             yield from _fill(row, most, y, scale)

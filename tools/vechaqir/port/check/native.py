@@ -15,6 +15,11 @@ from ..tree.program import Argument, Program, Variable
 
 HEADERS = os.path.join(os.path.dirname(os.path.dirname(os.path.dirname(os.path.dirname(os.path.abspath(__file__))))), "include", "tapa_native")
 NAMED = re.compile(r"\s*(?:\(\s*\"[^\"]*\"\s*\)|\{\s*\"[^\"]*\"\s*\})")
+# What the header brings of `std`, and the headers of all else, which take four times as long to compile.
+BROUGHT = {"abs", "max", "min", "clamp", "swap", "move", "array", "numeric_limits", "is_same", "is_same_v", "conditional", "conditional_t", "size_t", "ptrdiff_t", "nullptr_t", "integer_sequence",
+           *(f"{sign}int{bits}_t" for sign in ("", "u") for bits in (8, 16, 32, 64))}
+OF_STD = re.compile(r"\bstd\s*::\s*(\w+)|\b(using\s+namespace\s+std|cout|cerr|clog|sqrt\w?|fabs\w?|floor\w?|ceil\w?|round\w?|pow\w?|exp\w?|log\w?)\b")
+MORE = "".join(f"#include <{name}>\n" for name in ("cassert", "cmath", "functional", "iostream", "map", "memory", "string", "tuple", "type_traits", "vector"))
 SECONDS = 60
 Data = Dict[str, Dict[str, Any]]
 
@@ -48,7 +53,7 @@ def floats(program: Program) -> str:
         layout = Layout(it)
         places = [f"{{{leaf.word * 8 + leaf.shift // 8}, {leaf.bits // 8}}}" for leaf in layout.leaves if isinstance(leaf.kind, Floating)]
         if places and not layout.why and "(" not in it.name:
-            out.append(f"template <> struct tapa::sim::floats<{it.name}> {{ static std::vector<place> places() {{ return {{{', '.join(places)}}}; }} }};\n")
+            out.append(f"template <> struct tapa::sim::floats<{it.name}> {{ static constexpr int count = {len(places)}; static constexpr place places[] = {{{', '.join(places)}}}; }};\n")
     return "".join(out)
 
 
@@ -68,14 +73,14 @@ def cells(program: Program, it: Argument, element: Optional[int]) -> str:
     names = words_of(program, it.variable, element)
     if not names:
         raise Unusable(f"the ported source has no memory for `{it.variable.name}`")
-    words = ", ".join(f'"{name}"' for name in names)
-    return f"tapa::sim::cells<{it.element}>({{{words}}})"
+    words = ", ".join(f'tapa::sim::data("{name}")' for name in names)
+    return f"tapa::sim::cells<{it.element}>(std::array<tapa::sim::list<uint64_t>, {len(names)}>{{{words}}}.data())"
 
 
 def scalar(it: Argument) -> str:
     value = f'tapa::sim::scalar("{it.variable.name}")'
     if it.kind in ("float", "double"):
-        return f"({it.kind}) std::ldexp((double) {value}, -TAPA_FIXED)"
+        return f"({it.kind}) __builtin_ldexp((double) {value}, -TAPA_FIXED)"
     return f"({it.kind}) {value}"
 
 
@@ -100,7 +105,8 @@ def driver(program: Program) -> str:
     return f"""
 int main(int, char** argv) {{
   tapa::sim::read(argv[1]);
-{made}  auto* top = tapa::sim::spawn([&] {{ {program.top.name}({', '.join(given)}); }}, {{}}, false);
+{made}  auto whole = [&] {{ {program.top.name}({', '.join(given)}); }};
+  auto* top = tapa::sim::spawn(new tapa::sim::calling<decltype(whole)>(whole), nullptr, false);
   bool is_done = tapa::sim::run(top);
   tapa::sim::report();
 {shown}  std::printf(is_done ? "done\\n" : "stopped\\n");
@@ -128,7 +134,9 @@ def data_text(data: Data) -> str:
 
 def text_of(program: Program) -> str:
     """The whole native program."""
-    return f"#include <tapa.h>\n#include <ap_int.h>\n{named(program)}\n{floats(program)}{driver(program)}"
+    text = named(program)
+    more = MORE if {it[1] or it[2] for it in OF_STD.finditer(text)} - BROUGHT else ""
+    return f"{more}#include <tapa.h>\n#include <ap_int.h>\n{text}\n{floats(program)}{driver(program)}"
 
 
 class Native:
@@ -140,7 +148,7 @@ class Native:
         source = self.path + ".cpp"
         with open(source, "w", encoding="latin-1") as file:
             file.write(text_of(program))
-        words = [compiler(), "-std=c++17", "-O1", "-w", "-fwrapv", *flags, *([f"-DTAPA_FIXED={bits}"] if bits is not None else []), "-I", HEADERS, "-o", self.path, source]
+        words = [compiler(), "-std=c++17", "-O0", "-w", "-fwrapv", *flags, *([f"-DTAPA_FIXED={bits}"] if bits is not None else []), "-I", HEADERS, "-o", self.path, source]
         made = subprocess.run(words, capture_output=True, text=True, check=False)
         if made.returncode != 0:
             first = next((line for line in made.stderr.splitlines() if "error" in line), made.stderr[:200])

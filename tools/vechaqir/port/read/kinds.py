@@ -119,7 +119,10 @@ class Kinds:
         bits = field.get_bitfield_width() if field.is_bitfield() else None
         if bits is not None or isinstance(self.of(field.type), Array):
             first = first[1:] if len(first) > 1 and bits is not None else []
-        return Member(field.spelling, self.of(field.type), it.get_offset(field.spelling), bits, int(first[-1] or 0) if first else 0)
+        kind = self.of(field.type)
+        if bits is not None and isinstance(kind, Whole) and bits < kind.bits:   # it is cut at each assignment, as an `ap_uint` is
+            kind = Narrow(bits, kind.is_signed)
+        return Member(field.spelling, kind, it.get_offset(field.spelling), bits, int(first[-1] or 0) if first else 0)
 
     def why_not(self, it: Any, declaration: Any, fields: List[Any]) -> str:
         """What of a struct cannot be ported."""

@@ -4,7 +4,7 @@ from typing import Any, Optional
 
 from ..source.clang import kids, value
 from ..tree.kinds import FUNCTION, Carrier, Floating, Kind, Narrow, Plain, Record, Whole
-from ..tree.nodes import Bits, Cast, Expression, Name, Null, Number, Text, This
+from ..tree.nodes import Bits, Cast, Expression, Field, Name, Null, Number, Text, This
 from .context import Context
 from .kinds import is_word
 
@@ -118,6 +118,8 @@ class Literals(Context):
         """An implicit conversion."""
         if inner.kind == kind or isinstance(kind, (Plain, Carrier, Record)) or isinstance(inner.kind, (Plain, Carrier, Record)):
             return inner
+        if isinstance(inner, Cast) and inner.text is None and is_bit_field(inner.operand) and isinstance(kind, Whole):   # a bit field of an `unsigned` becomes an `int` where all its values are of one
+            inner = inner.operand
         if isinstance(kind, Whole) and isinstance(inner.kind, Whole) or isinstance(kind, Floating) and isinstance(inner.kind, Floating):
             return inner
         if isinstance(kind, (Whole, Floating, Narrow)) and isinstance(inner.kind, (Whole, Floating, Narrow)):
@@ -156,3 +158,9 @@ class Literals(Context):
         made = Bits(self.kind(cursor), inner)
         made.at = self.at(cursor)
         return made
+
+
+def is_bit_field(it: Expression) -> bool:
+    """Whether something is a bit field of a struct."""
+    member = it.base.kind.member(it.name) if isinstance(it, Field) and isinstance(it.base.kind, Record) else None
+    return member is not None and member.bits is not None

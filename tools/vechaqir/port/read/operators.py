@@ -3,7 +3,7 @@ import re
 from typing import Any, Callable, Dict, List
 
 from ..source.clang import kids, span
-from ..tree.kinds import Array, Carrier, LAMBDA, Whole
+from ..tree.kinds import LAMBDA, Array, Carrier, Record, Whole
 from ..tree.nodes import Assign, Binary, Braces, Choose, Comma, Expression, Field, Index, Lambda, Name, Number, Step, This, Unary
 from ..tree.program import Function
 from .calls import Calls
@@ -112,7 +112,8 @@ class Operators(Calls, Literals):
         base = self.expression(inner[0]) if inner else This(self.kinds.of(to.semantic_parent.type))
         if base.kind == LAMBDA:
             return self.refused(cursor, "a field of a lambda")
-        return Field(self.kind(cursor), base, cursor.spelling)
+        member = base.kind.member(cursor.spelling) if isinstance(base.kind, Record) else None
+        return Field(member.kind if member is not None and member.bits is not None else self.kind(cursor), base, cursor.spelling)
 
     def braces(self, cursor: Any) -> Expression:
         kind = self.kind(cursor)

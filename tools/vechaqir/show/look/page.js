@@ -37,7 +37,10 @@ function table(head, rows, numbers = []) {
   return made;
 }
 
-const link = (name) => make("button", { class: "link", type: "button", onclick: () => choose(name) }, name);
+// a long name without its begin, which it shares with others; a viewer shows the whole one under the pointer
+const cutName = (name, most) => name.length > most ? `..${name.slice(2 - most)}` : name;
+const link = (name, most = 1e9) => make("button", { class: "link", type: "button", title: name, onclick: () => choose(name) }, cutName(name, most));
+const NARROW = 24;
 
 // ---- what is chosen: a task or a stream, by name
 
@@ -74,49 +77,73 @@ function changeTheme() {
 
 // ---- the network
 
+const views = {};
+let shownView = "whole";
+
 function showGraph() {
-  const { width, height, boxes, wires } = D.graph;
-  const svg = draw("svg", { viewBox: `0 0 ${width} ${height}`, role: "img", "aria-label": "Tasks, streams and memories" });
-  svg.append(draw("defs", {}, draw("marker", { id: "end", markerUnits: "userSpaceOnUse", markerWidth: 9, markerHeight: 8, refX: 8, refY: 4, orient: "auto" }, draw("path", { d: "M0 0 L9 4 L0 8 Z", fill: "var(--edge)" }))));
-  const inside = draw("g", {});
-  for (const kind of ["upper", "wire", "task", "memory"]) {
-    if (kind === "wire") inside.append(...wires.map(wireShape));
-    else inside.append(...boxes.filter((it) => it[0] === kind).map(boxShape));
-  }
+  for (const [name, graph] of [["whole", D.graph], ["folded", D.folded]]) if (graph) addView(name, graph);
+  const keys = [["memory", "memory"], ["upper", "upper-level task"], ...(D.plan ? [["late", "stream with registers"]] : []), ...(D.circle.length ? [["circle", "task of a deadlock"]] : []), ["chosen", "selected"], ["near", "next to it"]];
+  document.querySelector("#network .note").append("A box is a task, an arrow a stream: ", ...keys.flatMap(([kind, words]) => [make("span", { class: `swatch ${kind}` }), ` ${words}`]), ". Click or press Enter on one; drag and wheel move and zoom.");
+  const fold = byId("fold");
+  fold.hidden = !D.folded;
+  fold.addEventListener("click", () => showView(shownView === "whole" ? "folded" : "whole"));
+  byId("fit").addEventListener("click", () => views[shownView].fit());
+  byId("size").addEventListener("click", () => views[shownView].fit([0, 0, 1, views[shownView].height]));
+  listeners.push(() => { for (const view of Object.values(views)) markChosen(view.inside); });
+  showView(D.folded ? "folded" : "whole");
+}
+
+function addView(name, { width, height, boxes, wires }) {
+  const svg = draw("svg", { viewBox: `0 0 ${width} ${height}`, class: name, role: "img", "aria-label": "Tasks, streams and memories" });
+  svg.append(draw("defs", {}, draw("marker", { id: `end-${name}`, markerUnits: "userSpaceOnUse", markerWidth: 9, markerHeight: 8, refX: 8, refY: 4, orient: "auto" }, draw("path", { d: "M0 0 L9 4 L0 8 Z", fill: "var(--edge)" }))));
+  const inside = draw("g", {}), shapes = wires.map((it) => wireShape(it, name));
+  // names are above all arrows, so that none is crossed out
+  inside.append(...boxes.filter((it) => it[0] === "upper").map(boxShape), ...shapes.map((it) => it[0]), ...boxes.filter((it) => it[0] !== "upper").map(boxShape), ...shapes.map((it) => it[1]));
   svg.append(inside);
-  byId("graph").style.height = `${Math.max(220, Math.min(460, 1.2 * height + 40))}px`;
   byId("graph").append(svg);
-  panAndZoom(svg, width, height);
-  document.querySelector("#network .note").textContent = "A box is a task, an arrow a stream, a round box a memory, a dashed box an upper-level task. Click or press Enter on one; drag and wheel move and zoom.";
-  listeners.push(() => markChosen(inside));
+  views[name] = { svg, inside, boxes, height, ...panAndZoom(svg, width, height) };
+}
+
+function showView(name, around = null) {
+  shownView = name;
+  for (const [other, view] of Object.entries(views)) view.svg.style.display = other === name ? "" : "none";
+  const view = views[name], box = around && view.boxes.find((it) => it[0] === "upper" && it[1] === around);
+  byId("graph").style.height = `${Math.max(220, Math.min(460, 1.2 * view.height + 40))}px`;
+  byId("fold").textContent = name === "whole" ? "fold upper-level tasks" : "unfold upper-level tasks";
+  view.fit(box ? box.slice(3) : null);
 }
 
 function boxShape([kind, name, words, x, y, width, height]) {
   const group = draw("g", { class: kind, "data-name": name });
   group.append(draw("rect", { x, y, width, height, rx: kind === "memory" ? 9 : 4 }));
-  const small = kind === "memory";
+  const small = kind === "memory", isFolded = kind === "task" && !tasks.has(name);
   if (kind === "upper") group.append(label(x + 8, y + 14, words, { class: "quiet", "font-size": 10 }));
   else group.append(label(x + width / 2, y + height / 2 + (small ? 3.5 : 4), words, { "text-anchor": "middle", "font-size": small ? 10 : 12 }));
-  if (kind === "task") reactTo(group, name);
-  if (D.circle.includes(name)) group.classList.add("circle");
+  if (kind === "task") reactTo(group, name, isFolded ? () => showView("whole", name) : undefined);
+  if (isFolded) {
+    group.classList.add("fold");
+    group.append(draw("title", {}, `${name}: an upper-level task; a click shows what is in it`));
+  }
+  if (D.circle.includes(name) || isFolded && D.circle.some((it) => it.startsWith(`${name}$`))) group.classList.add("circle");
   return group;
 }
 
-function wireShape([name, way, words, facts, x, y]) {
+function wireShape([name, way, words, facts, x, y], view) {
   const group = draw("g", { class: "wire", "data-name": name });
-  group.append(draw("path", { d: way, class: "grip" }), draw("path", { d: way, class: "line", "marker-end": "url(#end)" }));
-  group.append(label(x, y - 4, words, { "font-size": 10, "font-weight": "bold" }), label(x, y + 11, facts, { "font-size": 10, class: "quiet" }));
+  group.append(draw("path", { d: way, class: "grip" }), draw("path", { d: way, class: "line", "marker-end": `url(#end-${view})` }));
+  const named = draw("g", { class: "named", "data-name": name }, label(x, y - 4, words, { "font-size": 10, "font-weight": "bold" }), label(x, y + 11, facts, { "font-size": 10, class: "quiet" }));
   if (D.plan && D.plan.streams[name] && D.plan.streams[name][1] + D.plan.streams[name][2] > 0) group.classList.add("late");
   reactTo(group, name);
-  return group;
+  named.addEventListener("click", () => choose(name));
+  return [group, named];
 }
 
-function reactTo(group, name) {
+function reactTo(group, name, act = () => choose(name)) {
   group.setAttribute("tabindex", "0");
   group.setAttribute("role", "button");
   group.setAttribute("aria-label", name);
-  group.addEventListener("click", () => choose(name));
-  group.addEventListener("keydown", (event) => { if (event.key === "Enter" || event.key === " ") { event.preventDefault(); choose(name); } });
+  group.addEventListener("click", act);
+  group.addEventListener("keydown", (event) => { if (event.key === "Enter" || event.key === " ") { event.preventDefault(); act(); } });
 }
 
 function markChosen(inside) {
@@ -130,13 +157,14 @@ function panAndZoom(svg, width, height) {
   const pane = svg.parentElement;
   const view = { x: 0, y: 0, width, height };
   const show = () => svg.setAttribute("viewBox", `${view.x} ${view.y} ${view.width} ${view.height}`);
-  // a wide network is shown from its begin on, so that its labels can be read
-  const shape = pane.clientHeight / Math.max(pane.clientWidth, 400), most = 1.4 * Math.max(pane.clientWidth, 400);
-  if (width > most) { view.width = most; view.height = most * shape; view.y = (height - view.height) / 2; }
-  // and a small one no larger than its labels are meant to be
-  const least = 0.8 * Math.max(pane.clientWidth, 400);
-  if (width < least) { view.x = (width - least) / 2; view.width = least; view.height = Math.max(least * shape, height); view.y = (height - view.height) / 2; }
-  show();
+  // all of it, or a box of it, but no larger than its labels are meant to be
+  const fit = (box = null) => {
+    const [x, y, wide, high] = box || [0, 0, width, height], shape = pane.clientHeight / Math.max(pane.clientWidth, 400);
+    view.width = Math.max(wide, wide > 1 ? high / shape : 0, 0.8 * Math.max(pane.clientWidth, 400));
+    view.height = view.width * shape;
+    view.x = wide > 1 ? x + (wide - view.width) / 2 : 0; view.y = y + (high - view.height) / 2;
+    show();
+  };
   svg.addEventListener("wheel", (event) => {
     event.preventDefault();
     const factor = Math.exp(event.deltaY / 600), box = svg.getBoundingClientRect();
@@ -155,6 +183,7 @@ function panAndZoom(svg, width, height) {
     from = [event.clientX, event.clientY];
     show();
   });
+  return { fit };
 }
 
 // ---- one task or stream
@@ -180,25 +209,40 @@ function showDetail() {
 }
 
 function overview() {
-  const rows = D.tasks.slice().sort((one, other) => other.ticks - one.ticks).slice(0, 40).map((it) => [link(it.label), make("div", { style: "width:150px;margin-top:4px" }, bar(parts(it)))]);
+  const rows = D.tasks.slice().sort((one, other) => other.ticks - one.ticks).slice(0, 40).map((it) => [link(it.label, NARROW), make("div", { style: "width:100px;margin-top:4px" }, bar(parts(it)))]);
   return [make("h3", {}, "Tasks"), make("p", { class: "note" }, D.tasks.length > 40 ? `the 40 of most ticks, of ${D.tasks.length}` : "how each spends its cycles"), table(["", ""], rows)];
 }
 
 function taskDetail(task) {
   const own = D.streams.filter((it) => it.writer === task.label || it.reader === task.label);
-  const rows = own.map((it) => [it.reader === task.label ? "reads" : "writes", link(it.name), it.reader === task.label ? link(it.writer || "") : link(it.reader || "")]);
+  const rows = own.map((it) => [it.reader === task.label ? "reads" : "writes", link(it.name, NARROW), link((it.reader === task.label ? it.writer : it.reader) || "", NARROW)]);
   const memories = Object.values(task.bindings).filter((it) => D.memories.includes(it)).map((it) => ["has", it, "memory"]);
   return [
     make("h3", {}, task.label), make("p", { class: "note" }, `task ${task.task}, line ${task.line}${task.detached ? ", detached" : ""}`), bar(parts(task)),
     table(["", "cycles"], parts(task).map(([kind, words, cycles]) => [make("span", {}, make("span", { class: `key ${kind}` }), ` ${words}`), share(cycles)]), [1]),
-    make("h3", { style: "margin-top:10px" }, "Streams"), table(["", "stream", "other end"], [...rows, ...memories]),
+    ...usesOf(task), make("h3", { style: "margin-top:10px" }, "Streams"), table(["", "stream", "other end"], [...rows, ...memories]),
     make("h3", { style: "margin-top:10px" }, "States"), table(["", "line", "act"], task.states.map(([line, says], at) => [String(at), String(line), says]), [0, 1]),
   ];
 }
 
+function usesOf(task) {
+  const found = D.uses && D.uses.find((it) => it[0] === task.task);
+  return found ? [make("p", { class: "note" }, `It uses ${found[2]} LUT and ${found[3]} FF, by the program's estimate.`)] : [];
+}
+
+// ---- all streams
+
+const perToken = (it) => it.tokens ? (D.cycles / it.tokens).toFixed(1) : "";
+
+function showStreams() {
+  const rows = D.streams.slice(0, 400).map((it) => [link(it.name, 40), it.kind, String(it.depth), String(it.tokens), perToken(it), String(it.most), share(it.heldWriter), share(it.heldReader)]);
+  if (rows.length) byId("carried").append(table(["stream", "kind", "depth", "tokens", "cycles per token", "most in it", "held up its writer", "held up its reader"], rows, [2, 3, 4, 5, 6, 7]));
+  if (D.streams.length > 400) byId("carried").append(make("p", { class: "note" }, `the first 400 of ${D.streams.length}`));
+}
+
 function streamDetail(it) {
   const planned = D.plan && D.plan.streams[it.name];
-  const rows = [["kind", it.kind], ["depth", String(it.depth)], ["written by", link(it.writer || "nobody")], ["read by", link(it.reader || "nobody")], ["tokens", String(it.tokens)],
+  const rows = [["kind", it.kind], ["depth", String(it.depth)], ["written by", link(it.writer || "nobody", 24)], ["read by", link(it.reader || "nobody", 24)], ["tokens", String(it.tokens)], ["cycles per token", perToken(it)],
     ["full", `${it.least} to ${it.most}, ${it.mean} in the mean`], ["held up its writer", share(it.heldWriter)], ["held up its reader", share(it.heldReader)]];
   if (planned) rows.push(["width", `${planned[0]} bits`], ["latency", `${planned[1]} registers at borders, ${planned[2]} for balance`], ["flow", String(planned[3])]);
   return [make("h3", {}, it.name), make("p", { class: "note" }, "a stream"), table(["", ""], rows)];
@@ -313,8 +357,8 @@ function drawRow(pen, colour, row, y, width) {
 
 function cutText(pen, words, width) {
   if (pen.measureText(words).width <= width) return words;
-  while (words && pen.measureText(`${words}..`).width > width) words = words.slice(0, -1);
-  return `${words}..`;
+  while (words && pen.measureText(`..${words}`).width > width) words = words.slice(1);
+  return `..${words}`;
 }
 
 function drawAxis(pen, colour, width, height) {
@@ -340,6 +384,7 @@ function showBounds() {
       ...Object.entries(D.bound.tasks).slice(0, 8).map(([name, cycles]) => [link(name), String(cycles), "ticks of this task"]),
       ...Object.entries(D.bound.memories).map(([name, cycles]) => [`memory ${name}`, String(cycles), "cycles in which it was not ready"]),
       ...Object.entries(D.bound.rooms).slice(0, 8).map(([name, times]) => [link(name), String(times), "times a place in its FIFO had to become free"]),
+      ...D.bound.lines.slice(0, 8).map(([line, cycles]) => [`line ${line}`, String(cycles), make("code", {}, (D.lines[line - 1] || "").trim())]),
     ];
     place.append(table(["", "", ""], rows, [1]));
   }
@@ -390,31 +435,42 @@ function costsOf(task) {
 
 // ---- the plan
 
+function usesTable() {
+  if (!D.uses) return "";
+  const sum = (at) => D.uses.reduce((whole, it) => whole + it[1] * it[at], 0);
+  const rows = D.uses.map((it) => it.map(String)), at = [2, 3, 4, 5, 6];
+  return make("div", {}, make("p", { class: "note" }, "What one instance of each task uses, by the program's estimate."), table(["task", "instances", "LUT", "FF", "BRAM", "DSP", "URAM"], [...rows, ["all", String(D.tasks.length), ...at.map((it) => String(sum(it)))]], [1, ...at]));
+}
+
 function showPlan() {
   const place = byId("floor");
-  if (!D.plan) { place.append(make("p", { class: "note" }, "No device was given: tools/look.py .. --device DEV shows the plan.")); return; }
+  if (!D.plan) { place.append(usesTable(), make("p", { class: "note" }, "No device was given: tools/look.py .. --device DEV shows the plan.")); return; }
   const { rows, cols } = D.plan, inside = new Map();
   for (const [name, [row, col]] of Object.entries(D.plan.tasks)) inside.set(`${row} ${col}`, [...(inside.get(`${row} ${col}`) || []), name]);
   const most = Math.max(1, ...[...inside.values()].map((it) => it.length));
   const columns = most > 60 ? 16 : most > 12 ? 4 : 2, isSmall = most > 60;
   const chip = isSmall ? { width: 14, height: 10 } : { width: columns === 4 ? 96 : 140, height: 20 };
   const bars = D.plan.resources.filter((name, at) => D.plan.slots.some((it) => it.has[at] > 0)).length;
-  const slotWidth = Math.max(260, columns * (chip.width + 8) + 16), top = 22 + 16 * bars, slotHeight = top + 8 + Math.ceil(most / columns) * (chip.height + 8), gap = 46;
-  const svg = draw("svg", { width: cols * (slotWidth + gap) + gap, height: rows * (slotHeight + gap) + gap });
+  const slotWidth = Math.max(260, columns * (chip.width + 8) + 16), top = 22 + 16 * bars, gap = 46;
+  // a row of slots is as high as its fullest slot needs
+  const fullest = Array.from({ length: rows }, (_, row) => Math.max(0, ...Array.from({ length: cols }, (_, col) => (inside.get(`${row} ${col}`) || []).length)));
+  const heights = fullest.map((it) => top + 8 + Math.ceil(it / columns) * (chip.height + 8)), tops = heights.map((_, row) => gap + heights.slice(0, row).reduce((sum, it) => sum + it + gap, 0));
+  const svg = draw("svg", { width: cols * (slotWidth + gap) + gap, height: heights.reduce((sum, it) => sum + it + gap, gap) });
+  svg.append(draw("defs", {}, draw("marker", { id: "end-plan", markerUnits: "userSpaceOnUse", markerWidth: 9, markerHeight: 8, refX: 8, refY: 4, orient: "auto" }, draw("path", { d: "M0 0 L9 4 L0 8 Z", fill: "var(--edge)" }))));
   const centres = new Map(), boxes = draw("g", {}), wires = draw("g", {});
-  for (const slot of D.plan.slots) drawSlot(boxes, centres, slot, inside.get(slot.place.join(" ")) || [], { columns, chip, slotWidth, slotHeight, gap, isSmall, top });
+  for (const slot of D.plan.slots) drawSlot(boxes, centres, slot, inside.get(slot.place.join(" ")) || [], { columns, chip, slotWidth, heights, tops, gap, isSmall, top });
   for (const [name, [, latency, balance]] of Object.entries(D.plan.streams)) {
     const stream = streams.get(name), one = stream && centres.get(stream.writer), other = stream && centres.get(stream.reader);
     if (one && other) wires.append(planWire(name, one, other, latency + balance));
   }
   svg.append(boxes, wires);
-  place.append(balanceWords(), svg);
+  place.append(balanceWords(), svg, usesTable());
   listeners.push(() => { for (const group of [boxes, wires]) for (const it of group.querySelectorAll("[data-name]")) { it.classList.toggle("chosen", it.dataset.name === chosen); it.classList.toggle("near", isNear(it.dataset.name)); } });
 }
 
 function drawSlot(boxes, centres, slot, names, size) {
-  const x = size.gap + slot.place[1] * (size.slotWidth + size.gap), y = size.gap + slot.place[0] * (size.slotHeight + size.gap);
-  const group = draw("g", { class: "slot" }, draw("rect", { x, y, width: size.slotWidth, height: size.slotHeight, rx: 6 }));
+  const x = size.gap + slot.place[1] * (size.slotWidth + size.gap), y = size.tops[slot.place[0]];
+  const group = draw("g", { class: "slot" }, draw("rect", { x, y, width: size.slotWidth, height: size.heights[slot.place[0]], rx: 6 }));
   group.append(label(x + 2, y - 8, `slot ${slot.place.join(" ")}${slot.forbidden ? ", forbidden" : ""}`, { "font-weight": "bold" }));
   let top = y - 4;
   D.plan.resources.forEach((name, at) => {
@@ -430,7 +486,7 @@ function drawSlot(boxes, centres, slot, names, size) {
     const left = x + 10 + (at % size.columns) * (size.chip.width + 8), top = y + size.top + Math.floor(at / size.columns) * (size.chip.height + 8);
     centres.set(name, [left + size.chip.width / 2, top, top + size.chip.height]);
     const made = draw("g", { class: "task chip", "data-name": name }, draw("rect", { x: left, y: top, width: size.chip.width, height: size.chip.height, rx: 3, style: "fill:var(--card)" }), draw("title", {}, name));
-    const words = name.length * 6.6 > size.chip.width - 8 ? `${name.slice(0, Math.floor((size.chip.width - 16) / 6.6))}..` : name;
+    const words = cutName(name, Math.floor((size.chip.width - 8) / 6.6));
     if (!size.isSmall) made.append(label(left + size.chip.width / 2, top + 14, words, { "text-anchor": "middle", "font-size": 10 }));
     made.addEventListener("click", () => choose(name));
     group.append(made);
@@ -442,7 +498,7 @@ function planWire(name, [x, above, below], [toX, toAbove, toBelow], registers) {
   // from the lower edge of the upper one to the upper edge of the lower one; side by side from lower edge to lower edge
   const bend = above === toAbove ? 26 : 0, y = toAbove < above ? above : below, toY = above < toAbove ? toAbove : toBelow;
   const way = `M${x} ${y} C${x} ${(y + toY) / 2 + bend} ${toX} ${(y + toY) / 2 + bend} ${toX} ${toY}`;
-  const group = draw("g", { class: `wire${registers ? " late" : ""}`, "data-name": name }, draw("path", { d: way, class: "grip" }), draw("path", { d: way, class: "line" }), draw("title", {}, `${name}${registers ? `: ${registers} registers` : ""}`));
+  const group = draw("g", { class: `wire${registers ? " late" : ""}`, "data-name": name }, draw("path", { d: way, class: "grip" }), draw("path", { d: way, class: "line", "marker-end": "url(#end-plan)" }), draw("title", {}, `${name}${registers ? `: ${registers} registers` : ""}`));
   group.addEventListener("click", () => choose(name));
   return group;
 }
@@ -477,6 +533,7 @@ addEventListener("keydown", (event) => {
 
 showHead();
 showGraph();
+showStreams();
 listeners.push(showDetail);
 showTime();
 showBounds();

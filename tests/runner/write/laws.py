@@ -1,0 +1,63 @@
+"""The laws of the crates, as docs/THEOREMS.md lists them: by room from the last to the first, of each law what it says and where it stands.
+
+A law is a function `law_*` that does nothing: its contract is what is proved, and the first sentence of its `///` lines says it in words.
+"""
+import collections
+import os
+import re
+
+from runner.trial import ROOT, read
+from runner.write import crates, lists
+
+Law = collections.namedtuple("Law", "name crate path sentence clauses")
+CONTRACT = re.compile(r"((?:^///[^\n]*\n)*)^pub fn (law_\w+)\(\)\n(.*?)^\{", re.M | re.S)
+
+
+def sources(crate):
+    """The files of a crate's code."""
+    for folder, below, names in os.walk(os.path.join(ROOT, "crates", crate, "src")):
+        below.sort()
+        yield from (os.path.relpath(os.path.join(folder, name), ROOT) for name in sorted(names) if name.endswith(".rt"))
+
+
+def cited(clause):
+    """A clause's name, and the definitions that it cites where it is no more than one of them."""
+    name, said = re.match(r"\s*(\w*)\s*\{(.*)\}\s*$", clause, re.S).groups()
+    cites = re.fullmatch(r"\s*(\w+)\s*", said)
+    return " ".join(it for it in (name, f"`{cites.group(1)}`" if cites else "") if it)
+
+
+def laws_in(path):
+    """The laws of a file."""
+    text = read(path)
+    for found in CONTRACT.finditer(text):
+        comment = " ".join(line[3:].strip() for line in found.group(1).splitlines())
+        clauses = [cited(it) for it in re.split(r"^ {4}ensures", found.group(3), flags=re.M)[1:]]
+        yield Law(found.group(2), path.split("/")[1], path, lists.sentence(comment), [it for it in clauses if it])
+
+
+def laws(crate):
+    """The laws of a crate, file by file."""
+    return [law for path in sources(crate) for law in laws_in(path)]
+
+
+def all_laws():
+    return [law for _, names in crates.rooms() for name in names for law in laws(name)]
+
+
+def row(law):
+    place = os.path.relpath(law.path, "crates")
+    return f"| `{law.name}` | {law.sentence} | {', '.join(law.clauses) or 'written out there'} | [{place}](../{law.path}) |\n"
+
+
+def text():
+    """The rooms with their laws, those of whole sources first."""
+    parts = []
+    for heading, names in reversed(crates.rooms()):
+        rows = [row(law) for name in reversed(names) for law in laws(name)]
+        if rows:
+            parts.append(f"## Laws of {heading}\n\n| law | what it says | clauses | place |\n|---|---|---|---|\n{''.join(rows)}\n")
+    return "".join(parts)
+
+
+LISTS = {"docs/THEOREMS.md": text}
