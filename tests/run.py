@@ -58,8 +58,8 @@ def main(asked):
     if asked.list:
         print("\n".join(f"{name:12} {groups.row(name)}" for name in groups.names()))
         return 0
-    if asked.words[:1] == ["write"] and len(asked.words) > 1:
-        return write(asked.words[1], asked.words[2:])
+    if asked.words[:1] == ["write"]:
+        return write("".join(asked.words[1:2]), asked.words[2:])
     if asked.words == ["house"]:
         return house.main(["--shrink"] if asked.shrink else [])
     if len(asked.words) > 1:

@@ -5,11 +5,11 @@ what `tapa run` shows.
     tools/check_memories.py PROGRAM [SOURCE TOP DATA [--text F.v] [--memories ram|bus|random]] [--page F.md]
 
 Each circuit (by default those of the examples that end) runs with the lines for a block RAM of docs/CIRCUIT.md around it, with those for a bus, which replies after one to
-eight cycles, and with memories that are ready in random cycles and show random bits in the others. Each run is reset several times, for one cycle or more, at random moments,
-from registers that are unknown at first. The script also checks that no memory is ready or changes while `rst` is 1, and that what a memory is asked for stays as it is until
-the memory is ready. With --text the circuit is read from a file, and not built from the source; an address that comes only with `ack` is found with random memories alone,
-since it does not settle where `ack` comes with the address. With --page the lines are those of another page. The random numbers are the same in each call. Needs `iverilog`
-and `vvp`.
+eight cycles, and with memories that are ready in random cycles and show random bits in the others. A bus and such a memory show random bits in reply to a store, too. Each
+run is reset several times, for one cycle or more, at random moments, from registers that are unknown at first. The script also checks that no memory is ready or changes while
+`rst` is 1, and that what a memory is asked for stays as it is until the memory is ready. With --text the circuit is read from a file, and not built from the source; an
+address that comes only with `ack` is found with random memories alone, since it does not settle where `ack` comes with the address. With --page the lines are those of another
+page. The random numbers are the same in each call. Needs `iverilog` and `vvp`.
 """
 import functools
 import json
@@ -48,28 +48,28 @@ def block_ram(page, name, bits, size):
 
 
 def bus(page, name, bits, size):
-    """The lines for a bus, for a memory of this name, bits and size, and a bus that replies after one to eight cycles.
+    """The lines for a bus, for a memory of this name, bits and size, and a bus that replies after one to eight cycles, to a store with noise.
 
     Their names are `bus_request`, `bus_we`, `bus_addr` and `bus_wdata`, which the bus takes, and `bus_reply` and `bus_rdata`, which it shows.
     """
     lines = page_lines(page, "reg is_asking;").replace("[31:0]", f"[{bits - 1}:0]").replace("m_a_", f"m_{name}_")
     lines = re.sub(r"\b(is_asking|is_answered|asked_we|asked_addr|asked_wdata|answer|bus_\w+)\b", rf"\1_{name}", lines)
-    return f"""reg [{bits - 1}:0] cells_{name} [0:{max(1, size) - 1}]; reg [2:0] left_{name};
+    return f"""reg [{bits - 1}:0] cells_{name} [0:{max(1, size) - 1}]; reg [2:0] left_{name}; reg [63:0] noise_{name};
 wire bus_request_{name}; wire bus_we_{name}; wire [63:0] bus_addr_{name}; wire [{bits - 1}:0] bus_wdata_{name}; wire bus_reply_{name}; wire [{bits - 1}:0] bus_rdata_{name};
 {lines}assign bus_reply_{name} = !rst && bus_request_{name} && left_{name} == 0;
-assign bus_rdata_{name} = bus_addr_{name} < 64'd{size} ? cells_{name}[bus_addr_{name}] : {bits}'d0;
+assign bus_rdata_{name} = !bus_reply_{name} || bus_we_{name} ? noise_{name} : bus_addr_{name} < 64'd{size} ? cells_{name}[bus_addr_{name}] : {bits}'d0;
 always @(posedge clk) begin
   if (bus_reply_{name} && bus_we_{name} && bus_addr_{name} < 64'd{size}) cells_{name}[bus_addr_{name}] <= bus_wdata_{name};
-  left_{name} <= bus_request_{name} === 1 && left_{name} !== 0 ? left_{name} - 1 : $random;
+  left_{name} <= bus_request_{name} === 1 && left_{name} !== 0 ? left_{name} - 1 : $random; noise_{name} <= {{$random, $random}};
 end
 """
 
 
 def random_memory(_page, name, bits, size):
-    """A memory that is ready when `ready_NAME` says so, outside of reset, and shows noise where it is not ready."""
+    """A memory that is ready when `ready_NAME` says so, outside of reset, and shows noise where it is not ready or a value is stored."""
     return f"""reg [{bits - 1}:0] cells_{name} [0:{max(1, size) - 1}]; reg ready_{name}; reg [63:0] noise_{name};
 assign m_{name}_ack = !rst && ready_{name};
-assign m_{name}_rdata = !m_{name}_ack ? noise_{name} : m_{name}_addr < 64'd{size} ? cells_{name}[m_{name}_addr] : {bits}'d0;
+assign m_{name}_rdata = !m_{name}_ack || m_{name}_we ? noise_{name} : m_{name}_addr < 64'd{size} ? cells_{name}[m_{name}_addr] : {bits}'d0;
 always @(posedge clk) begin
   if (m_{name}_we && m_{name}_ack && m_{name}_addr < 64'd{size}) cells_{name}[m_{name}_addr] <= m_{name}_wdata;
   ready_{name} <= $random; noise_{name} <= {{$random, $random}};
@@ -123,8 +123,7 @@ def bench(text, data, memory, resets):
         yield from (f"  if (cells_{label}[{at}] !== {bits}'d{cell % 2**bits}) $display(\"bad {label} changes in reset\");" for at, cell in enumerate(cells))
     yield "end endtask"
     yield "initial begin clk = 0; cycle = 0; begun = 0; rst = 0; #1; while (1) begin"
-    for moment, length in resets:
-        yield f"  if (cycle == {moment}) begin fill; rst = 1; begun = {moment + length}; $display(\"again\"); end"
+    yield from (f"  if (cycle == {moment}) begin fill; rst = 1; begun = {moment + length}; $display(\"again\"); end" for moment, length in resets)
     yield "  if (cycle == begun) begin fill; rst = 0; end"
     yield "  #4; if (rst) look;"
     yield "  else begin"
@@ -148,8 +147,7 @@ def shown_in_icarus(folder, text, data, memory, resets):
     subprocess.run(["iverilog", "-g2005", "-gno-xtypes", "-o", paths[2], *paths[:2]], check=True)
     said = subprocess.run(["vvp", "-n", paths[2]], check=True, capture_output=True, text=True).stdout.splitlines()
     bad = sorted({line for line in said if line.startswith("bad ")})
-    last = len(said) - said[::-1].index("again")
-    return report(text, [line for line in said[last:] if not line.startswith("bad ")]), bad
+    return report(text, [line for line in said[len(said) - said[::-1].index("again"):] if not line.startswith("bad ")]), bad
 
 
 def built(program, source, top, *words):

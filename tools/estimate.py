@@ -26,10 +26,7 @@ def main(asked):
     known = device.read(asked.device) if asked.device else None
     found = estimate.estimate(called, asked.source, asked.top, known.tasks if known else None)
     groups = slot_groups.groups(found.labels, slot_groups.links(asked.source, asked.top, found.labels, found.widths))
-    if asked.json:
-        print(json.dumps(table.as_object(found, groups, known), indent=2))
-    else:
-        print("\n".join(table.in_words(found, groups, known)))
+    print(json.dumps(table.as_object(found, groups, known), indent=2) if asked.json else "\n".join(table.in_words(found, groups, known)))
 
 
 if __name__ == "__main__":

@@ -23,13 +23,13 @@ def words():
     return asked
 
 
-def planned(tapa, asked):
+def planned(tapa, asked, network):
     """What the page shows of the plan."""
     command = ["plan", asked.source, asked.top, asked.device, *(["--plan", asked.plan] if asked.plan else [])]
     said = tapa.call(command)
     if said.status != 0:
         raise script.Told(said.err.decode("utf-8", "replace").strip(), command)
-    return contents.plan_data(plan.parse(said.out.decode()), device.read(asked.device))
+    return contents.plan_data(plan.parse(said.out.decode()), device.read(asked.device), network)
 
 
 def uses(tapa, asked):
@@ -54,7 +54,7 @@ def main(asked):
     made["run"] = contents.report_data(reports.rows(network, report, True), report)
     made["uses"] = uses(bench.program, asked)
     if asked.device:
-        made["plan"] = planned(bench.program, asked)
+        made["plan"] = planned(bench.program, asked, network)
     sys.stdout.write(page.page(made))
 
 

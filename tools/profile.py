@@ -39,10 +39,7 @@ def main(asked):
             shown = bench.profile(read.text)
             changes = None if asked.no_tries else tries.changes(bench, read, shown)
     bound = bounds.bound(bounds.critical_way(shown))
-    if asked.json:
-        print(json.dumps(text.as_json(shown, bound, changes), indent=1))
-    else:
-        print("\n".join(text.lines(shown, read, bound, changes)))
+    print(json.dumps(text.as_json(shown, bound, changes), indent=1) if asked.json else "\n".join(text.lines(shown, read, bound, changes)))
 
 
 if __name__ == "__main__":

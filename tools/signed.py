@@ -14,6 +14,10 @@ from vechaqir.language import source  # noqa: E402
 from vechaqir.show import report  # noqa: E402
 
 
+def words():
+    return script.Words(__doc__).design()
+
+
 def main(asked):
     network = source.network(source.read(asked.source), asked.top)
     for line in sys.stdin:
@@ -21,4 +25,4 @@ def main(asked):
 
 
 if __name__ == "__main__":
-    script.run(script.Words(__doc__).design(), main)
+    script.run(words(), main)

@@ -7,6 +7,7 @@ import sys
 
 sys.dont_write_bytecode = True
 from vechaqir import script  # noqa: E402
+from vechaqir.host import data  # noqa: E402
 from vechaqir.language import source  # noqa: E402
 
 MOST_CELLS = 65_536
@@ -18,20 +19,13 @@ def words():
     return asked
 
 
-def template(network, cells):
-    scalars = [f'    "{it.name}": 0' for it in network.scalars]
-    memories = [f'    "{it.name}": [{", ".join(["0"] * cells)}]' for it in network.memories]
-    groups = [(name, lines) for name, lines in (("scalars", scalars), ("memories", memories)) if lines]
-    return "{\n" + ",\n".join(f'  "{name}": {{\n' + ",\n".join(lines) + "\n  }" for name, lines in groups) + "\n}"
-
-
 def main(asked):
     read = source.read(asked.source)
-    found = source.network(read, asked.top)
+    source.network(read, asked.top)
     if not read.tasks[asked.top].is_upper:
         uppers = ", ".join(it.name for it in read.tasks.values() if it.is_upper)
         raise script.Fault(f"{asked.top} invokes no task, so it is no top task: {f'{asked.source} has {uppers}' if uppers else f'{asked.source} has none'}")
-    print(template(found, asked.cells))
+    sys.stdout.write(data.text_of(data.template(read.tasks[asked.top], asked.cells)))
 
 
 if __name__ == "__main__":

@@ -56,8 +56,7 @@ def main(asked):
         cycles = cycles_of(circuit, inputs, asked.waits, None if run.end == "done" else run.count)
     except Failure as why:
         raise script.Told(str(why), ["build", asked.source, asked.top, *(["--device", asked.device] if asked.device else [])]) from None
-    network = source.network(source.read(asked.source), asked.top)
-    bench = testbench.made_of(network, inputs, run, testbench.limit_of(cycles, asked.waits))
+    bench = testbench.made_of(source.network(source.read(asked.source), asked.top), inputs, run, testbench.limit_of(cycles, asked.waits))
     text = testbench.text_of(bench, asked.waits, script.called())
     sys.stdout.write(text if asked.alone else text + "\n" + circuit.text)
 

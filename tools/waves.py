@@ -4,7 +4,7 @@
     tools/waves.py F.vcd [--nets A,B,..] [--from N] [--to N] > F.svg
     tools/waves.py F.vcd --fill [--from N] [--to N] > F.svg
 
-A dump is that of `tapa cosim --vcd` or of `tools/icarus.py --dump`. A net is named by its path, `t_Add$2.state`, or by its name alone where no other net has it. Unknown values are
+A dump is that of `tapa cosim --vcd`, of `tools/icarus.py --dump` or of `tools/names.py --waves`, whose acts are drawn as texts. A net is named by its path, `t_Add$2.state`, or by its name alone where no other net has it. Unknown values are
 hatched. A stream X is as full as tokens were written to it (`s_X_wr` and `s_X_rdy`) and not yet taken (`s_X_has` and `s_X_take`): in its FIFO or on their way to it. Nothing here is
 proved: the picture shows what the dump says.
 """

@@ -15,7 +15,7 @@ from vechaqir.language import arrays, strict  # noqa: E402
 def words():
     asked = script.Words(__doc__)
     asked.add_argument("source", metavar="SRC", help="the source")
-    asked.add_argument("place", metavar="LINE COL", nargs="*", type=script.number(0, 10**9), help="a line and a column of the written-out text")
+    asked.add_argument("place", metavar="LINE COL", nargs="*", default=[], type=script.number(0, 10**9), help="a line and a column of the written-out text")
     return asked
 
 

@@ -8,7 +8,6 @@ cycles. LUT are LUT1 to LUT6 and inverters, LUT RAM the LUTs of distributed RAM 
 a module by itself.
 """
 import os
-import re
 import subprocess
 import sys
 import tempfile
@@ -17,7 +16,7 @@ sys.dont_write_bytecode = True
 HERE = os.path.dirname(os.path.abspath(__file__))
 sys.path.insert(0, os.path.dirname(HERE))
 from runner.made.handmade import TASKS, compare, hand_text  # noqa: E402
-from runner.trial import ROOT  # noqa: E402
+from runner.trial import ROOT, first_words  # noqa: E402
 from vechaqir import script  # noqa: E402
 from vechaqir.measure import board  # noqa: E402
 
@@ -25,13 +24,6 @@ CYCLES = 20_000
 EXAMPLES = ["vector_add", "run_length", "fir", "bandwidth", "histogram", "page_rank", "jacobi", "bitonic", "systolic", "stencil"]
 MODULES = [("vector_add", "t_Mmap2Stream"), ("vector_add", "t_Add"), ("vector_add", "t_Stream2Mmap"), ("fir", "t_Tap"), ("run_length", "t_Encode"), ("histogram", "t_Count"),
            ("page_rank", "t_Ranks"), ("jacobi", "t_Sweep"), ("bitonic", "t_Stage"), ("vector_add", "channel_33_2_0"), ("bandwidth", "fifo_33_16_16")]
-
-
-def first_words(example):
-    """The source of an example and its top task, by the command in its first line."""
-    path = os.path.join(ROOT, "examples", f"{example}.cpp")
-    with open(path, encoding="utf-8") as file:
-        return path, re.search(r"run \S+ (\w+)", file.readline()).group(1)
 
 
 class Circuits:
@@ -42,7 +34,7 @@ class Circuits:
 
     def text(self, example):
         if example not in self.texts:
-            self.texts[example] = subprocess.run([self.program, "build", *first_words(example)], capture_output=True, text=True, check=True).stdout
+            self.texts[example] = subprocess.run([self.program, "build", *first_words(f"examples/{example}.cpp")[:2]], cwd=ROOT, capture_output=True, text=True, check=True).stdout
         return self.texts[example]
 
     def row(self, name, text, top):
@@ -94,7 +86,7 @@ def main(asked):
         tell(head("example"))
         for example in EXAMPLES:
             if asked.only in example:
-                tell([circuits.row(example, circuits.text(example), f"t_{first_words(example)[1]}")])
+                tell([circuits.row(example, circuits.text(example), f"t_{first_words(f'examples/{example}.cpp')[1]}")])
         print()
         try_modules(circuits, asked.only)
 

@@ -16,11 +16,9 @@ which no other work on the machine disturbs.
 """
 import glob
 import json
-import math
 import os
 import random
 import re
-import shlex
 import shutil
 import statistics
 import subprocess
@@ -31,11 +29,13 @@ from pathlib import Path
 sys.dont_write_bytecode = True
 HERE = os.path.dirname(os.path.abspath(__file__))
 sys.path.insert(0, os.path.dirname(HERE))
-from runner.trial import ROOT  # noqa: E402
+from runner.timed import timed  # noqa: E402
+from runner.trial import first_words, read, sources  # noqa: E402
 from vechaqir import script  # noqa: E402
 from vechaqir.measure import icarus  # noqa: E402
 
-TIMES, SHORT, CELLS, CYCLES = 500, 20, 60_000, 200_000
+TIMES, CELLS, CYCLES = 500, 60_000, 200_000
+FEWER = {"jacobi": 4, "page_rank": 20, "stencil": 20, "stencil_2d": 20}  # their constants are sizes of arrays, which have limits
 COUNTED = (300, 1_300)
 OPTIMISED = ("-MAKEFLAGS", "OPT_FAST=-O3 OPT_GLOBAL=-O3")
 ONE_PASSES = "512 tasks of which one passes a token"
@@ -43,9 +43,10 @@ WAITING = ("bad_token", "feedback", "too_shallow", ONE_PASSES)
 
 
 def longer(text, times):
-    """A source whose loops and constants go so many times as far, but not the counts of arrays of streams and of invokes."""
+    """A source whose loops and constants go so many times as far, but not the counts and places of arrays of streams and of invokes."""
     constants = dict(re.findall(r"const int (\w+) = (\d+);", text))
     text = re.sub(r"(tapa::(?:streams|invoke|join|detach)(?:<\w+)?, )(\w+)", lambda it: it[1] + constants.get(it[2], it[2]), text)
+    text = re.sub(r"\.invoke.*", lambda line: re.sub(r"(?<=\[)\w+(?=\])", lambda it: constants.get(it[0], it[0]), line[0]), text)
     text = re.sub(r"(for \([^;]*; \w+ <=? )(\d+)(;)", lambda it: f"{it[1]}{int(it[2]) * times}{it[3]}", text)
     return re.sub(r"(const (?:int|uint64_t) \w+ = )(\d+)(;)", lambda it: f"{it[1]}{int(it[2]) * times}{it[3]}", text)
 
@@ -56,25 +57,24 @@ def longer_data(data, times):
     return {"memories": memories, "scalars": scalars}
 
 
+def in_row(tasks, turns, first, middle, last):
+    """Tasks in a row, each of which makes so many turns of what stands here for it."""
+    bodies = [("tapa::ostream<int>& q", *first), ("tapa::istream<int>& p, tapa::ostream<int>& q", *middle), ("tapa::istream<int>& p", *last)]
+    text = "".join(f"void {name}({ends}) {{ {before}for (int i = 0; i < {turns}; ++i) {{ {turn} }} }}\n" for name, (ends, before, turn) in zip("PMC", bodies))
+    streams = "".join(f"tapa::stream<int> s{at}; " for at in range(tasks - 1))
+    between = "".join(f".invoke(M, s{at}, s{at + 1})" for at in range(tasks - 2))
+    return f"{text}void T() {{ {streams}tapa::task().invoke(P, s0){between}.invoke(C, s{tasks - 2}); }}\n"
+
+
 def busy(tasks, turns):
     """Tasks in a row that compute on each token."""
-    turn = f"for (int i = 0; i < {turns}; ++i)"
-    text = f"void P(tapa::ostream<int>& q) {{ int x = 1; {turn} {{ x = x * 5 + 3; q << x; }} }}\n"
-    text += f"void M(tapa::istream<int>& p, tapa::ostream<int>& q) {{ {turn} {{ int x = p.read(); int y = x ^ i; y = y + (x >> 3); q << y; }} }}\n"
-    text += f"void C(tapa::istream<int>& p) {{ int s = 0; {turn} {{ s = s + p.read(); }} }}\n"
-    streams = "".join(f"tapa::stream<int> s{at}; " for at in range(tasks - 1))
-    middle = "".join(f".invoke(M, s{at}, s{at + 1})" for at in range(tasks - 2))
-    return f"{text}void T() {{ {streams}tapa::task().invoke(P, s0){middle}.invoke(C, s{tasks - 2}); }}\n"
+    middle = "int x = p.read(); int y = x ^ i; y = y + (x >> 3); q << y;"
+    return in_row(tasks, turns, ("int x = 1; ", "x = x * 5 + 3; q << x;"), ("", middle), ("int s = 0; ", "s = s + p.read();"))
 
 
 def waiting(tasks):
     """A chain of tasks that all wait for tokens, of which few come."""
-    text = "void P(tapa::ostream<int>& q) { for (int i = 0; i < 3; ++i) { q << i; } }\n"
-    text += "void M(tapa::istream<int>& p, tapa::ostream<int>& q) { for (int i = 0; i < 3; ++i) { int x = p.read(); q << x + 1; } }\n"
-    text += "void C(tapa::istream<int>& p) { for (int i = 0; i < 3; ++i) { p.read(); } }\n"
-    streams = "".join(f"tapa::stream<int> s{at}; " for at in range(tasks - 1))
-    middle = "".join(f".invoke(M, s{at}, s{at + 1})" for at in range(tasks - 2))
-    return f"{text}void T() {{ {streams}tapa::task().invoke(P, s0){middle}.invoke(C, s{tasks - 2}); }}\n"
+    return in_row(tasks, 3, ("", "q << i;"), ("", "int x = p.read(); q << x + 1;"), ("", "p.read();"))
 
 
 def written(path):
@@ -88,33 +88,26 @@ def written(path):
 
 def cases():
     """Each circuit: its name, its source, its top task and its data."""
-    for path in sorted(glob.glob(os.path.join(ROOT, "examples", "*.cpp"))):
-        text = Path(path).read_text(encoding="utf-8")
-        words = shlex.split(text.split("\n")[0].removeprefix("// tapa run "))
-        data = {}
-        if len(words) > 2:
-            data = json.loads(Path(ROOT, words[2]).read_text(encoding="utf-8"))
-        times = SHORT if "stencil" in path else TIMES
-        yield os.path.basename(path).removesuffix(".cpp"), longer(text, times), words[1], longer_data(data, times)
+    for path in sources("examples"):
+        _, top, *data = first_words(path)
+        times = FEWER.get(Path(path).stem, TIMES)
+        yield Path(path).stem, longer(read(path), times), top, longer_data(json.loads(read(data[0])) if data else {}, times)
     yield "36 busy tasks in a row", busy(36, 2_000), "T", {}
     yield ONE_PASSES, waiting(512), "T", {}
-    for path in sorted(glob.glob(os.path.join(HERE, "cosim_speed", "*.cpp"))):
-        yield written(path)
+    yield from (written(path) for path in sorted(glob.glob(os.path.join(HERE, "cosim_speed", "*.cpp"))))
 
 
 def once(words, folder):
     """The processor seconds of a call, and the lines that it printed."""
     with open(os.path.join(folder, "said"), "wb") as out:
-        ran = subprocess.Popen(words, cwd=folder, stdout=out, stderr=subprocess.DEVNULL)
-        _, _, spent = os.wait4(ran.pid, 0)
-        ran.returncode = 0
-    return spent.ru_utime + spent.ru_stime, Path(folder, "said").read_text(encoding="utf-8").split("\n")
+        seconds = timed(words, folder, out).seconds
+    return seconds, Path(folder, "said").read_text(encoding="utf-8").split("\n")
 
 
 def by_turns(calls, folder, times, middle):
     """For each of the calls, which take turns: the least or the middle of its processor seconds, and the lines that it printed."""
     made = [[once(words, folder) for words in calls] for _ in range(times)]
-    return [((statistics.median if middle else min)(spent for spent, _ in own), own[-1][1]) for own in zip(*made)]
+    return [((statistics.median if middle else min)(seconds for seconds, _ in own), own[-1][1]) for own in zip(*made)]
 
 
 def build(program, folder, source, top, data):
@@ -162,10 +155,6 @@ def instructions(program, folder, cycles):
     return int(re.search(r"Collected : (\d+)", ran.stderr)[1]), int(ran.stdout.split("\n")[-2].split()[1])
 
 
-def mean_of(ratios):
-    return math.exp(sum(math.log(ratio) for ratio in ratios) / len(ratios))
-
-
 def count(program, folder, only):
     """Prints the instructions of a cycle of each circuit."""
     print("| circuit | instructions a cycle |\n|---|---|")
@@ -176,14 +165,14 @@ def count(program, folder, only):
             (few, before), (many, after) = (instructions(program, folder, cycles) for cycles in COUNTED)
             found.append((many - few) / (after - before))
             print(f"| {name} | {found[-1]:,.0f} |", flush=True)
-    print(f"| geometric mean of {len(found)} | {mean_of(found):,.0f} |")
+    print(f"| geometric mean of {len(found)} | {statistics.geometric_mean(found):,.0f} |")
 
 
 def ends(found):
     """The last rows of a table of circuits: (name, times as fast as Icarus, times as slow as Verilator or None)."""
-    groups = [("geometric mean", mean_of, found), ("least", min, found), ("most", max, found)]
-    groups.append(("geometric mean of those that wait,", mean_of, [it for it in found if it[0] in WAITING]))
-    groups.append(("geometric mean of the others,", mean_of, [it for it in found if it[0] not in WAITING]))
+    groups = [("geometric mean", statistics.geometric_mean, found), ("least", min, found), ("most", max, found)]
+    groups.append(("geometric mean of those that wait,", statistics.geometric_mean, [it for it in found if it[0] in WAITING]))
+    groups.append(("geometric mean of the others,", statistics.geometric_mean, [it for it in found if it[0] not in WAITING]))
     for what, taken, of in groups:
         if of:
             slower = [it[2] for it in of if it[2] is not None]
@@ -196,8 +185,7 @@ def measure(program, folder, only, simulators):
     found = []
     for name, source, top, data in cases():
         if only in name:
-            text = build(program, folder, source, top, data)
-            cycles, own, other, compiled = measured(program, folder, text, data, simulators)
+            cycles, own, other, compiled = measured(program, folder, build(program, folder, source, top, data), data, simulators)
             slower = None if compiled is None else own / max(compiled, 0.001)
             found.append((name, other / own, slower))
             beside = "|" if slower is None else f"{compiled:.4f} s | {slower:.2f}"

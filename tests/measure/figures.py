@@ -9,7 +9,6 @@ import itertools
 import json
 import os
 import random
-import subprocess
 import sys
 import tempfile
 from pathlib import Path
@@ -18,6 +17,7 @@ sys.dont_write_bytecode = True
 sys.path.insert(0, os.path.dirname(os.path.dirname(os.path.abspath(__file__))))
 from runner.made.programs import chain, device, filled, name, network  # noqa: E402
 from runner.made.shapes import ORDERS, PLACES, SHAPES, shaped, slots_of  # noqa: E402
+from runner.timed import timed  # noqa: E402
 from vechaqir import script  # noqa: E402
 
 
@@ -157,12 +157,10 @@ def commands():
     """All of them, each behind its command; made one by one, since a child begins with what its parent holds."""
     for *case, status in inputs():
         yield "run", *case, (status,)
-    for case in plans():
-        yield "plan", *case
+    yield from (("plan", *case) for case in plans())
     for what, source in circuits():
         yield "build", f"the circuit of {what}", source, None, [], (0,)
-    for what, source, given in pipelines():
-        yield "build", f"the circuit of {what}", source, given, ["--device", "d.json"], (0,)
+    yield from (("build", f"the circuit of {what}", source, given, ["--device", "d.json"], (0,)) for what, source, given in pipelines())
 
 
 def balances(shape):
@@ -181,11 +179,8 @@ def measured(program, folder, verb, source, data, words):
         if text is not None:
             Path(folder, file).write_text(text, encoding="utf-8")
     given = ["d.json"] if data is not None and "--device" not in words else []
-    ran = subprocess.Popen([program, verb, "r.cpp", "T", *given, *words], cwd=folder, stdout=subprocess.DEVNULL, stderr=subprocess.PIPE)
-    err = ran.stderr.read().decode()
-    _, status, used = os.wait4(ran.pid, 0)
-    ran.returncode = os.waitstatus_to_exitcode(status)
-    return ran.returncode, err, used.ru_utime + used.ru_stime, used.ru_maxrss / 1024
+    took = timed([program, verb, "r.cpp", "T", *given, *words], folder)
+    return took.status, took.err, took.seconds, took.megabytes
 
 
 def slowest(program, folder, shape):

@@ -57,8 +57,7 @@ def work_of(pid):
         return None
     if "--crate-name" not in words[:-1]:
         return None
-    crate = words[words.index("--crate-name") + 1]
-    return crate, "edits" if "rt-edit" in folder else "tests" if "--test" in words else "proof"
+    return words[words.index("--crate-name") + 1], "edits" if "rt-edit" in folder else "tests" if "--test" in words else "proof"
 
 
 def look(root, used, known):

@@ -9,27 +9,20 @@ A crate without a row in the table counts nothing.
 import os
 import re
 import sys
-from pathlib import Path
 
 sys.dont_write_bytecode = True
 sys.path.insert(0, os.path.dirname(os.path.dirname(os.path.abspath(__file__))))
-from runner.trial import ROOT  # noqa: E402
+from runner.trial import read  # noqa: E402
 from vechaqir import script  # noqa: E402
-
-
-def libraries():
-    """What each crate of crates.txt stands on."""
-    return {name: words.split() for name, words in re.findall(r"^(\w+):(.*)$", Path(ROOT, "crates.txt").read_text(encoding="utf-8"), re.M)}
 
 
 def seconds():
     """The seconds of each crate: its proof, its tests and its edits."""
     found = {}
-    with open(os.path.join(ROOT, "docs", "FIGURES.md"), encoding="utf-8") as file:
-        for row in re.findall(r"^\| (\w+ \| \d+ \| \d+ \| \d+ \|.*)$", file.read(), re.M):
-            cells = [cell.strip() for cell in row.strip("| ").split("|")]
-            for at in range(0, len(cells) - 3, 4):
-                found[cells[at]] = sum(map(int, cells[at + 1 : at + 4]))
+    for row in re.findall(r"^\| (\w+ \| \d+ \| \d+ \| \d+ \|.*)$", read("docs/FIGURES.md"), re.M):
+        cells = [cell.strip() for cell in row.strip("| ").split("|")]
+        for at in range(0, len(cells) - 3, 4):
+            found[cells[at]] = sum(map(int, cells[at + 1 : at + 4]))
     return found
 
 
@@ -50,7 +43,7 @@ def words():
 
 
 def main(asked):
-    below, spent = libraries(), seconds()
+    below, spent = {name: words.split() for name, words in re.findall(r"^(\w+):(.*)$", read("crates.txt"), re.M)}, seconds()
     for crate in asked.crates:
         if crate not in below:
             raise script.Usage(f"{crate} is no crate")

@@ -15,7 +15,6 @@ A cell is the median of the seven, "single rounds" the least and the most of the
 each task says something on a machine that has nothing else to do.
 """
 import json
-import math
 import os
 import re
 import shutil
@@ -23,12 +22,12 @@ import statistics
 import subprocess
 import sys
 import tempfile
-import time
 from pathlib import Path
 
 sys.dont_write_bytecode = True
 sys.path.insert(0, os.path.dirname(os.path.dirname(os.path.abspath(__file__))))
 from runner.made.programs import apart, by_phases, chain, hub, one_heavy, pair, queue, uneven  # noqa: E402
+from runner.timed import timed  # noqa: E402
 from vechaqir import script  # noqa: E402
 
 HERE = os.path.dirname(os.path.abspath(__file__))
@@ -64,8 +63,7 @@ def cases():
         yield f"a hub and {workers} workers, {rounds:,} rounds", hub(workers, rounds), "Top", {}
     for count, rounds in ((1, 2_000_000), (1_000, 6_000)):
         yield f"two tasks and {count:,} stream{'s' if count > 1 else ''}, {rounds:,} rounds", pair(count, rounds), "Top", {}
-    for depth in (2, 4_096):
-        yield f"a task held up on its output, input depth {depth:,}", queue(depth, 1_000_000), "Top", {}
+    yield from ((f"a task held up on its output, input depth {depth:,}", queue(depth, 1_000_000), "Top", {}) for depth in (2, 4_096))
     yield "64 busy tasks side by side, 300,000 turns", apart(64, 300_000), "Top", {}
     yield "64 busy tasks side by side, 1,200,000 turns", apart(64, 1_200_000), "Top", {}
     yield "a chain of ten whose tasks make 1,800 turns a token, 2,000 tokens", uneven([1_800] * 10, 2_000), "Top", {}
@@ -73,20 +71,15 @@ def cases():
     yield "a chain of ten in which one task makes 3,000 turns a token and the others 30, 5,000 tokens", uneven([30] * 5 + [3_000] + [30] * 4, 5_000), "Top", {}
     yield "a busy task, 10,000,000 turns, beside a chain of five, 400,000 tokens", one_heavy(10_000_000, 5, 400_000), "Top", {}
     yield "two tasks that hand over 40,000 tokens and make 1,000,000 turns each, five times", by_phases(20_000, 1_000_000, 5), "Top", {}
-    for turns in (100_000, 400_000, 1_600_000):
-        yield f"a ring of three, {turns:,} turns", source("ring"), "Top", {"scalars": {"n": turns}}
+    yield from ((f"a ring of three, {turns:,} turns", source("ring"), "Top", {"scalars": {"n": turns}}) for turns in (100_000, 400_000, 1_600_000))
 
 
-def used(words, folder, out):
+def used(words, folder, out=subprocess.DEVNULL):
     """The processor seconds, the megabytes and the seconds by the clock of one call, which must end well."""
-    begun = time.monotonic()
-    ran = subprocess.Popen(words, cwd=folder, stdout=out, stderr=subprocess.PIPE)
-    err = ran.stderr.read().decode()
-    _, status, spent = os.wait4(ran.pid, 0)
-    ran.returncode = os.waitstatus_to_exitcode(status)
-    if ran.returncode:
-        sys.exit(f"{words}: status {ran.returncode}: {err[:300].strip()}")
-    return spent.ru_utime + spent.ru_stime, spent.ru_maxrss / 1024, time.monotonic() - begun
+    took = timed(words, folder, out)
+    if took.status:
+        sys.exit(f"{words}: status {took.status}: {took.err[:300].strip()}")
+    return took[:3]
 
 
 def ticks_of(words, folder):
@@ -116,7 +109,7 @@ def anchors(folder):
     found = {}
     for name, file, count in (("a busy task", "busy", 50_000_000), ("a chain of ten", "chain", 1_000_000), *LOOPS):
         built = anchor(file, folder)
-        found[name] = min(used([built, str(count)], folder, subprocess.DEVNULL)[0] for _ in range(REPEATS))
+        found[name] = min(used([built, str(count)], folder)[0] for _ in range(REPEATS))
     return found
 
 
@@ -144,7 +137,7 @@ def by_workers(program, wanted):
     with tempfile.TemporaryDirectory() as folder:
         rows = list(put_all(program, wanted, folder))
         # (the calls of a row by one worker and by more stand next to each other, so that a slow minute of the machine strikes them alike)
-        spent = [[[used([*call, "--workers", str(count)], folder, subprocess.DEVNULL) for count in WORKERS] for _, call in rows] for _ in range(REPEATS)]
+        spent = [[[used([*call, "--workers", str(count)], folder) for count in WORKERS] for _, call in rows] for _ in range(REPEATS)]
         for at, (name, _) in enumerate(rows):
             best = [min((one[at][column] for one in spent), key=lambda it: it[2]) for column in range(len(WORKERS))]
             gained = [statistics.median(one[at][0][2] / one[at][column][2] for one in spent) for column in range(1, len(WORKERS))]
@@ -185,7 +178,7 @@ def counted(program, wanted):
 
 def by_turns(calls, folder):
     """What each of the calls used, seven times; they take turns, so that a slow minute of the machine strikes them alike."""
-    made = [[used(call, folder, subprocess.DEVNULL) for call in calls] for _ in range(REPEATS)]
+    made = [[used(call, folder) for call in calls] for _ in range(REPEATS)]
     return list(zip(*made))
 
 
@@ -208,7 +201,7 @@ def tell_loops(rows, spent):
         took, beside = median(own), median(plain) / PLAIN
         ratios.append(took / beside)
         print(f"| {name} | {turns:,} | {took:.3f} s | {beside:.4f} s | {took / turns * 1e9:.1f} ns | {beside / turns * 1e9:.2f} ns | {ratios[-1]:.1f} | {rounds(own, plain, PLAIN)} |")
-    print(f"| geometric mean of {len(ratios)} | | | | | | {math.exp(sum(map(math.log, ratios)) / len(ratios)):.1f} | |\n| the most of {len(ratios)} | | | | | | {max(ratios):.1f} | |")
+    print(f"| geometric mean of {len(ratios)} | | | | | | {statistics.geometric_mean(ratios):.1f} | |\n| the most of {len(ratios)} | | | | | | {max(ratios):.1f} | |")
 
 
 def tell_chain(name, own, rings, threads):
@@ -255,7 +248,7 @@ def rows(program, wanted):
         plain = anchors(folder)
         found = [(name, call, ticks_of(call, folder)) for name, call in put_all(program, wanted, folder)]
         # (the calls of a row are spread over the whole run, so that a slow minute of the machine strikes no row alone)
-        spent = [[used(call, folder, subprocess.DEVNULL) for _, call, _ in found] for _ in range(REPEATS)]
+        spent = [[used(call, folder) for _, call, _ in found] for _ in range(REPEATS)]
         for at, (name, _, ticks) in enumerate(found):
             seconds, megabytes, _ = min(one[at] for one in spent)
             beside = next((f"{least:.3f} s" for start, least in plain.items() if name.startswith(f"{start},")), "")

@@ -7,6 +7,7 @@
 The most that `cosim` takes are 16,777,216 bytes, which `comments` has. All but `over`, `open` and `cut` are designs whose `done` is 1 from the
 first cycle on, without streams and memories, so `cosim FILE` writes the one line `done 1`.
 """
+import itertools
 import os
 import sys
 
@@ -33,16 +34,9 @@ def filled(head, parts, tail):
     return "".join(taken) + tail
 
 
-def numbers():
-    at = 0
-    while True:
-        yield at
-        at += 1
-
-
 def assigns():
     """Wires, each with what an input drives."""
-    return filled(HEAD, (f"wire w{at} ;\nassign w{at} = rst ;\n" for at in numbers()), TAIL)
+    return filled(HEAD, (f"wire w{at} ;\nassign w{at} = rst ;\n" for at in itertools.count()), TAIL)
 
 
 def chain():
@@ -83,13 +77,13 @@ def elses():
 def line():
     """One line, without a line end."""
     head, tail = HEAD.replace("\n", ""), TAIL.replace("\n", " ").rstrip()
-    return filled(head, (f"wire w{at};assign w{at}=rst;" for at in numbers()), tail)
+    return filled(head, (f"wire w{at};assign w{at}=rst;" for at in itertools.count()), tail)
 
 
 def modules():
     """Instances, each of the same module."""
     child = "module c ( input a , output b ) ;\nassign b = a ;\nendmodule\n"
-    return filled(HEAD, (f"wire w{at} ;\nc u{at} ( . a ( rst ) , . b ( w{at} ) ) ;\n" for at in numbers()), TAIL + child)
+    return filled(HEAD, (f"wire w{at} ;\nc u{at} ( . a ( rst ) , . b ( w{at} ) ) ;\n" for at in itertools.count()), TAIL + child)
 
 
 def name():
@@ -108,12 +102,8 @@ def number():
 def padded(size):
     """A small design with comments of both sorts before each of its words, of so many bytes."""
     words = (HEAD + TAIL).split()
-    room = size - sum(len(word) + 1 for word in words)
-    short, whole = "// a comment /* to the line's end\n", room // (2 * len(words))
-    parts = []
-    for word in words:
-        block = "/*" + " * /\n" * ((whole - 4) // 5) + "*/"
-        parts.append(block + short * (whole // len(short)) + word + "\n")
+    short, whole = "// a comment /* to the line's end\n", (size - sum(len(word) + 1 for word in words)) // (2 * len(words))
+    parts = [("/*" + " * /\n" * ((whole - 4) // 5) + "*/") + short * (whole // len(short)) + word + "\n" for word in words]
     text = "".join(parts)
     return text + " " * (size - len(text))
 
@@ -134,21 +124,11 @@ def same_hash():
     return filled(HEAD, (f"wire {name} ;\nassign {name} = rst ;\n" for name in alike.names(MOST)), TAIL)
 
 
-KINDS = {
-    "assigns": (assigns, DONE),
-    "chain": (chain, DONE),
-    "ifs": (ifs, DONE),
-    "elses": (elses, DONE),
-    "line": (line, DONE),
-    "modules": (modules, DONE),
-    "alike": (same_hash, DONE),
-    "name": (name, DONE),
-    "number": (number, DONE),
-    "comments": (comments, DONE),
-    "over": (lambda: padded(MOST + 1), f"tapa: FILE is longer than {MOST} bytes"),
-    "open": (open_comment, "tapa: FILE:4:1: V1 no text of the subset"),
-    "cut": (opened_ifs, f"tapa: FILE:4:{len(OPENED) * MILLION + 1}: V1 no text of the subset"),
-}
+KINDS = {it.__name__: (it, DONE) for it in (assigns, chain, ifs, elses, line, modules, name, number, comments)}
+KINDS["alike"] = same_hash, DONE
+KINDS["over"] = lambda: padded(MOST + 1), f"tapa: FILE is longer than {MOST} bytes"
+KINDS["open"] = open_comment, "tapa: FILE:4:1: V1 no text of the subset"
+KINDS["cut"] = opened_ifs, f"tapa: FILE:4:{len(OPENED) * MILLION + 1}: V1 no text of the subset"
 
 
 def words():

@@ -9,6 +9,7 @@ from typing import NamedTuple
 
 from vechaqir.port import faults, porting, worker
 from vechaqir.port.check import compare, native
+from vechaqir.port.tree.kinds import Carrier
 
 
 class Source(NamedTuple):
@@ -71,6 +72,9 @@ def differing(source, made, original, folder, program):
     """The first line in which a ported source and its original differ; the empty text if there is none."""
     path = os.path.join(folder, "data.json")
     for data in source.data:
+        for it in made.program.top.parameters:   # memories of structs have one for each word
+            if isinstance(it.kind, Carrier):
+                data["memories"].setdefault(it.name, [0] * 8)
         with open(path, "w", encoding="utf-8") as file:
             json.dump(data, file)
         try:
@@ -93,15 +97,21 @@ def finds(sources, program):
                 found.append((it, why or f"{len(left)} left: {'; '.join(map(str, left[:3]))}"))
             elif not left:
                 known.append((it, made))
-        originals = Originals([made.program for _, made in known], folder)
-        if originals.refused:
-            if len(known) == 1:
-                return [*found, (known[0][0], f"g++: {originals.refused[:300]}")]
-            return found + [find for it, _ in known for find in finds([it], program)]
-        for at, (it, made) in enumerate(known):
-            why = differing(it, made, originals.one(at), folder, program)
-            found += [(it, why)] if why else []
-        return found
+        return found + compared(known, folder, program)
+
+
+def compared(known, folder, program):
+    """Which of some ported sources differ from their originals; where g++ refuses those together, each half by itself."""
+    if not known:
+        return []
+    originals = Originals([made.program for _, made in known], folder)
+    if originals.refused and len(known) == 1:
+        return [(known[0][0], f"g++: {next((line for line in originals.refused.splitlines() if 'error' in line), originals.refused[:300])}")]
+    if originals.refused:
+        half = len(known) // 2
+        return compared(known[:half], folder, program) + compared(known[half:], folder, program)
+    whys = [(it, differing(it, made, originals.one(at), folder, program)) for at, (it, made) in enumerate(known)]
+    return [(it, why) for it, why in whys if why]
 
 
 def in_large_stack(call):

@@ -4,31 +4,17 @@ import re
 from pathlib import Path
 
 from runner.trial import ROOT, read
+from vechaqir import tables
 from vechaqir.show import markup
 
 # The most words of a sentence, and of the mean of a page.
 MOST, MEAN = 35, 22
 
 # What is not written in prose, and what is written instead.
-FORBIDDEN = (
-    (r"\b(?:told|tells?|telling)\b", "reported, reports, says"),
-    (r"\bfronts? (?:part )?(?:parts )?of\b|\bfront parts?\b", "a prefix of"),
-    (r"\bwant of memory\b|\bmemory (?:is|was) (?:wanting|short)\b", "out of memory"),
-    (r"\bbehind\b|\bin front of\b|\bbeside\b", "after, before, next to, compared with, besides"),
-    (r"\b(?:stands?|stood|standing)\b(?! for\b| still\b)", "is"),
-    (r"\brest(?:s|ing)? on\b", "depends on"),
-    (r"\b(?:the|all|two|both) ways (?:from|through|between)\b|\bcritical way\b", "paths, critical path"),
-    (r"\bturns? of (?:a|the) loop\b|\b\d[\d,]* turns\b|\b(?:per|every) turn\b", "an iteration"),
-    (r"(?<![Tt]here )\b(?:is|are|was) no (?!longer|more|less|greater|larger|later|earlier|slower|need)\w", "is not a"),
-    (r"\bhas not (?:the|a|an|any)\b", "does not have"),
-    (r"\bof which this holds\b|\bthan which\b", "two sentences"),
-    (r"\bso many\b|\bso much\b|\bas it may\b", "the number, up to the limit"),
-    (r"\bby the clock\b|\bseconds of processors?\b|\bprocessor seconds?\b|\bprocessor time\b", "wall-clock time, CPU time"),
-    (r"\b(?:made ready|looked at|gone through)\b", "prepared, checked, scanned"),
-    (r"\balone\b|\balike\b|\blikewise\b|\b(?:or|and) else\b|\bElse\b", "only, the same, also, otherwise"),
-    (r"\bbelongs? into\b|\bhangs? on\b|\b(?:takes?|took) over\b|\b(?:goes|went|going) on\b", "belongs in, depends on, latches, continues"),
-    (r"\bwhoever\b", "any caller that"),
-)
+FORBIDDEN = [line.split("  =>  ") for line in read("tests/runner/forbidden.rows").splitlines()[1:]]
+
+# What is not so, and why: the page, a piece of the finding, the reason. At most ten.
+EXCEPTIONS = tables.rows(os.path.join(ROOT, "tests/runner/prose.rows"))
 
 # Words that need not be in the repository's own files: a reader's files and places for numbers.
 OPEN = re.compile(r"(?:^|_)[A-Z]+(?:_|$)")
@@ -59,9 +45,6 @@ class Part:
             out += Part(self.heading, self.sort, inner).prose() if inner else "" if found["image"] else "CODE"
         return " ".join((out + self.text[at:]).split())
 
-    def sentences(self):
-        return [it for it in re.split(r"(?<=[.!?])[\"')]*\s+(?=[^a-z])", self.prose()) if it.strip()]
-
 
 def parts(text):
     """The parts of a page that hold words, code blocks left out."""
@@ -72,8 +55,7 @@ def parts(text):
             yield Part(heading, "heading", block.text)
         elif block.sort in ("list", "table"):
             for row in block.rows:
-                for cell in row:
-                    yield Part(heading, block.sort, cell)
+                yield from (Part(heading, block.sort, cell) for cell in row)
         elif block.sort == "text":
             yield Part(heading, "text", block.text)
 
@@ -86,7 +68,7 @@ def wordy(page, text):
     """Sentences that are too long, and a mean that is."""
     lengths = []
     for part in parts(text):
-        for sentence in part.sentences():
+        for sentence in [it for it in re.split(r"(?<=[.!?])[\"')]*\s+(?=[^a-z])", part.prose()) if it.strip()]:
             if count(sentence) > MOST:
                 yield f"{part.heading}: {count(sentence)} words: {sentence}"
             if part.sort in ("text", "list"):
@@ -116,11 +98,6 @@ def bare(_, text):
                 yield f"{part.heading}: the page {code} is no link"
 
 
-def anchors(text):
-    """The names by which the headings of a page are linked."""
-    return {markup.anchor(block.text) for block in markup.blocks(text) if block.sort == "heading"}
-
-
 def links(text):
     """The targets of all links and pictures of a page."""
     for part in parts(text):
@@ -144,7 +121,7 @@ def dead(page, text):
         where = os.path.normpath(os.path.join(os.path.dirname(page), path)) if path else page
         if not os.path.exists(os.path.join(ROOT, where)):
             yield f"{target} is not there"
-        elif name and name not in anchors(read(where)):
+        elif name and name not in {markup.anchor(block.text) for block in markup.blocks(read(where)) if block.sort == "heading"}:
             yield f"{target}: the page has no such heading"
 
 
@@ -177,17 +154,13 @@ def strangers(text, known):
                         yield f"{part.heading}: `{code}` is nowhere in the repository"
 
 
-def excused(page, finding):
-    return next((at for at, (where, piece, _) in enumerate(EXCEPTIONS) if where == page and piece in finding), None)
-
-
 def try_page(trial, page, known, used):
     """Each thing that is wrong with a page."""
     text = read(page)
     for finding in dead(page, text):
         trial.check(f"{page}: {finding}", False)
     for finding in [*wordy(page, text), *unwanted(page, text), *bare(page, text), *strangers(text, known)]:
-        at = excused(page, finding)
+        at = next((at for at, (where, piece, _) in enumerate(EXCEPTIONS) if where == page and piece in finding), None)
         used.add(at)
         trial.check(f"{page}: {finding}", at is not None)
     trial.check(f"{page} is in the style", True)
@@ -199,14 +172,3 @@ def try_all(trial):
         try_page(trial, page, known, used)
     stale = [it for at, it in enumerate(EXCEPTIONS) if at not in used]
     trial.check("each exception is needed, and there are at most ten", not stale and len(EXCEPTIONS) <= 10, f"   {stale}")
-
-
-# What is not so, and why: the page, a piece of the finding, the reason. At most ten.
-EXCEPTIONS = (
-    ("docs/STYLE.md", "Words: ", "the table shows what is not written"),
-    ("docs/STYLE.md", "Ten pairs: ", "the left column shows what is not written"),
-    ("docs/ARCHITECTURE.md", "The crates: ", "the list is made of the crates' own first sentences, which change when their crate is proved anew"),
-    ("crates/README.md", "", "the list is made of the crates' own first sentences, too"),
-    ("docs/THEOREMS.md", "Laws of ", "the list is made of the laws' own first sentences, which change when their crate is proved anew"),
-    ("tests/README.md", "What is tried: ", "the list is made of the groups' own first sentences"),
-)

@@ -1,5 +1,5 @@
 """Groups of cases one after the other, or several at once: what each came to, what is kept of it for the next time, and the summary."""
-import importlib
+import contextlib
 import json
 import multiprocessing
 import os
@@ -46,7 +46,7 @@ def tried(asked):
     trial.begin(asked.name)
     trial.lines = set(asked.lines)
     try:
-        importlib.import_module(f"runner.groups.{asked.name}").try_all(trial)
+        groups.tried(trial)
     except Exception:  # whatever it is, the other groups are tried
         trial.check("it comes to its end", False, traceback.format_exc())
     trial.folder.cleanup()
@@ -90,12 +90,9 @@ def keep(done):
     last = kept()
     failed = {it.name for it in done if it.failed} | set(last["failed"]) - {it.name for it in done}
     made = {"failed": sorted(failed), "seconds": {**last["seconds"], **{it.name: round(it.seconds, 1) for it in done}}}
-    try:
+    with contextlib.suppress(OSError):
         os.makedirs(os.path.dirname(KEPT), exist_ok=True)
-        with open(KEPT, "w", encoding="utf-8") as file:
-            json.dump(made, file, indent=1)
-    except OSError:
-        pass
+        Path(KEPT).write_text(json.dumps(made, indent=1), encoding="utf-8")
 
 
 def all_of(program, names, is_whole, jobs):

@@ -29,6 +29,14 @@ def first_words(path):
     return shlex.split(read(path).split("\n")[0].removeprefix("// tapa run "))
 
 
+def each(of):
+    """Has a function of a group called for each of these, or of what a function gives: with it as an argument behind the trial, with several where it is a tuple."""
+    def marked(function):
+        function.each = of
+        return function
+    return marked
+
+
 class Said:
     """What a command answered."""
 
@@ -81,6 +89,10 @@ class Trial:
         else:
             self.failed += 1
             print(f"FAILED {self.group}: {name}\n{told}".rstrip(), flush=True)
+
+    def check_that(self, name, found, holds):
+        """Counts a case by whether what was found, of which several are several arguments, is as it has to be; it is shown where it is not."""
+        self.check(name, holds(*found) if isinstance(found, (tuple, list)) else holds(found), f"   {found}")
 
     def check_equal(self, name, got, wanted):
         self.check(name, got == wanted, f"   wanted:\n{shorten(str(wanted))}   got:\n{shorten(str(got))}")

@@ -88,11 +88,6 @@ def own_calls(faults, words, name):
     return [number + 1 for number, at in enumerate(made) if at > begun]
 
 
-def some_of(numbers):
-    """All of a few numbers; of many the first, the last and some between."""
-    return numbers if len(numbers) < 20 else [*numbers[:6], *numbers[6:-4:max(1, len(numbers) // 8)], *numbers[-4:]]
-
-
 def try_calls(faults):
     """Each call of the system fails in turn; of calls that are many, some, and of large files with one answer each."""
     if not shutil.which("strace"):
@@ -101,7 +96,7 @@ def try_calls(faults):
     for words in LINES + LARGE:
         for name, answers, statuses in CALLS:
             numbers = own_calls(faults, words, name)
-            for number in some_of(numbers):
+            for number in numbers if len(numbers) < 20 else [*numbers[:6], *numbers[6:-4:max(1, len(numbers) // 8)], *numbers[-4:]]:
                 for reply in answers if words in LINES and len(numbers) < 20 else answers[:1]:
                     said = faults.call(words, around=["strace", "-o", "trace", "-e", f"trace={name}", "-e", f"inject={name}:{reply}:when={number}"])
                     faults.check(f"call {number} of {name} answers {reply}", said, words, statuses)

@@ -8,6 +8,8 @@ large ones by phases. Beside them two processes for each processor do nothing bu
 threads put on one processor while they run, once the program has looked how many processors there are. A run that has not ended after 60 seconds is a hang. The last line is
 `N runs, M findings`.
 """
+import concurrent.futures
+import contextlib
 import json
 import os
 import random
@@ -29,8 +31,7 @@ NETWORKS, SECONDS, AT_ONCE = 20, 60, 4
 
 def networks(seed):
     """Sources with their data and a limit: random ones, and some with much to do."""
-    found = [Network(f"{seed} {at}") for at in range(NETWORKS - 4)]
-    given = [(it.source, "T", it.data, it.limit) for it in found]
+    given = [(it.source, "T", it.data, it.limit) for it in [Network(f"{seed} {at}") for at in range(NETWORKS - 4)]]
     more = apart(64, 3000), hub(12, 200), apart(3, 60_000), by_phases(3_000, 20_000, 4)
     return given + [(source, "Top", {}, "1000000") for source in more]
 
@@ -38,11 +39,9 @@ def networks(seed):
 def confine(process):
     """Puts the threads of a process on one processor, those that it starts meanwhile too, until it ends."""
     while process.poll() is None:
-        try:
+        with contextlib.suppress(OSError):
             for thread in os.listdir(f"/proc/{process.pid}/task"):
                 os.sched_setaffinity(int(thread), {0})
-        except OSError:
-            pass
         time.sleep(0.001)
 
 
@@ -83,11 +82,8 @@ class Runs:
 
     def run(self, count):
         chosen = [(at % NETWORKS, self.some.choice([1, 2, 3, 4, 5, 8, 16, 33, 63, 64]), self.some.random() < 0.1) for at in range(count)]
-        crew = [threading.Thread(target=self.work, args=(chosen[at::AT_ONCE],)) for at in range(AT_ONCE)]
-        for one in crew:
-            one.start()
-        for one in crew:
-            one.join()
+        with concurrent.futures.ThreadPoolExecutor(AT_ONCE) as crew:
+            list(crew.map(self.work, [chosen[at::AT_ONCE] for at in range(AT_ONCE)]))
 
 
 def load():

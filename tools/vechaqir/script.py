@@ -9,6 +9,7 @@ import argparse  # noqa: E402
 import errno  # noqa: E402
 import io  # noqa: E402
 import os  # noqa: E402
+import re  # noqa: E402
 import subprocess  # noqa: E402
 import sys  # noqa: E402
 from typing import Callable, List, NoReturn, Optional, Sequence, TextIO, Union, cast  # noqa: E402
@@ -26,6 +27,13 @@ def called() -> str:
     """The script's name in its messages: its path in the repository."""
     path = os.path.realpath(sys.argv[0])
     return os.path.relpath(path, ROOT) if path.startswith(f"{ROOT}{os.sep}") else os.path.basename(path)
+
+
+def as_called(page: str) -> str:
+    """A script's page with the names by which a person calls it, the other scripts and the program where it runs."""
+    from .explain import pages
+    page = re.sub(r"(?<![\w/.])tools/(\w+\.py)", lambda it: sys.argv[0] if it[0] == called() else pages.tool(it[1]), page)
+    return re.sub(r"(?<![\w/])\./tapa(?= )|(?<=`)tapa(?= )", pages.command(), page) if pages.command() != "tapa" else page
 
 
 def number(least: int = 0, most: int = 10**18) -> Callable[[str], int]:
@@ -50,7 +58,7 @@ class Words(argparse.ArgumentParser):
     """The words of a script, whose page `--help` prints with what each word is. Wrong ones raise Usage."""
 
     def __init__(self, page: Optional[str]) -> None:
-        super().__init__(called(), argparse.SUPPRESS, (page or "").strip(), formatter_class=argparse.RawDescriptionHelpFormatter, allow_abbrev=False)
+        super().__init__(called(), argparse.SUPPRESS, as_called((page or "").strip()), formatter_class=argparse.RawDescriptionHelpFormatter, allow_abbrev=False)
 
     def error(self, message: str) -> NoReturn:
         raise Usage(message)
@@ -132,7 +140,7 @@ def put_streams() -> None:
             os.open(os.devnull, mode)
     sys.stdin = sys.stdin or open(0, encoding="utf-8", closefd=False)
     sys.stdout = sys.stdout or cast(TextIO, Closed())
-    sys.stderr = sys.stderr or open(2, "w", encoding="utf-8", closefd=False)
+    sys.stderr = sys.stderr or open(2, "w", encoding="utf-8", errors="backslashreplace", closefd=False)
 
 
 def ended(words: Words, main: Callable[[argparse.Namespace], Optional[int]], given: Optional[List[str]]) -> Union[int, str, None]:

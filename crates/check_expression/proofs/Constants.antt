@@ -24,6 +24,7 @@ use Rattle.check_scope.specs.declared.entity.Entity.{Entity}
 use Rattle.check_scope.specs.declared.entity.Entity.TheVariants as entity
 use Rattle.check_scope.specs.Faults.{wrong_entity}
 use Rattle.check_scope.specs.Scopes.{Scope, entity_of}
+use Rattle.std.proofs.lemmas.Bool.{and_from as and_true}
 use Rattle.check_scope.specs.Scopes as scope
 
 if_value : (b : Bool) (j k : Kind) (e : FlatExpression) → constant_value (if b then literal j (constant_value e) else convert j k (literal j (constant_value e))) ≡ constant_value (if b then e else convert j k e)
@@ -87,15 +88,15 @@ constant-conditional E at c a b t x y h k l =
 
 -- ---- where nothing is refused in a constant expression, it is constant
 
-left_empty : (xs ys : List Broken) → xs ++ ys ≡ [] → xs ≡ []
+pub left_empty : (xs ys : List Broken) → xs ++ ys ≡ [] → xs ≡ []
 left_empty [] ys h = refl
 left_empty (x ∷ xs) ys h = absurd (cc)
 
-right_empty : (xs ys : List Broken) → xs ++ ys ≡ [] → ys ≡ []
+pub right_empty : (xs ys : List Broken) → xs ++ ys ≡ [] → ys ≡ []
 right_empty [] ys h = h
 right_empty (x ∷ xs) ys h = absurd (cc)
 
-name_constant : (p : Place) (o : Option Entity) → wrong_entity scope.is_constant p o ≡ [] → is_constant_name o ≡ true
+pub name_constant : (p : Place) (o : Option Entity) → wrong_entity scope.is_constant p o ≡ [] → is_constant_name o ≡ true
 name_constant p None h = absurd (cc)
 name_constant p (Some (entity.Constant k n)) h = refl
 name_constant p (Some (entity.Variable f k n)) h = absurd (cc)
@@ -105,15 +106,11 @@ name_constant p (Some (entity.Stream f k n)) h = absurd (cc)
 name_constant p (Some (entity.Channel k n)) h = absurd (cc)
 name_constant p (Some (entity.Task task_number)) h = absurd (cc)
 
-no_name : (p : Place) (o : Option Entity) → wrong_entity (λ s. false) p o ≡ [] → ⊥
+pub no_name : (p : Place) (o : Option Entity) → wrong_entity (λ s. false) p o ≡ [] → ⊥
 no_name p None h = cc
 no_name p (Some s) h = cc
 
-and_true : (p q : Bool) → p ≡ true → q ≡ true → (p && q) ≡ true
-and_true true q h k = k
-and_true false q h k = absurd (cc)
-
-all_constant : (E : Scope) (e : ExpressionTree) → constant_faults E e ≡ [] → is_constant E e ≡ true
+pub all_constant : (E : Scope) (e : ExpressionTree) → constant_faults E e ≡ [] → is_constant E e ≡ true
 all_constant E (tree.literal k n) h = refl
 all_constant E (tree.boolean b) h = refl
 all_constant E (tree.variable x) h = name_constant x.place (entity_of x.text E) h

@@ -1,6 +1,7 @@
 -- The rules of expressions, and what an expression means: its kind and its flat form with every conversion written out
 -- (ISO C++ [conv.prom], [expr.arith.conv], [expr]).
-use Rattle.std.specs.Prelude.{ℕ, ◌-◌, ◌*◌, ◌^◌, ◌%◌, ◌==◌, List, [], ◌∷◌, ◌++◌, Bool, true, false, not, ◌&&◌, ◌||◌, Option, Some, None, codes, bytes_eq, if◌then◌else◌, nat_lt}
+use Rattle.std.specs.Prelude.{◌-◌, ◌*◌, ◌^◌, ◌%◌, ◌==◌, ◌∷◌, ◌++◌, ◌&&◌, ◌||◌, if◌then◌else◌}
+use Rattle.std.specs.Prelude.{ℕ, List, [], Bool, true, false, not, Option, Some, None, codes, bytes_eq, nat_lt}
 use Rattle.tapa_base.specs.declared.kind.Kind.{Kind}
 use Rattle.tapa_base.specs.declared.kind.Kind.TheVariants as kind
 use Rattle.tapa_base.specs.declared.op.Op.{Op}

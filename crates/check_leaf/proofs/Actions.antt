@@ -28,7 +28,8 @@ use Rattle.check_expression.specs.Expressions.{Method, reads, peeks, tests_end, 
 use Rattle.check_leaf.specs.Statements.{Target, in_variable, in_cell, in_word, element_target, target_of, set_target, change_target, read_target, assigned, kind_of_target, step_op, stepped, is_increment, is_bool, place_kind, target_faults, index_faults, changed_faults, place_faults, assignment_divides, given_faults, called, action_faults, action_code}
 use Rattle.check_leaf.proofs.Flats.{IsEnd, IsArrayOf, IsValue, MayDivideBy, IsStep, IsCode, IsStraight, AreStraight, clears}
 use Rattle.check_leaf.proofs.Conversions.{cast_value, cast_divides}
-use Rattle.check_leaf.proofs.Meanings.{left_empty, right_empty, IsKnown, KnownScope, known_at, meaning_good, divisor_good, operated_good}
+use Rattle.check_leaf.proofs.Meanings.{IsKnown, KnownScope, known_at, meaning_good, divisor_good, operated_good}
+use Rattle.check_expression.proofs.Constants.{left_empty, right_empty}
 
 -- ---- steps that clear nothing and go on
 

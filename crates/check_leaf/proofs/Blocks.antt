@@ -11,16 +11,12 @@ use Rattle.check_scope.specs.declared.fault.Broken.{Broken}
 use Rattle.check_scope.specs.declared.entity.Entity.{Entity}
 use Rattle.check_scope.specs.Scopes.{Block, Scope, declaring}
 use Rattle.check_leaf.specs.Statements.{Frame, head_faults, statement_faults, start_code, test_of, next_code, code_of, opened, closed, after_declarator, after_declarators, after_start, in_head, after, after_all}
+use Rattle.check_scope.proofs.Scopes.{declaring-last}
 
 -- the innermost block of a frame lies within these
 pub record IsWithin (E : Scope) (f : Frame) : Type 0 where
   pub block : Block
   pub is : f.scope ≡ E ++ block ∷ []
-
-declaring-last : (x : List ℕ) (s : Entity) (E : Scope) (b : Block) → declaring x s (E ++ b ∷ []) ≡ E ++ (b ++ (x, s) ∷ []) ∷ []
-declaring-last x s [] b = refl
-declaring-last x s (a ∷ []) b = refl
-declaring-last x s (a ∷ c ∷ rest) b = ap (λ E. a ∷ E) (declaring-last x s (c ∷ rest) b)
 
 declared_within : (E : Scope) (f g : Frame) (x : List ℕ) (s : Entity) → g.scope ≡ declaring x s f.scope → IsWithin E f → IsWithin E g
 declared_within E f g x s e t = record { block = t.block ++ (x, s) ∷ []; is = e ∙ ap (declaring x s) t.is ∙ declaring-last x s E t.block }

@@ -15,8 +15,9 @@ use Rattle.tapa_syntax.specs.Typed.{result_kind, right_kind}
 use Rattle.tapa_syntax.specs.Flat.{FlatExpression, literal, convert, apply, flip, negation, conjunction, disjunction, choice, FlatLeaf}
 use Rattle.check_expression.specs.Kinds.{rank, same_kind}
 use Rattle.check_expression.specs.Expressions.{operated_kind, as_kind, constant_value}
-use Rattle.tapa_syntax.proofs.Values.{converted_fits, applied_fits}
+use Rattle.tapa_syntax.proofs.Values.{converted_fits, applied_fits, if_below as one_of}
 use Rattle.check_leaf.proofs.Flats.{IsValue, IsFlatConstant, MayDivideBy}
+use Rattle.tapa_base.proofs.Tests.{few_bits as most_bits, not_below as less_one}
 
 -- ---- kinds
 
@@ -39,17 +40,10 @@ same_kinds j k h = sym (ranked j) ∙ ap (λ n. slice_index_or kinds_ranked n ki
 
 -- ---- the value of a constant is one of its kind
 
-less_one : (n : ℕ) → 1 - n < 2
-less_one n = omega arith
-
 both_one : (m n : ℕ) → m < 2 → n < 2 → m * n < 2
 both_one zero n h k = omega arith
 both_one (suc zero) n h k = omega arith
 both_one (suc (suc m)) n h k = absurd (omega arith)
-
-one_of : (b : Bool) (x y m : ℕ) → x < m → y < m → (if b then x else y) < m
-one_of true x y m p q = p
-one_of false x y m p q = q
 
 flipped : (k n : ℕ) → 2 ^ k - 1 - n < 2 ^ k
 flipped k n = let h = pow_pos k in omega arith
@@ -117,17 +111,6 @@ promotes kind.U64 = omega arith
 
 same_bits : (n : ℕ) → n ≤ n
 same_bits n = omega arith
-
-most_bits : (k : Kind) → bits_of k ≤ 64
-most_bits kind.Bool = omega arith
-most_bits kind.I8 = omega arith
-most_bits kind.U8 = omega arith
-most_bits kind.I16 = omega arith
-most_bits kind.U16 = omega arith
-most_bits kind.I32 = omega arith
-most_bits kind.U32 = omega arith
-most_bits kind.I64 = omega arith
-most_bits kind.U64 = omega arith
 
 meets : (j k : Kind) → bits_of k ≤ bits_of (met j k)
 meets kind.U64 k = most_bits k

@@ -23,10 +23,6 @@ within_more [] ys n x h = absurd (none-some x h)
 within_more (y ∷ xs) ys zero x h = h
 within_more (y ∷ xs) ys (suc n) x h = within_more xs ys n x h
 
-pub last_at : {A : Type 0} (xs : List A) (y : A) → slice_get (xs ++ y ∷ []) (length xs) ≡ Some y
-last_at [] y = refl
-last_at (x ∷ xs) y = last_at xs y
-
 abbrev pub Each : {A : Type 0} → (A → Type 0) → List A → Type 0
 Each P [] = Unit {0}
 Each P (x ∷ xs) = P x × Each P xs

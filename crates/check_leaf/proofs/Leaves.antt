@@ -19,14 +19,16 @@ use Rattle.check_leaf.specs.Laws.{IsGlobal, AreGlobal, LegalLeavesAreWellFormed}
 use Rattle.check_leaf.specs.Statements.{variable_faults, statements_faults, codes_of}
 use Rattle.check_leaf.specs.Leaves.{Head, with_stream, with_memory, with_scalar, after_parameter, parameter_faults, after_parameters, parameters_faults, task_begins, size_faults, leaf_faults, leaf_of}
 use Rattle.check_leaf.proofs.Flats.{IsCode, AreStraight, code_uses, code_fits, code_asks, code_typed}
-use Rattle.check_leaf.proofs.Meanings.{left_empty, right_empty, IsKnown, KnownBlock, KnownScope}
-use Rattle.check_leaf.proofs.Frames.{Within, within_more, last_at, Each, each_at, Grows, Reaches, Few, HasFewCells, scope_declared}
+use Rattle.check_leaf.proofs.Meanings.{IsKnown, KnownBlock, KnownScope}
+use Rattle.check_leaf.proofs.Frames.{Within, within_more, Each, each_at, Grows, Reaches, Few, HasFewCells, scope_declared}
 use Rattle.check_leaf.proofs.Parts.{variable_few, variable_grows, variable_scope, statements_runs}
+use Rattle.check_expression.proofs.Constants.{left_empty, right_empty}
+use Rattle.tapa_base.proofs.Got.{last_at}
 
 -- ---- parameters
 
 -- one element more
-pushed : {A : Type 0} (xs : List A) (y x : A) (n : ℕ) → slice_get (xs ++ y ∷ []) n ≡ Some x → (slice_get xs n ≡ Some x) ⊎ ((n ≡ length xs) × (y ≡ x))
+pub pushed : {A : Type 0} (xs : List A) (y x : A) (n : ℕ) → slice_get (xs ++ y ∷ []) n ≡ Some x → (slice_get xs n ≡ Some x) ⊎ ((n ≡ length xs) × (y ≡ x))
 pushed [] y x zero h = inr (refl, same_Some y x h)
 pushed [] y x (suc n) h = absurd (none-some x h)
 pushed (z ∷ xs) y x zero h = inl h

@@ -28,16 +28,10 @@ use Rattle.check_expression.specs.Expressions.{Method, reads, peeks, tests_end, 
 use Rattle.tapa_syntax.proofs.Values.{bit_fits}
 use Rattle.check_leaf.proofs.Flats.{IsEnd, IsArrayOf, IsValue, IsFlatConstant, MayDivideBy}
 use Rattle.check_leaf.proofs.Conversions.{cast_value, cast_constant, cast_divides}
+use Rattle.tapa_base.proofs.Tests.{both_true}
+use Rattle.check_expression.proofs.Constants.{left_empty, right_empty}
 
 -- ---- no faults
-
-pub left_empty : (xs ys : List Broken) → xs ++ ys ≡ [] → xs ≡ []
-left_empty [] ys h = refl
-left_empty (x ∷ xs) ys h = absurd (cc)
-
-pub right_empty : (xs ys : List Broken) → xs ++ ys ≡ [] → ys ≡ []
-right_empty [] ys h = h
-right_empty (x ∷ xs) ys h = absurd (cc)
 
 pub not_so : (b : Bool) (x : Broken) (xs : List Broken) → where_so (not b) (x ∷ xs) ≡ [] → b ≡ true
 not_so true x xs h = refl
@@ -124,10 +118,6 @@ called_good W S (Some (entity.Channel j n)) m s at k h g = absurd (cc)
 called_good W S (Some (entity.Task task_number)) m s at k h g = absurd (cc)
 
 -- ---- constants
-
-pub both_true : (a b : Bool) → (a && b) ≡ true → (a ≡ true) × (b ≡ true)
-both_true true b h = (refl, h)
-both_true false b h = absurd (cc)
 
 named_constant : (o : Option Entity) → is_constant_name o ≡ true → IsFlatConstant (named_value o)
 named_constant (Some (entity.Constant k n)) h = tt

@@ -22,9 +22,12 @@ use Rattle.check_expression.specs.Counts.{count_of, count_faults, form_faults, m
 use Rattle.check_leaf.specs.Statements.{Frame, opened, closed, variable_faults, with_variable, with_array, array_faults, declarator_faults, after_declarator, declarator_code, after_declarators, declarators_faults, declarators_code, after_declaration, declaration_faults, declaration_code, action_faults, action_code, after_start, start_faults, start_code, test_faults, test_of, next_faults, next_code, in_head, after, after_all, jump_faults, statement_faults, statements_faults, code_of, codes_of}
 use Rattle.check_leaf.proofs.Flats.{IsValue, AreSteps, IsCode}
 use Rattle.check_leaf.proofs.Conversions.{cast_value}
-use Rattle.check_leaf.proofs.Meanings.{left_empty, right_empty, not_so, both_true, KnownScope, meaning_good}
-use Rattle.check_leaf.proofs.Frames.{Within, within_more, last_at, each_more, Grows, Reaches, Few, stays, grows_on, scope_more, scope_declared, scope_opened, covers_all, clears_all, code_row, Runs, runs_none, runs_on, leaves, single}
+use Rattle.check_leaf.proofs.Meanings.{not_so, KnownScope, meaning_good}
+use Rattle.check_leaf.proofs.Frames.{Within, within_more, each_more, Grows, Reaches, Few, stays, grows_on, scope_more, scope_declared, scope_opened, covers_all, clears_all, code_row, Runs, runs_none, runs_on, leaves, single}
 use Rattle.check_leaf.proofs.Actions.{acts_code, acts_straight, input_good, action_good}
+use Rattle.tapa_base.proofs.Tests.{both_true}
+use Rattle.check_expression.proofs.Constants.{left_empty, right_empty}
+use Rattle.tapa_base.proofs.Got.{last_at}
 
 -- ---- declarations
 

@@ -7,10 +7,7 @@ use Rattle.tapa_syntax.specs.Flat.{FlatStatement, flat_expression, flat_statemen
 use Rattle.check_leaf.specs.Statements.{Frame}
 use Rattle.check_leaf.specs.Views.{Part}
 use Rattle.tapa_syntax.proofs.Rows.{flat-If, flat-Loop}
-
-pub map-push : {A B : Type 0} (f : A → B) (xs : List A) (x : A) → map f (xs ++ x ∷ []) ≡ map f xs ++ f x ∷ []
-map-push f [] x = refl
-map-push f (y ∷ xs) x = ap (λ ys. f y ∷ ys) (map-push f xs x)
+use Rattle.tapa_base.proofs.Got.{map-push}
 
 pub parts : (f g : Frame) (a b : List FlatStatement) → f ≡ g → a ≡ b → ◌≡◌ {A = Part} (f, a) (g, b)
 parts f g a b p q = ap {B = Part} (λ x. (x, a)) p ∙ ap {B = Part} (λ y. (g, y)) q

@@ -118,7 +118,8 @@ fn start(frame: &mut Frame, start: &ForStart, code: &mut Vec<Stmt>) -> Result<()
 
 /// The test of a `for`: one without a test goes on.
 fn loop_test(frame: &Frame, value: &Option<Expression>) -> Result<Expr, CheckFault>
-    ensures { ScopeAnswers flat_expression result (task.test_faults frame.now.scope (tree.option_of tree.expression value.now)) (task.test_of frame.now.scope (tree.option_of tree.expression value.now)) }
+    ensures { ScopeAnswers flat_expression result (task.test_faults frame.now.scope (tree.option_of tree.expression value.now))
+        (task.test_of frame.now.scope (tree.option_of tree.expression value.now)) }
 {
     match value {
         Some(value) => test(frame, value),

@@ -28,8 +28,7 @@ pub(crate) enum Target {
     Word(Kind, u32, Expr),
 }
 
-/// What a name that is assigned is declared as. It may be assigned, and what is incremented is no `bool` (ISO C++
-/// [expr.pre.incr]).
+/// Returns the declaration of a name that is assigned or incremented. The name must be assignable, and a `bool` cannot be incremented (ISO C++ [expr.pre.incr]).
 fn assigned_entity(
     scope: &Scope,
     role: Role,

@@ -21,9 +21,3 @@ pub meant : {B D : Type 0} (r : Result (Unit {0}) CheckFault) (b m : B) (d n : D
 meant (Ok x) b m d n fs gs h e f = (sym e ∙ h.0, f h.1)
 meant (Err (At a)) b m d n fs gs h e f = subst (λ (l : List Broken). IsFirstBroken l a) e h
 meant (Err OutOfMemory) b m d n fs gs h e f = tt
-
--- the elements from i on begin with that at i
-pub begins : {A : Type 0} (xs : List A) (i : ℕ) (x : A) → i < length xs → x ≡ get_or xs i x → drop i xs ≡ x ∷ drop (i + 1) xs
-begins xs i x h k =
-    let e : suc i ≡ i + 1 = omega arith in
-    drop-cons xs i x h ∙ ap (λ y. y ∷ drop (suc i) xs) (sym k) ∙ ap (λ n. x ∷ drop n xs) e

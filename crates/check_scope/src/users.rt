@@ -1,4 +1,4 @@
-// Which instance something is bound to, where it may be one alone.
+// The instance to which a stream or a memory is bound, if it can have only one.
 
 ghost use Rattle.std.specs.Prelude.{◌≡◌, ◌<◌, ℕ, List, [], IfOk, length, get_or, if◌then◌else◌, ◌==◌};
 ghost use Rattle.check_scope.specs.Answers.{ScopeAnswers};

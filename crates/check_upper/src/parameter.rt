@@ -121,7 +121,8 @@ pub(crate) fn scope_of<'a>(
     parameters: &[Parameter],
 ) -> Result<Scope<'a>, CheckFault>
     ensures some { IfOk result (λ scope. 1 < length scope) }
-    ensures value { ScopeAnswers (λ scope. scope) result (upper.parameters_faults (upper.task_begins file.now) parameters.now) (upper.after_parameters (upper.task_begins file.now) parameters.now).scope }
+    ensures value { ScopeAnswers (λ scope. scope) result (upper.parameters_faults (upper.task_begins file.now) parameters.now)
+        (upper.after_parameters (upper.task_begins file.now) parameters.now).scope }
 {
     let mut signature = Signature::new(alloc, file)?;
     for parameter in parameters {

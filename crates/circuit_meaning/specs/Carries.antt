@@ -22,7 +22,8 @@ top_of nets n = nets n []
 abbrev pub carried_by : (ℕ → Path → Cycle) → Stream → ℕ → List Token
 carried_by nets q n = tokens (token_bits q.kind) (top_of nets) q.label n
 
--- In the cycles from 1 on the nets do what the timed counts of a clock say.
+-- In the cycles from 1 on the nets do what the timed counts of a clock say. `s` and `m` are the positions of stream `q` and memory `o` in the
+-- program, and `count_at .. (suc n)` counts the ticks of the cycles 1 to n.
 pub record Carries (program : Program) (env : Environment) (clock : Clock) (nets : ℕ → Path → Cycle) : Type 0 where
   -- each stream has carried what the timed counts write to it
   pub streams : (s n : ℕ) (q : Stream) → slice_get program.streams.items s ≡ Some q → carried_by nets q n ≡ written (network program env) (count_at (network program env) clock (suc n)) s

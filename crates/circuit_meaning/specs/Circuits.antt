@@ -20,7 +20,7 @@ pub record IsCircuitOf (program : Program) (added : List ℕ) (design : DesignTr
   -- its top module
   pub top : ModuleTree
   pub is_top : TopOf design top
-  -- the top has the program's name
+  -- the name of the top is `t_` and the program's name
   pub named : top.name ≡ codes "t_" ++ program.top
   -- the design breaks no rule
   pub legal : IsDesign design.modules design.top
@@ -35,6 +35,6 @@ pub record IsCircuitOf (program : Program) (added : List ℕ) (design : DesignTr
   pub carries : (env : Environment) → FitsShape env (shape_of top) → (nets : ℕ → Path → Cycle) → RunsIn design.modules top env nets
       → Carries program env (clock_of program added (answers_in env)) nets
   -- In each run with memories that answer in any cycles, the design carries what the timed counts say, by the clock of these answers. A
-  -- memory shows its cell in the cycles in which it answers, and any number of its width in the others.
+  -- memory shows its cell in the cycles in which it answers and nothing is stored, and any number of its width in the others.
   pub beside : (env : Environment) → FitsShape env (shape_of top) → (answers : ℕ → ℕ → Bool) (nets : ℕ → Path → Cycle) → RunsBeside design.modules top env answers nets
       → Carries program env (clock_of program added answers) nets

@@ -7,7 +7,7 @@ use Rattle.vlog_tree.specs.Cycle.{Cycle, Path}
 use Rattle.vlog_tree.specs.Environment.{Environment, RaisesDone}
 use Rattle.kahn_model.specs.Counts.{HasEnded, IsKahnPrefix, IsKahnStream}
 use Rattle.kahn_model.specs.Ending.{IsLeastToEnd}
-use Rattle.kahn_model.specs.Outcome.{IsJoined, IsDone as EndsWithin, shown}
+use Rattle.kahn_model.specs.Outcome.{IsJoined, IsDone, shown}
 use Rattle.kahn_model.specs.Timed.{Clock, count_at, lost}
 use Rattle.circuit_meaning.specs.Carries.{Carries, top_of, carried_by}
 use Rattle.circuit_meaning.specs.Clock.{network, clock_of, all_answer}
@@ -18,9 +18,9 @@ pub record Ends (program : Program) (added : List ℕ) (env : Environment) (answ
   pub well_formed : IsWellFormed program
   pub latency : (s : ℕ) → slice_index added s ≤ most
   pub ready : (n : ℕ) → lost (all_answer program answers) n ≤ waits
-  pub run : EndsWithin (network program env) bound k
+  pub run : IsDone (network program env) bound k
 
--- no circuit is stuck: none leaves a stream empty of which a run shows a token
+-- No circuit is stuck: if all memories answer in all but finitely many cycles, a stream of which an ending run shows a token does not stay empty.
 abbrev pub StandingStill : Type 0
 StandingStill =
     (program : Program) (added : List ℕ) (env : Environment) (answers : ℕ → ℕ → Bool) (nets : ℕ → Path → Cycle) (most waits bound : ℕ) (k : ℕ → ℕ)
@@ -41,12 +41,12 @@ DoneBeforeTheWhole =
     → slice_get program.streams.items s ≡ Some q → IsJoined (network program env) q.producer
     → (IsKahnStream (network program env) s (carried_by nets q n) → ⊥) → RaisesDone (top_of nets) n → Carries program env (clock_of program added answers) nets → ⊥
 
--- no circuit raises done later than the bound
+-- no circuit raises done later than the bound, if all memories answer in all but `waits` cycles and a run ends
 abbrev pub DoneTooLate : Type 0
 DoneTooLate =
     (program : Program) (added : List ℕ) (env : Environment) (answers : ℕ → ℕ → Bool) (nets : ℕ → Path → Cycle) (most waits bound : ℕ) (k : ℕ → ℕ)
     → Ends program added env answers most waits bound k
-    → ((a : ℕ) → IsLeastToEnd (network program env) a → (n : ℕ) → n ≤ (a + 2) * (2 * most + 4) + waits → RaisesDone (top_of nets) n → ⊥)
+    → ((a : ℕ) → IsLeastToEnd (network program env) a → (n : ℕ) → n ≤ 1 + a * suc most + waits → RaisesDone (top_of nets) n → ⊥)
     → Carries program env (clock_of program added answers) nets → ⊥
 
 -- no circuit carries a token that the Kahn stream does not have at that position

@@ -11,7 +11,7 @@ use Rattle.vlog_tree.specs.Table.{Name}
 use Rattle.kahn_model.specs.Cells.{cells_at as cells_of}
 use Rattle.kahn_model.specs.Counts.{IsKahnPrefix, IsKahnStream}
 use Rattle.kahn_model.specs.Ending.{IsLeastToEnd}
-use Rattle.kahn_model.specs.Outcome.{IsJoined, HaveJoinedEnded, IsDone as EndsWithin, shown}
+use Rattle.kahn_model.specs.Outcome.{IsJoined, HaveJoinedEnded, IsDone, shown}
 use Rattle.kahn_model.specs.Timed.{lost}
 use Rattle.circuit_meaning.specs.Asked.{Nothing, request_at}
 use Rattle.circuit_meaning.specs.Carries.{Carries, carried_by, top_of}
@@ -35,6 +35,8 @@ pub record Gives (program : Program) (added : List ℕ) (env : Environment) (ans
       (k : ℕ → ℕ) → HaveJoinedEnded (network program env) k → (m n l : ℕ) (o : Memory) → slice_get program.memories.items m ≡ Some o
       → RaisesDone (top_of nets) n → n ≤ l → IsJoined (network program env) o.owner
       → cells_at (top_of nets) o.name (slice_index_or env.memories m []) l ≡ cells_of program env.scalars env.memories k m
+  -- once raised, done is raised in every later cycle
+  pub stays : (n m : ℕ) → RaisesDone (top_of nets) n → n ≤ m → RaisesDone (top_of nets) m
   -- once done is raised, nothing is stored in the memory of a joined instance
   pub quiet : (m n l : ℕ) (o : Memory) → slice_get program.memories.items m ≡ Some o → RaisesDone (top_of nets) n → n ≤ l → IsJoined (network program env) o.owner
       → (top_of nets l).net (m_we o.name) ≡ 0
@@ -46,17 +48,18 @@ pub record Gives (program : Program) (added : List ℕ) (env : Environment) (ans
   -- every instance keeps its pace, and no stream holds more tokens than its channel has room for
   pub pace : (most : ℕ) → ((s : ℕ) → slice_index added s ≤ most) → KeepsPace (network program env) (clock_of program added answers) most
   -- If the cycles up to some limit in which every memory answers suffice, done is raised in time: the bound grows by one for each cycle in
-  -- which some memory does not answer. `a`: the least number of ticks after which all joined instances have ended.
+  -- which some memory does not answer. `most`: no added latency is greater. `bound`: some run ends within this number of ticks. `a`: the
+  -- least number of ticks of all instances, detached ones included, with which all joined instances can have ended.
   pub in_time :
-      (most : ℕ) → ((s : ℕ) → slice_index added s ≤ most) → (bound : ℕ) (k : ℕ → ℕ) → EndsWithin (network program env) bound k
+      (most : ℕ) → ((s : ℕ) → slice_index added s ≤ most) → (bound : ℕ) (k : ℕ → ℕ) → IsDone (network program env) bound k
       → (a : ℕ) × IsLeastToEnd (network program env) a
-      × ((limit : ℕ) → (a + 2) * (2 * most + 4) + lost (all_answer program answers) limit ≤ limit → (n : ℕ) × RaisesDone (top_of nets) n
-      × (n ≤ (a + 2) * (2 * most + 4) + lost (all_answer program answers) n))
+      × ((limit : ℕ) → 1 + a * suc most + lost (all_answer program answers) limit ≤ limit → (n : ℕ) × RaisesDone (top_of nets) n
+      × (n ≤ 1 + a * suc most + lost (all_answer program answers) n))
   -- if no added latency is greater than `late`, and each request is answered within `late` cycles, done is raised by cycle 1 + a * (late + 1),
   -- whatever memories do of which nothing is requested
   pub prompt :
       (late : ℕ) → ((s : ℕ) → slice_index added s ≤ late) → AreAnswered (network program env) (clock_of program added answers) late → (bound : ℕ) (k : ℕ → ℕ)
-      → EndsWithin (network program env) bound k
+      → IsDone (network program env) bound k
       → (a : ℕ) × IsLeastToEnd (network program env) a × ((n : ℕ) × RaisesDone (top_of nets) n × (n ≤ 1 + a * suc late))
 
 -- For every well-formed program, nets that carry it give this.

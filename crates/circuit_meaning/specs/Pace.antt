@@ -33,7 +33,7 @@ abbrev pub times : (ℕ → Bool) → ℕ → ℕ → ℕ
 times holds n zero = bit (holds n)
 times holds n (suc d) = times holds n d + bit (holds (n - suc d))
 
--- The number of ready answers of stream s that its producer has not seen in cycle n: an answer is in flight for the cycles of the latency.
+-- The number of ready answers of stream s that its producer did not see before cycle n: an answer is in flight for the cycles of the latency.
 abbrev pub on_their_way : Network → Clock → ℕ → ℕ → ℕ
 on_their_way net clock s n = times (is_ready net clock s) n (clock.latency s)
 

@@ -4,22 +4,12 @@ use Rattle.std.specs.Prelude.{min, ◌+◌, ◌-◌, ◌^◌}
 use Rattle.std.specs.Str.{bytes_eq}
 use Rattle.std.proofs.lemmas.Slice.Eq.{bytes_eq-Decides}
 use Rattle.std.proofs.lemmas.Bool.Decides.{not_from_Decides}
-use Rattle.std.proofs.Math.Nat.{min-le_left, min-le_right, le-min}
 use Rattle.tapa_files.specs.Outside.{Rose}
-
-since : (m a b c : ℕ) → a ≤ b → min (b + 1) m ≤ c → min (a + 1) m ≤ c
-since m a b c later h =
-    let l = min-le_left (a + 1) m in
-    let r = le-min {k = min (a + 1) m} {a = b + 1} {b = m} (omega (arith, l, later)) (min-le_right (a + 1) m) in
-    omega (arith, r, h)
+use Rattle.tapa_base.proofs.Tests.{bool_cases, since}
 
 -- a count that rose after a later look rose after an earlier one
 pub rose_since : (a b c : ℕ) → a ≤ b → Rose b c → Rose a c
 rose_since a b c later h = since (2 ^ 64 - 1) a b c later h
-
-pub bool_cases : (b : Bool) → (b ≡ true) ⊎ (b ≡ false)
-bool_cases true = inl refl
-bool_cases false = inr refl
 
 -- two names are one or not
 pub one_name : (a b : List ℕ) → (a ≡ b) ⊎ (a ≢ b)

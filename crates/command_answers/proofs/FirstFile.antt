@@ -4,7 +4,7 @@ use Rattle.std.specs.Prelude.{nat_le}
 use Rattle.std.proofs.lemmas.Bool.Decides.{nat_tests}
 use Rattle.tapa_files.specs.Outside.{Files, file_bytes}
 use Rattle.tapa_files.specs.Take.{IsFileOf, IsLongerThan}
-use Rattle.command_answers.proofs.Counts.{one_name, bool_cases}
+use Rattle.command_answers.proofs.Counts.{one_name}
 use Rattle.command_answers.proofs.Texts.{fails}
 use Rattle.command_answers.specs.Answer.{Answer, Refuses, IsRefusedFile, IsTaken}
 use Rattle.command_answers.specs.Ends.{End, Meaning, ComesTo, Ends, IsReached, ReadsAsked, IsCarriedOut}
@@ -15,14 +15,10 @@ use Rattle.command_answers.specs.Refusal.{Refusal, Read}
 use Rattle.command_answers.specs.Steps.{Fails}
 use Rattle.command_answers.specs.declared.file.File.{File}
 use Rattle.command_answers.specs.declared.file.File.TheVariants.{Source, Text, Dump, Data, Device}
+use Rattle.tapa_base.proofs.Tests.{bool_cases, below}
+use Rattle.vlog_tree.proofs.Labelled.{lt_of as above}
 
 -- ---- what files give
-
-below : (a b : ℕ) → nat_le a b ≡ true → a ≤ b
-below a b h = grind (arith, nat_tests)
-
-above : (a b : ℕ) → nat_le a b ≡ false → b < a
-above a b h = grind (arith, nat_tests)
 
 given_in : (files : Option Files) (name : List ℕ) (most : ℕ) → ((bytes : List ℕ) × IsFileOf files name bytes × (length bytes ≤ most)) ⊎ IsLongerThan files name most
 given_in None name most = inr tt

@@ -1,4 +1,4 @@
-//! What commands answer: the files that they read, the refusals that they end with, how either is told, and how carrying one out ends.
+//! Answers of commands: the files that a command reads, the refusals that it ends with, the text of each, and the ways in which a command ends.
 #![tactic(auto)]
 
 mod file;

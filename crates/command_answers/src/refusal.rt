@@ -33,13 +33,13 @@ pub enum Refusal {
     TooLong(File),
     /// A rule that the source breaks, and where.
     Source { place: Place, code: SourceCode },
-    /// What is wrong with the data of a program or a design, or want of memory instead.
+    /// The error in the data of a program or a design, or out of memory.
     Data(DataFault),
     /// The instances that are waited for make more ticks than this, or never end.
     Ticks { limit: u64 },
     /// The run stopped; each line says what an instance waits for.
     Stopped { lines: Vec<Vec<u8>> },
-    /// What is wrong with a device file, or want of memory instead.
+    /// The error in a device file, or out of memory.
     Device(DeviceFault),
     /// There are more ways to place the free groups than are looked at.
     TooManyPlans { slots: u32, free: u32 },

@@ -20,21 +20,17 @@ use Rattle.vlog_tree.specs.V6.{scalar_fits, rdata_fits, has_all_five, agrees}
 use Rattle.tapa_base.proofs.Lists.{of_flat, has_got}
 use Rattle.vlog_design.specs.Designs.{DesignTree, TopOf}
 use Rattle.vlog_run_laws.proofs.runs.Labelled.{ack_label, rdata_of_label}
-use Rattle.vlog_run_laws.proofs.runs.Ports.{PortFits, fits, ack_input, named_port}
+use Rattle.vlog_run_laws.proofs.runs.Ports.{PortFits, fits, ack_input, named_port, either_true}
 use Rattle.vlog_run_laws.proofs.runs.Settled.{IsTopTree, top_tree}
 use Rattle.vlog_run_laws.proofs.runs.Sizes.{declared_bits, has_port as port_in}
-use Rattle.vlog_run_laws.proofs.runs.Sound.{both_true}
 use Rattle.vlog_run_laws.proofs.runs.TopPorts.{five_rdata}
 use Rattle.run_data.specs.Answer.{bits_of_ports, IsDataOf}
 use Rattle.run_data.specs.declared.data.Data.{Data}
 use Rattle.command_cosim.specs.Designs.{IsShapeIn, GivesEnvironment}
+use Rattle.tapa_base.proofs.Tests.{both_true}
 
 few : (n : ℕ) → nat_le n 64 ≡ true → n ≤ 64
 few n h = grind arith
-
-either_true : (a b : Bool) → a ≡ true → (not a || b) ≡ true → b ≡ true
-either_true true b e h = h
-either_true false b e h = cc
 
 scalar_width : (p : PortDecl) (l : Name) → scalar_of p.name ≡ Some l → scalar_fits p ≡ true → nat_le p.width 64 ≡ true
 unfolding scalar_fits

@@ -104,7 +104,8 @@ pub fn cosim_text<S: Shelf, O: Sink>(
     shelf: &mut S,
     out: &mut O,
 ) -> Result<(), Refusal>
-    ensures { IsCarriedOut (files_of_cosim text.now (option_map (λ file. file.now) named.entry)) (MeansCosim limit aim) (outside S.Shelf O.Sink shelf.old out.old) (outside S.Shelf O.Sink shelf.new out.new) (end_of result) }
+    ensures { IsCarriedOut (files_of_cosim text.now (option_map (λ file. file.now) named.entry)) (MeansCosim limit aim)
+        (outside S.Shelf O.Sink shelf.old out.old) (outside S.Shelf O.Sink shelf.new out.new) (end_of result) }
 {
     let design = read_design(alloc, text, shelf)?;
     let around = read_surroundings(alloc, &design, named, shelf)?;

@@ -26,7 +26,8 @@ pub fn put_network<R: Threads + Wait + Sync, G: Gate, O: Sink>(
 ) -> Result<(), Refusal>
     requires workers { (0 < crew.now.workers) × (crew.now.workers ≤ 64) }
     requires layers { layers ≤ most_layers }
-    ensures { (store : Store) → IsCarriedOut (files_of_gen layers) MeansGen (record { store = store; out = written O.Sink out.old }) (record { store = store; out = written O.Sink out.new }) (end_of result) }
+    ensures { (store : Store) → IsCarriedOut (files_of_gen layers) MeansGen
+        (record { store = store; out = written O.Sink out.old }) (record { store = store; out = written O.Sink out.new }) (end_of result) }
 {
     let program = network_program(alloc, layers)?;
     let summary = summary_of(crew, alloc, program)?;

@@ -16,7 +16,6 @@ use Rattle.command_answers.specs.Outside.{Store, Written}
 use Rattle.command_answers.specs.Steps.{Fails, Took}
 use Rattle.command_answers.specs.declared.file.File.{File}
 use Rattle.command_answers.specs.declared.file.File.TheVariants as role
-use Rattle.command_answers.specs.Refusal.{Refusal}
 use Rattle.command_answers.proofs.FirstFile.{at, first_refused}
 use Rattle.command_answers.proofs.FurtherFile.{further_refused, further_comes, further_asked}
 use Rattle.command_answers.proofs.Texts.{fails, wrote, wrote_whole}

@@ -5,12 +5,8 @@ use Rattle.std.proofs.lemmas.Bool.Decides.{nat_tests}
 use Rattle.std.proofs.lemmas.List.Sums.{position_or_len_is}
 use Rattle.std.proofs.lemmas.Option.{slice_get-get_or, slice_get_within, get_or_from_slice_get}
 use Rattle.task_graph.specs.Streams.{least_of}
-
-differs : (a b : ℕ) → a ≢ b → (a == b) ≡ false
-differs a b n = grind (arith, nat_tests)
-
-equals : (a b : ℕ) → a ≡ b → (a == b) ≡ true
-equals a b e = grind (arith, nat_tests)
+use Rattle.flow_cert.proofs.Yes.{is_inner as equals}
+use Rattle.tapa_base.proofs.Tests.{differs}
 
 module _ (xs : List ℕ) (g : ℕ) where
   other : (k : ℕ) → k < length xs → slice_get xs k ≢ Some g → (get_or xs k 0 == g) ≡ false

@@ -30,4 +30,5 @@ ComesToRun limit program values answer = (how : RunMeaning) × Runs program valu
 
 -- read the source, read the data, run, report
 abbrev pub MeansRun : List ℕ → ℕ → Meaning
-MeansRun top limit gives = ReadsSource top (gives role.Source) (λ program. ReadsData (IsShapeOf program) (gives role.Data) (λ bytes values. GivesValues program bytes values) (ComesToRun limit program))
+MeansRun top limit gives =
+    ReadsSource top (gives role.Source) (λ program. ReadsData (IsShapeOf program) (gives role.Data) (λ bytes values. GivesValues program bytes values) (ComesToRun limit program))

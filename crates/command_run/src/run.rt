@@ -60,7 +60,8 @@ pub fn run_source<R: Threads + Wait + Sync, G: Gate, S: Shelf, O: Sink>(
 ) -> Result<(), Refusal>
     requires workers { (0 < crew.now.workers) × (crew.now.workers ≤ 64) }
     requires limit { limit ≤ most_limit }
-    ensures { IsCarriedOut (files_of_run source.now (option_map (λ file. file.now) named.entry)) (MeansRun top.now limit) (outside S.Shelf O.Sink shelf.old out.old) (outside S.Shelf O.Sink shelf.new out.new) (end_of result) }
+    ensures { IsCarriedOut (files_of_run source.now (option_map (λ file. file.now) named.entry)) (MeansRun top.now limit)
+        (outside S.Shelf O.Sink shelf.old out.old) (outside S.Shelf O.Sink shelf.new out.new) (end_of result) }
 {
     let program = read_source(alloc, source, top, shelf)?;
     let input = read_values(alloc, &program, named, shelf)?;

@@ -3,8 +3,9 @@ use Rattle.std.proofs.Common.{◌≡◌, ℕ, zero, suc, List, [], ◌∷◌, �
 use Rattle.std.specs.Prelude.{slice_get}
 use Rattle.std.specs.List.{AllByRecursion}
 use Rattle.tapa_base.specs.Gaps.{Bytes}
-use Rattle.stream_check.proofs.WellLists.{nothing, the_same}
+use Rattle.stream_check.proofs.WellLists.{nothing}
 use Rattle.tapa_syntax.specs.OwnNames.{AreApart}
+use Rattle.tapa_base.proofs.Got.{the_same}
 
 -- ---- what holds of each element
 

@@ -25,25 +25,16 @@ use Rattle.check_upper.specs.Tasks.{Body, leaf_body, upper_body, Task}
 use Rattle.check_upper.specs.Uppers as upper
 use Rattle.check_upper.specs.Uppers.{Signature, Channels}
 use Rattle.stream_check.specs.Items.{Items, no_items, with_task, body_of, body_faults, after_task, after_item, item_faults, after_items, items_faults, tasks_of}
-use Rattle.stream_check.proofs.WellLists.{nothing, the_same, no_faults, holds_not}
+use Rattle.stream_check.proofs.WellLists.{nothing, no_faults, holds_not}
 use Rattle.command_source.specs.Labels.{IsPlainName}
 use Rattle.tapa_syntax.specs.OwnNames.{AreApart}
 use Rattle.command_source.specs.Named.{parameter_name, NamesStreams, IsNamedTask, IsNamedItem, AreNamed}
 use Rattle.command_source.specs.Owned.{HaveOwnNames}
 use Rattle.command_source.proofs.Apart.{all_at}
+use Rattle.check_leaf.proofs.Leaves.{pushed}
+use Rattle.tapa_base.proofs.Got.{all_push, the_same}
 
 -- ---- lists
-
--- an element of a list with one more at its end
-pushed : {A : Type 0} (xs : List A) (y x : A) (n : ℕ) → slice_get (xs ++ y ∷ []) n ≡ Some x → (slice_get xs n ≡ Some x) ⊎ ((n ≡ length xs) × (y ≡ x))
-pushed [] y x zero h = inr (refl, the_same y x h)
-pushed [] y x (suc n) h = absurd (nothing x h)
-pushed (z ∷ xs) y x zero h = inl h
-pushed {A} (z ∷ xs) y x (suc n) h = elim (pushed xs y x n h) [ inl e ↦ inl e | inr e ↦ inr (ap suc e.0, e.1) ]
-
-all_push : {A : Type 0} (P : A → Type 0) (xs : List A) (y : A) → AllByRecursion P xs → P y → AllByRecursion P (xs ++ y ∷ [])
-all_push P [] y a p = (p, tt)
-all_push P (x ∷ xs) y (q, a) p = (q, all_push P xs y a p)
 
 all_unmap : {A B : Type 0} (P : B → Type 0) (f : A → B) (xs : List A) → AllByRecursion P (map f xs) → AllByRecursion (λ (x : A). P (f x)) xs
 all_unmap P f [] a = tt

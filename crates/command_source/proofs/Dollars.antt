@@ -8,9 +8,9 @@ use Rattle.std.proofs.lemmas.List.{append-nil}
 use Rattle.std.proofs.lemmas.Str.Parse.{digit_from_value}
 use Rattle.tapa_base.specs.Gaps.{Bytes, begins}
 use Rattle.tapa_syntax.specs.Characters.{is_letter, is_digit, is_word_byte}
-use Rattle.stream_check.proofs.WellLists.{both}
 use Rattle.stream_check.specs.Parts.{below, instance_name}
 use Rattle.command_source.specs.Labels.{IsPlainName, IsLabel}
+use Rattle.tapa_base.proofs.Tests.{both_true as both}
 
 -- no `$`
 abbrev pub IsFree : Bytes → Type 0

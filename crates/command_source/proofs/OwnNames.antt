@@ -9,7 +9,7 @@ use Rattle.tapa_syntax.specs.Trees.{file_of}
 use Rattle.tapa_syntax.specs.declared.program.Instance.{Instance}
 use Rattle.tapa_syntax.specs.declared.program.Leaf.{Leaf}
 use Rattle.tapa_syntax.specs.declared.program.Program.{Program}
-use Rattle.std.proofs.lemmas.Bool.{and_parts}
+use Rattle.std.proofs.lemmas.Bool.{and_parts, or_left}
 use Rattle.command_source.specs.Labels.{IsPlainName, IsLabel, HasOwnLabels}
 use Rattle.command_source.proofs.Apart.{all_at, distinct, apart}
 use Rattle.command_source.proofs.Sources.{labels_tell}
@@ -17,10 +17,6 @@ use Rattle.tapa_syntax.specs.OwnNames.{AreApart, AreWritten, HasOwnNames, instan
 use Rattle.command_source.specs.Source.{IsProgramOfText, IsProgramOf}
 
 -- ---- what a name is written with
-
-or_left : (a b : Bool) → a ≡ true → (a || b) ≡ true
-or_left true b e = refl
-or_left false b e = cc
 
 all_true : (f g : ℕ → Bool) → ((b : ℕ) → f b ≡ true → g b ≡ true) → (xs : List ℕ) → list_all f xs ≡ true → list_all g xs ≡ true
 all_true f g h [] a = refl

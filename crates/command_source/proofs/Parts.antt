@@ -11,7 +11,7 @@ use Rattle.check_upper.specs.declared.task.Channel.{Channel}
 use Rattle.check_upper.specs.Tasks.{Invocation, Body, leaf_body, upper_body, Task}
 use Rattle.stream_check.specs.Parts.{Part, own, instance, too_deep, streams_in, instances_in}
 use Rattle.stream_check.specs.Programs.{is_stream_parameter, is_upper, top_faults, top_instance, top_parts, limit_faults, bindings_faults, parts_faults, body_numbers, with_body, streams_of, program_made, top_task_faults, whole_faults, top_program, whole_program}
-use Rattle.stream_check.proofs.WellLists.{both, holds, no_faults}
+use Rattle.stream_check.proofs.WellLists.{holds, no_faults}
 use Rattle.stream_check.proofs.WellTops.{limits}
 use Rattle.command_source.specs.Labels.{IsPlainName, IsLabel, HasOwnLabels}
 use Rattle.command_source.specs.Named.{parameter_name}
@@ -19,6 +19,7 @@ use Rattle.command_source.specs.Owned.{HaveOwnNames}
 use Rattle.command_source.proofs.Apart.{all_append, all_at, all_from, Distinct, distinct, apart}
 use Rattle.command_source.proofs.Names.{scalar_names, memory_names, scalars_all, memories_all, parameters_distinct, task_names, NamesLeaf, leaf_names_of, leaves_all, leaves_by, leaves_distinct}
 use Rattle.command_source.proofs.Labelled.{AreInvoked, IsBelow, IsFlat, AreTold, top_good}
+use Rattle.tapa_base.proofs.Tests.{both_true as both}
 
 -- ---- what the limits say
 

@@ -2,7 +2,6 @@
 use Rattle.std.proofs.Common.{◌≡◌, ℕ, List, length, map, Some, refl, ap, ◌∙◌}
 use Rattle.std.specs.Prelude.{slice_get, option_map, Vec}
 use Rattle.std.specs.declared.alloc.Global.{Global}
-use Rattle.std.proofs.lemmas.Option.{slice_get-map}
 use Rattle.std.proofs.lemmas.List.{length-map}
 use Rattle.tapa_base.specs.Kinds.{bits_of}
 use Rattle.tapa_base.specs.declared.shape.Port.{Port}
@@ -23,9 +22,7 @@ use Rattle.command_answers.specs.Steps.{Fails}
 use Rattle.command_source.specs.Inputs.{GivesValues, IsUnfitBy}
 use Rattle.command_source.specs.Means.{IsDataFault}
 use Rattle.tapa_syntax.specs.Shapes.{port_of, IsShapeOf}
-
-get_map : {A B : Type 0} (f : A → B) (xs : List A) (i : ℕ) (x : A) → slice_get xs i ≡ Some x → slice_get (map f xs) i ≡ Some (f x)
-get_map f xs i x at = slice_get-map f xs i ∙ ap (option_map f) at
+use Rattle.tapa_base.proofs.Got.{got_map as get_map}
 
 module _ (program : Program) (shape : Shape) (is : IsShapeOf program shape) (given : Data) (fits : Fits (bits_of_ports shape.scalars.items) (bits_of_ports shape.memories.items) given.scalars.items (map (λ (v : Vec ℕ Global). v.items) given.memories.items)) where
   abbrev width : Port → ℕ

@@ -36,7 +36,7 @@ no_tree text place code file a b =
     let same = one_list text b.lexemes a.lexemes b.are a.are in
     a.none (file_of file) (subst (λ (l : List Lexeme). IsTreeOf (symbols_of text l) (file_of file)) same b.spelled) b.within
 
-not_first : (faults : List Broken) (broken : Broken) → faults ≡ [] → IsFirstBroken faults broken → ⊥
+pub not_first : (faults : List Broken) (broken : Broken) → faults ≡ [] → IsFirstBroken faults broken → ⊥
 not_first faults broken none first = subst (λ (l : List Broken). IsFirstBroken l broken) none first
 
 text_means_nothing : (text top : List ℕ) (place : Place) (code : SourceCode) → IsRefusedWrittenOut text top place code → (program : Program) → IsProgramOfText text top program → ⊥

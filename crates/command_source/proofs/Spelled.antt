@@ -22,12 +22,9 @@ use Rattle.tapa_lex.proofs.Whole.{are_slices}
 use Rattle.command_source.specs.Labels.{IsPlainName}
 use Rattle.command_source.specs.Named.{parameter_name, NamesStreams, IsNamedTask, IsNamedItem, AreNamed}
 use Rattle.command_source.proofs.Kept.{IsSpelled, AreSpelled, Keeps, symbol, ◌then◌, maybe, when, each, separated_or_none, type_kept, count_kept, attribute_kept, parameter_kept, labelled_kept, stream_kept, item_kept}
+use Rattle.tapa_base.proofs.Tests.{both_true as both}
 
 -- ---- the symbols of a source
-
-both : (a b : Bool) → (a && b) ≡ true → (a ≡ true) × (b ≡ true)
-both true b e = (refl, e)
-both false b e = absurd cc
 
 -- a table without names gives none
 table_no_name : (otherwise : Terminal) (table : List (List ℕ × Terminal)) (text : List ℕ) → is_name otherwise ≡ false → list_all (λ (entry : List ℕ × Terminal). not (is_name entry.1)) table ≡ true → is_name (look_up otherwise table text) ≡ false

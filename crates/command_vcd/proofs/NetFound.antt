@@ -14,9 +14,9 @@ use Rattle.vcd_text.specs.Dump.{Values}
 use Rattle.vcd_text.specs.Read.{port_of, changes_to, IsReadAs}
 use Rattle.vcd_text.specs.declared.dump.Change.{Change}
 use Rattle.vcd_text.specs.NetLines.{value_lines, IsNetShown, HasNoNet}
-
-ge_of : (a b : ℕ) → nat_lt a b ≡ false → b ≤ a
-ge_of a b h = grind (arith, nat_tests)
+use Rattle.vcd_text.proofs.Common.{not_both}
+use Rattle.tapa_base.proofs.Tests.{ge_of}
+use Rattle.tapa_base.proofs.Got.{some_at}
 
 past_end : (n m : ℕ) (b : Bool) → nat_lt n m ≡ b → cond b (Some n) None ≡ None → m ≤ n
 past_end n m true e h = absurd cc
@@ -28,13 +28,6 @@ none_passes p xs none k x got =
     let past : length xs ≤ position_or_len p xs = past_end (position_or_len p xs) (length xs) (nat_lt (position_or_len p xs) (length xs)) refl none in
     let low : k < length xs = slice_get_within xs k x got in
     subst (λ y. p y ≡ false) (get_or_from_slice_get xs k x x got) (fails_before_first p xs k x (omega arith))
-
-not_both : (b : Bool) → b ≡ true → b ≡ false → ⊥
-not_both b t f = cc
-
-some_at : {A : Type 0} (xs : List A) (k : ℕ) → k < length xs → (x : A) × (slice_get xs k ≡ Some x)
-some_at {A} xs k low =
-    ⊎_elim {C = (x : A) × (slice_get xs k ≡ Some x)} (λ t. (t.0, t.2)) (λ t. let past : length xs ≤ k = t.0 in absurd (omega arith)) (slice_get_cases xs k).1
 
 module _ (text name : List ℕ) (ports : List Port) (last : ℕ) (changes : List Change) (h : IsReadAs text ports last changes) where
   abbrev is_named : Port → Bool

@@ -3,15 +3,14 @@ use Rattle.std.proofs.Common.{◌≡◌, ℕ, ◌+◌, ◌<◌, List, length, tr
 use Rattle.std.specs.Prelude.{slice_get, slice_index_or, slice_set}
 use Rattle.std.proofs.lemmas.Bool.{cases_eq}
 use Rattle.std.proofs.lemmas.Option.{slice_get_within, slice_get-get_or, get_or_from_slice_get}
-use Rattle.net_core.proofs.Moves.{has_item, get_set_same, get_set_other}
+use Rattle.net_core.proofs.Moves.{get_set_same, get_set_other}
 use Rattle.net_case.specs.declared.lot.Lot.{Lot}
 use Rattle.net_core.specs.declared.body.Pause.{Pause}
 use Rattle.net_case.specs.Batch.{IsSameLot, Ran}
 use Rattle.net_case.specs.declared.case_state.CaseState.{CaseState}
 use Rattle.coro_threads.specs.Out.{AreOut, AreSameLots, AreReady}
-
-pub same_lot : (a : Lot) → IsSameLot a a
-same_lot a = record { program = refl; input = refl; budget = refl; instance = refl; at = refl; from = refl; fuel = refl }
+use Rattle.coro_threads.proofs.InTurn.{same_lot}
+use Rattle.tapa_base.proofs.Got.{some_at as has_item}
 
 pub same_lot_trans : (a b c : Lot) → IsSameLot a b → IsSameLot b c → IsSameLot a c
 same_lot_trans a b c h j = record {

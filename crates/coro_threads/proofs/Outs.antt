@@ -13,7 +13,6 @@ use Rattle.tapa_syntax.specs.declared.program.Program.{Program}
 use Rattle.net_core.specs.Bounded.{network_on, count_of}
 use Rattle.net_core.specs.Settle.{ticks_ahead}
 use Rattle.net_core.proofs.Chunk.{plus, plus_other, total_plus}
-use Rattle.net_core.proofs.Moves.{has_item}
 use Rattle.net_core.proofs.Resuming.{count_set}
 use Rattle.net_core.proofs.Stepped.{plus_above}
 use Rattle.net_case.specs.declared.lot.Lot.{Lot}
@@ -21,6 +20,8 @@ use Rattle.net_case.specs.declared.case_state.CaseState.{CaseState}
 use Rattle.net_case.specs.Claims.{IsSameCase, HandsOut, Commits, MayCommit}
 use Rattle.net_case.specs.State.{IsValidCase, network, count, IsOut, IsAtHome, AreAllHome}
 use Rattle.coro_threads.specs.Out.{IsOutWith, AreOut, AreSameLots, ahead}
+use Rattle.net_core.proofs.Quiet.{fewer_by, less_by}
+use Rattle.tapa_base.proofs.Got.{some_at as has_item, last_at as get_last}
 
 -- ---- lists with one more at the end
 
@@ -29,22 +30,12 @@ get_front [] y x n e = absurd (cc)
 get_front (z ∷ xs) y x zero e = e
 get_front (z ∷ xs) y x (suc n) e = get_front xs y x n e
 
-get_last : {A : Type 0} (xs : List A) (y : A) → slice_get (xs ++ y ∷ []) (length xs) ≡ Some y
-get_last [] y = refl
-get_last (z ∷ xs) y = get_last xs y
-
 -- it is the last one, or one of the others
 pub get_cases : {A : Type 0} (xs : List A) (y x : A) (n : ℕ) → slice_get (xs ++ y ∷ []) n ≡ Some x → (slice_get xs n ≡ Some x) ⊎ ((n ≡ length xs) × (x ≡ y))
 get_cases [] y x zero e = inr (refl, cc)
 get_cases [] y x (suc n) e = absurd (cc)
 get_cases (z ∷ xs) y x zero e = inl e
 get_cases (z ∷ xs) y x (suc n) e = ⊎_elim (λ (h : slice_get xs n ≡ Some x). inl h) (λ (h : (n ≡ length xs) × (x ≡ y)). inr (ap suc h.0, h.1)) (get_cases xs y x n e)
-
-less_by : (room room' ticks ticks' made : ℕ) → room' ≡ room → ticks' ≡ ticks + made → room' - ticks' ≤ room - ticks
-less_by room room' ticks ticks' made e f = omega arith
-
-fewer_by : (room room' ticks ticks' made : ℕ) → room' ≡ room → ticks' ≡ ticks + made → 0 < made → ticks' ≤ room' → room' - ticks' < room - ticks
-fewer_by room room' ticks ticks' made e f some few = omega arith
 
 -- ---- who is out
 

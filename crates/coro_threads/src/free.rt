@@ -160,7 +160,8 @@ fn leave<B: Body>(worker: &mut Worker<B>, signals: &Signals)
 
 /// Runs one worker until a claim finds the end, memory runs out for a batch, or batches stay small. The worker runs a small batch
 /// within its turn if the gate is open; before it resumes another one, outside, it passes the gate. Without memory it commits the
-/// batch as it is, is `short`, and returns; the others go on. If batches stay small, all workers are `small`, and return.
+/// batch as it is, is `short`, and returns; the others go on. If batches stay small, a worker may leave as `small`, once it has seen
+/// that many ticks were made.
 pub fn work<R: Wait, B: Body + Drop, G: Gate>(
     rt: &R,
     board: &Board<B>,

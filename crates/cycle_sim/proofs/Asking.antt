@@ -16,17 +16,14 @@ use Rattle.vlog_tree.specs.V6.{v6_uses, rdata_fits, has_all_five, agrees, is_top
 use Rattle.vlog_tree.specs.Cycle.{Cycle}
 use Rattle.vlog_tree.specs.Environment.{shape_of, memory_label}
 use Rattle.tapa_base.proofs.Lists.{of_flat}
-use Rattle.vlog_run_laws.proofs.runs.Sound.{both_true}
 use Rattle.vlog_run_laws.proofs.runs.Cycles.{port_stands}
 use Rattle.vlog_run_laws.proofs.runs.TopPorts.{five_of, five_rdata}
 use Rattle.vlog_run_laws.proofs.runs.Ports.{fits, named_port, ack_input}
 use Rattle.vlog_run_laws.proofs.runs.Labelled.{ack_label, rdata_of_label}
 use Rattle.vlog_run_laws.specs.widths.Widths.{NumbersFit}
 use Rattle.vlog_run_laws.proofs.widths.Agreeing.{port_bits, data_agree}
-
-pub wdata_clock : (l : Name) → is_clk (m_wdata l) ≡ false
-unfolding m_wdata clk
-wdata_clock l = refl
+use Rattle.vlog_run_laws.proofs.runs.Surround.{clock_of_wdata as wdata_clock}
+use Rattle.tapa_base.proofs.Tests.{both_true}
 
 few_bits : (ports : List Declaration) (before : List PortDecl) (p : PortDecl) (l : Name) → rdata_of p.name ≡ Some l → rdata_fits ports before p ≡ true → p.width ≤ 64
 unfolding rdata_fits

@@ -14,7 +14,7 @@ use Rattle.vlog_tree.specs.Cycle.{Cycle, Path, module_at}
 use Rattle.vlog_tree.specs.Environment.{Environment, FitsShape, shape_of}
 use Rattle.vlog_run_laws.specs.runs.OneRun.{SameHeld, IsRunFrom}
 use Rattle.vlog_run_laws.specs.runs.Filled.{HoldsFill, IsFilled}
-use Rattle.vlog_run_laws.proofs.runs.Sizes.{all_at, register_item}
+use Rattle.vlog_run_laws.proofs.runs.Sizes.{register_item}
 use Rattle.sim_tape.specs.declared.gates.Pair.{Pair}
 use Rattle.sim_tape.specs.Operators.{Cells}
 use Rattle.sim_tape.specs.Tape.{pair_value}
@@ -30,6 +30,7 @@ use Rattle.cycle_sim.specs.Machines.{IsSuppliedBy, HasCells, IsShown, IsFilledWi
 use Rattle.cycle_sim.specs.Wholes.{AreParts}
 use Rattle.cycle_sim.proofs.Telling.{cells_are}
 use Rattle.cycle_sim.proofs.Stepping.{valuation}
+use Rattle.tapa_base.proofs.Got.{all_at}
 
 module _ (whole : Parts) (are : AreParts whole) where
   open whole use {design.{modules as ms}, flat as f, machine.{pairs.{items as pairs}, memories.{items as memories}, program as t}, around.{inputs.{items as inputs}}, scalars.{items as scalars}}

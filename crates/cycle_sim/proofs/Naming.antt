@@ -9,7 +9,6 @@ use Rattle.vlog_tree.specs.Table.{Name, is_clk, declared, declaration_name, net_
 use Rattle.tapa_base.proofs.Lists.{has_got}
 use Rattle.vlog_scope.specs.NameTable.{places_from}
 use Rattle.vlog_scope.proofs.Found.{missing}
-use Rattle.vlog_run_laws.proofs.runs.Sound.{true_not_false}
 use Rattle.vlog_run_laws.proofs.runs.Sizes.{declared_net_kind}
 use Rattle.vlog_run_laws.proofs.runs.Settled.{IsTopTree, top_tree}
 use Rattle.sim_tape.specs.declared.gates.Pair.{Pair}
@@ -21,6 +20,7 @@ use Rattle.sim_flat.proofs.Standing.{top_low, top_is}
 use Rattle.sim_design.proofs.Parts.{numbered, declared_here}
 use Rattle.cycle_sim.specs.Machines.{IsTopPlaced, IsPairOf}
 use Rattle.cycle_sim.proofs.Numbering.{tree_at}
+use Rattle.tapa_base.proofs.Tests.{true_not_false}
 
 some_not_none : {A : Type 0} (o : Option A) → IsSome o → o ≡ None → ⊥
 some_not_none None h e = cc

@@ -13,7 +13,6 @@ use Rattle.vlog_tree.specs.Table.{is_clk, declared, net_kind_of, net_kind_is_rea
 use Rattle.vlog_tree.specs.Refused.{IsDesign}
 use Rattle.vlog_tree.specs.Cycle.{Cycle, Path}
 use Rattle.vlog_tree.specs.Environment.{Environment, FitsShape, RunsIn, shape_of}
-use Rattle.vlog_run_laws.proofs.runs.Sound.{both_true}
 use Rattle.vlog_run_laws.proofs.runs.Sizes.{declared_bits, declared_net_kind}
 use Rattle.vlog_run_laws.proofs.widths.Fitting.{run_fits}
 use Rattle.vlog_design.specs.Designs.{TopOf}
@@ -31,6 +30,8 @@ use Rattle.cycle_sim.specs.Wholes.{IsSim, sim_tree}
 use Rattle.cycle_sim.proofs.Numbering.{number_is_found}
 use Rattle.cycle_sim.proofs.Telling.{some_is}
 use Rattle.cycle_sim.proofs.Naming.{declared_kind, top_number}
+use Rattle.tapa_base.proofs.Tests.{both_true}
+use Rattle.vlog_run_laws.proofs.loops.Climbed.{kept as has_kept}
 
 -- ---- two lists, place by place
 
@@ -63,11 +64,6 @@ kept_by : {A : Type 0} (p : A → Bool) (y : A) (ys : List A) (x : A) (b : Bool)
 kept_by p y ys x true e rest (inl s) = (inl s, subst (λ z. p z ≡ true) s e)
 kept_by p y ys x true e rest (inr i) = let r = rest i in (inr r.0, r.1)
 kept_by p y ys x false e rest i = let r = rest i in (inr r.0, r.1)
-
--- what passes a test stands in the list
-has_kept : {A : Type 0} (p : A → Bool) (xs : List A) (x : A) → Has (filter p xs) x → Has xs x × (p x ≡ true)
-has_kept p [] x h = absurd h
-has_kept p (y ∷ ys) x h = kept_by p y ys x (p y) refl (has_kept p ys x) h
 
 -- ---- pairs of nets
 

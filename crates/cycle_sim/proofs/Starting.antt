@@ -33,10 +33,10 @@ use Rattle.cycle_sim.specs.Steps.{IsAway, PairHas, HaveSlots, supplied}
 use Rattle.cycle_sim.specs.Machines.{HasCells, IsFilledWith}
 use Rattle.cycle_sim.specs.Wholes.{AreParts, IsSim, sim_tree}
 use Rattle.cycle_sim.proofs.Stepping.{have_slots, given_next}
-use Rattle.cycle_sim.proofs.Writing.{cells_long}
 use Rattle.cycle_sim.proofs.Telling.{told_of}
 use Rattle.cycle_sim.proofs.Beginning.{shown_first}
 use Rattle.cycle_sim.proofs.Filling.{are_held, held_first, register_held}
+use Rattle.sim_pass.proofs.Reading.{cells_long}
 
 -- each memory has two lists, one behind the other
 lists_at : (fill : ℕ) (ws : List Width) (i : ℕ) (w : Width) → slice_get ws i ≡ Some w

@@ -18,7 +18,7 @@ use Rattle.vlog_tree.specs.Cycle.{Cycle, Path, Takes, module_at, run_items}
 use Rattle.vlog_tree.specs.Environment.{Environment, FitsShape, RunsIn, shape_of, cells_at, ready_at, set_cell}
 use Rattle.tapa_base.proofs.Lists.{has_got, got_has}
 use Rattle.vlog_run_laws.proofs.runs.Settled.{module_in}
-use Rattle.vlog_run_laws.proofs.runs.Sizes.{all_at, memory_item, register_item, declared_net_kind, has_line}
+use Rattle.vlog_run_laws.proofs.runs.Sizes.{memory_item, register_item, declared_net_kind, has_line}
 use Rattle.vlog_run_laws.specs.widths.Widths.{RunFits}
 use Rattle.vlog_run_laws.proofs.widths.Fitting.{run_fits}
 use Rattle.vlog_run_laws.proofs.widths.Ruled.{widths_in_range}
@@ -46,9 +46,8 @@ use Rattle.cycle_sim.specs.Wholes.{AreParts}
 use Rattle.cycle_sim.proofs.Numbering.{tree_at}
 use Rattle.cycle_sim.proofs.Telling.{cells_are, cell_is}
 use Rattle.cycle_sim.proofs.Storing.{AreApart, set_past, all_length, all_stay, all_stores}
-
-zero_one : ◌≡◌ {A = ℕ} 0 1 → ⊥
-zero_one e = omega (arith, e)
+use Rattle.tapa_base.proofs.Got.{all_at}
+use Rattle.tapa_base.proofs.Tests.{zero_one}
 
 -- a number of at most 64 bits has no high half
 no_high : (h l v : ℕ) → v ≡ h * 2 ^ 64 + l → v < 2 ^ 64 → h ≡ 0

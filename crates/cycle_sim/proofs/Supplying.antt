@@ -22,7 +22,6 @@ use Rattle.vlog_tree.specs.Table.{Name, is_clk, declared, port_declared, net_kin
 use Rattle.vlog_tree.specs.V2.{v2_uses}
 use Rattle.vlog_tree.specs.V6.{v6_uses, is_top}
 use Rattle.tapa_base.proofs.Lists.{got_has, has_flat}
-use Rattle.vlog_run_laws.proofs.runs.Sound.{true_not_false}
 use Rattle.vlog_run_laws.proofs.runs.Labelled.{ack_label, ack_is_no_scalar}
 use Rattle.vlog_run_laws.proofs.runs.Ports.{PortFits, fits, input_has_label}
 use Rattle.vlog_run_laws.proofs.runs.TopPorts.{input_port}
@@ -38,9 +37,8 @@ use Rattle.cycle_sim.specs.Firsts.{place_of}
 use Rattle.cycle_sim.specs.Machines.{HasSupply, IsTopPlaced, IsSuppliedBy, IsInput, AreInputs}
 use Rattle.cycle_sim.proofs.Growing.{got_last, got_before}
 use Rattle.cycle_sim.proofs.Naming.{top_number, number_place, declared_kind, tree}
-
-pub clash : {A : Type 0} (o : Option A) (x : A) → o ≡ None → o ≡ Some x → ⊥
-clash o x e f = let g : None ≡ Some x = sym e ∙ f in cc
+use Rattle.tapa_base.proofs.Tests.{true_not_false}
+use Rattle.tapa_base.proofs.Got.{clash}
 
 pub none_of : {A B : Type 0} (g : A → B) (o : Option A) → is_some o ≡ false → option_map g o ≡ None
 none_of g None h = refl

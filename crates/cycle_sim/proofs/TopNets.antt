@@ -16,21 +16,14 @@ use Rattle.vlog_tree.specs.Table.{Name, clk, is_clk, declared, port_declared, it
 use Rattle.vlog_tree.specs.Refused.{IsDesign}
 use Rattle.vlog_tree.specs.V6.{v6_uses, module_tops, is_top, is_whole_top, has_port}
 use Rattle.tapa_base.proofs.Lists.{of_flat}
-use Rattle.vlog_run_laws.proofs.runs.Sound.{both_true, not_no}
 use Rattle.vlog_run_laws.proofs.runs.Sizes.{declared_net_kind, has_line}
 use Rattle.vlog_run_laws.proofs.runs.Cycles.{port_stands}
 use Rattle.vlog_tree.proofs.Labelled.{labelled}
 use Rattle.vlog_run_laws.proofs.runs.TopPorts.{use_right, five_of, memory_clock}
 use Rattle.vlog_run_laws.proofs.runs.Settled.{IsTopTree, top_tree}
-use Rattle.cycle_sim.proofs.Asking.{five_ports, wdata_clock}
-
-ack_clock : (l : Name) → is_clk (m_ack l) ≡ false
-unfolding m_ack clk
-ack_clock l = refl
-
-we_clock : (l : Name) → is_clk (m_we l) ≡ false
-unfolding m_we clk
-we_clock l = refl
+use Rattle.cycle_sim.proofs.Asking.{five_ports}
+use Rattle.vlog_run_laws.proofs.runs.Surround.{clock_of_ack as ack_clock, clock_of_wdata as wdata_clock, clock_of_we as we_clock}
+use Rattle.tapa_base.proofs.Tests.{not_no, both_true}
 
 wr_clock : (l : Name) → is_clk (s_wr l) ≡ false
 unfolding s_wr clk

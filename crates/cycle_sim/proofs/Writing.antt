@@ -5,7 +5,7 @@ use Rattle.std.specs.declared.alloc.Global.{Global}
 use Rattle.std.proofs.lemmas.Bool.{cases_eq, ne_eqb}
 use Rattle.std.proofs.lemmas.List.{get_or-set_other}
 use Rattle.std.proofs.lemmas.Grind.{get_or-set_at}
-use Rattle.sim_pass.proofs.Reading.{cells_got}
+use Rattle.sim_pass.proofs.Reading.{cells_got, cells_set, cells_long}
 use Rattle.vlog_tree.specs.Environment.{set_cell}
 use Rattle.sim_tape.specs.declared.gates.Pair.{Pair}
 use Rattle.sim_tape.specs.Tape.{number_at}
@@ -19,15 +19,6 @@ cond_here m i x y e = ap (λ b. cond b x y) (eq-eqb m i e)
 
 pub cond_away : {A : Type 0} (m i : ℕ) (x y : A) → (m ≡ i → ⊥) → cond (m == i) x y ≡ y
 cond_away m i x y h = ap (λ b. cond b x y) (ne_eqb m i h)
-
-cells_set : (vs : List (Vec ℕ Global)) (i : ℕ) (v : Vec ℕ Global) → cells_of (slice_set vs i v) ≡ slice_set (cells_of vs) i v.items
-cells_set [] i v = refl
-cells_set (u ∷ vs) zero v = refl
-cells_set (u ∷ vs) (suc i) v = ap (λ z. u.items ∷ z) (cells_set vs i v)
-
-pub cells_long : (vs : List (Vec ℕ Global)) → length (cells_of vs) ≡ length vs
-cells_long [] = refl
-cells_long (u ∷ vs) = ap suc (cells_long vs)
 
 -- a write to one cell of one memory
 pub cell_put : (vs : List (Vec ℕ Global)) (memory at n : ℕ) (d new : Vec ℕ Global) → memory < length vs → new.items ≡ set_cell (get_or vs memory d).items at n

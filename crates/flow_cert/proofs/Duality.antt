@@ -1,20 +1,19 @@
 -- Every dual flow's value is at most every even balance's cost.
 use Rattle.std.proofs.Common.{◌≡◌, ℕ, zero, suc, ◌+◌, ◌*◌, ◌<◌, ◌≤◌, true, List, length, get_or, ap, arith, ⊎_elim}
 use Rattle.std.specs.Prelude.{◌==◌, if◌then◌else◌}
-use Rattle.std.specs.List.{position_or_len}
 use Rattle.std.proofs.Math.Logic.{∥∥₁_elim}
-use Rattle.std.proofs.Math.Nat.{ℕ_set}
+use Rattle.std.proofs.Math.Nat.{ℕ_set, mul-le-mul_left}
 use Rattle.std.proofs.lemmas.Bool.Decides.{nat_tests}
 use Rattle.std.proofs.lemmas.Bool.{cases_lt, cases_eq}
-use Rattle.std.proofs.lemmas.List.Sums.{passes_at_first}
 use Rattle.std.proofs.lemmas.Nat.{mul-le}
-use Rattle.std.proofs.Math.Nat.{mul-le-mul_left}
 use Rattle.task_graph.specs.declared.Graph.{Graph}
 use Rattle.task_graph.specs.Streams.{from_of, to_of, Walk, AreGroups, least_of, IsRank, HasRank}
 use Rattle.task_graph.specs.Arcs.{streams, tail, head, width, inner, total}
 use Rattle.flow_cert.specs.Balance.{IsEven, cost, IsLeast}
 use Rattle.flow_cert.specs.Flow.{inflow, outflow, IsKept, IsDualFlow, weight, Levels, WeakDuality}
-use Rattle.flow_cert.proofs.Sums.{total_same, total_le, total_add, total_swap, total_const, pick}
+use Rattle.flow_cert.proofs.Sums.{total_same, total_add, total_swap, total_const, pick}
+use Rattle.task_graph.proofs.Ranks.{first_hits}
+use Rattle.task_graph.proofs.Sizes.{total_le}
 
 -- the ends of a stream are groups of the graph
 pub heads_inside : (g : Graph) (e : ℕ) → e < streams g → head g e < g.groups
@@ -38,9 +37,6 @@ same_time g lat bal ev i j li lj e =
     let up = walk_up g lat bal ev i j r.0.0 r.0.1 in
     let down = walk_up g lat bal ev j i r.1.0 r.1.1 in
     let same : ev.time i ≡ ev.time j = omega arith in same)
-
-first_hits : (v : ℕ) (xs : List ℕ) → position_or_len (λ x. x == v) xs < length xs → get_or xs (position_or_len (λ x. x == v) xs) 0 ≡ v
-first_hits v xs h = let t = passes_at_first (λ x. x == v) xs 0 h in grind (arith, nat_tests)
 
 -- a group's time is that of its least instance
 abbrev pub group_time : (g : Graph) (lat bal : ℕ → ℕ) → IsEven g lat bal → ℕ → ℕ

@@ -55,8 +55,7 @@ pub fn law_even_is_consistent()
     ensures { EvenIsConsistent }
 {}
 
-/// Where some task reaches every other task, no balance that gives equal added latency to any two
-/// walks between the same tasks costs less than a least even one.
+/// If some task reaches every other task, an even balance of least cost is also of least cost among all balances that give equal added latency to any two walks between the same tasks.
 pub fn law_least_of_consistent()
     ensures { LeastOfConsistent }
 {}

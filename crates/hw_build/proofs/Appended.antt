@@ -2,10 +2,10 @@
 use Rattle.std.proofs.Common.{◌≡◌, true, List, [], ◌∷◌, ◌++◌, refl}
 use Rattle.vlog_tree.specs.declared.table.Declaration.{Declaration}
 use Rattle.vlog_tree.specs.Form.{ModuleTree}
-use Rattle.vlog_module_laws.proofs.Lists.{both_true}
 use Rattle.hw_build.specs.Elements.{Element}
 use Rattle.hw_build.specs.Fitting.{declarations, table_after, has_fitting_names, have_fitting_names, HaveFittingWidths}
-use Rattle.hw_build.proofs.Forms.{yes_and}
+use Rattle.tapa_base.proofs.Tests.{both_true}
+use Rattle.std.proofs.lemmas.Bool.{and_from as yes_and}
 
 pub table_append : (xs ys : List Element) (t : List Declaration) → table_after t (xs ++ ys) ≡ table_after (table_after t xs) ys
 table_append [] ys t = refl

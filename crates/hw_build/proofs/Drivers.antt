@@ -15,11 +15,13 @@ use Rattle.vlog_tree.specs.Table.{Name, clk, times_in, one_if}
 use Rattle.vlog_tree.specs.Labels.{rst}
 use Rattle.vlog_tree.specs.V4.{line_driven, step_assigns, is_block_of, breaks_driving}
 use Rattle.tapa_base.proofs.Lists.{has_flat}
-use Rattle.vlog_module_laws.proofs.Lists.{count_cons, counted, both_true}
+use Rattle.vlog_module_laws.proofs.Lists.{count_cons, counted}
 use Rattle.hw_build.specs.Elements.{Element, Input, Output, Outlet, Wire, InstanceWire, Register, Memory, Block, Instance, element_items}
 use Rattle.hw_build.specs.Fitting.{declarations, first_table, table_after, link_names, instance_driven, stored_names, assigns, drive_links_once, have_own_blocks}
-use Rattle.hw_build.proofs.Tables.{times, clock_declared, reset_declared, count_append, same_name, AreDistinct, comes_from}
+use Rattle.hw_build.proofs.Tables.{times, clock_declared, reset_declared, count_append, AreDistinct, comes_from}
 use Rattle.hw_build.proofs.Uses.{all_has}
+use Rattle.vlog_module_laws.proofs.Forms.{itself as same_name}
+use Rattle.tapa_base.proofs.Tests.{both_true}
 
 -- the nets that come with their drivers
 abbrev pub own_names : Element → List Name
@@ -52,7 +54,7 @@ times_by f elements x = times_in (flat_map f elements) x
 times_more : (f : Element → List Name) (e : Element) (elements : List Element) (x : Name) → times_by f (e ∷ elements) x ≡ times_in (f e) x + times_by f elements x
 times_more f e elements x = count_append (λ y. bytes_eq y x) (f e) (flat_map f elements)
 
-one_name : (d : Declaration) (x : Name) → times (d ∷ []) x ≡ times_in (d.name ∷ []) x
+pub one_name : (d : Declaration) (x : Name) → times (d ∷ []) x ≡ times_in (d.name ∷ []) x
 one_name d x = count_cons (λ (z : Declaration). bytes_eq z.name x) d [] ∙ sym (count_cons (λ y. bytes_eq y x) d.name [])
 
 -- an element declares its names
@@ -195,7 +197,7 @@ driven_output driven blocks e = ap (λ n. breaks_driving n blocks OutputNet) e
 driven_wire : (driven blocks : ℕ) → driven ≡ 1 → breaks_driving driven blocks WireNet ≡ false
 driven_wire driven blocks e = ap (λ n. breaks_driving n blocks WireNet) e
 
-few_blocks : (blocks : ℕ) → blocks ≤ 1 → nat_le 2 blocks ≡ false
+pub few_blocks : (blocks : ℕ) → blocks ≤ 1 → nat_le 2 blocks ≡ false
 few_blocks zero h = refl
 few_blocks (suc zero) h = refl
 few_blocks (suc (suc n)) h = absurd (omega arith)

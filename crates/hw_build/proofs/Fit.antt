@@ -3,7 +3,7 @@ use Rattle.std.proofs.Common.{◌≡◌, ℕ, ◌+◌, ◌-◌, ◌*◌, ◌<◌
 use Rattle.std.specs.Prelude.{bytes_eq, count_by, not, nat_le, IsTrue}
 use Rattle.std.specs.List.{list_any, list_all, flat_map, AllByRecursion}
 use Rattle.std.specs.Cmp.Lexicographic.{bytes_decides}
-use Rattle.std.proofs.lemmas.Bool.{le-leb}
+use Rattle.std.proofs.lemmas.Bool.{le-leb, false_from_ne_true as not_both, and_from as yes_and}
 use Rattle.std.proofs.lemmas.List.Sums.{sum_by-cons}
 use Rattle.std.proofs.lemmas.Grind.{flat_map-append}
 use Rattle.vlog_tree.specs.declared.tree.Atom.{Atom}
@@ -27,30 +27,22 @@ use Rattle.vlog_tree.specs.V4.{step_assigns}
 use Rattle.vlog_module_laws.proofs.Lists.{count_cons, counted}
 use Rattle.hw_build.specs.Elements.{Element, Input, Output, Outlet, Wire, InstanceWire, Register, Memory, Block, Instance}
 use Rattle.hw_build.specs.Fitting.{declarations, first_table, is_new, are_kept, has_fitting_names, have_fitting_names, AtomFits, AtomHas, OpFits, ValueFits, StepFits, HasFittingWidths, HaveFittingWidths, link_names, instance_driven, stored_names, assigns, drive_links_once, have_own_blocks}
-use Rattle.hw_build.proofs.Forms.{yes_and}
-use Rattle.hw_build.proofs.Tables.{times, count_append, same_name, AreDistinct, found}
-use Rattle.hw_build.proofs.Uses.{both_together}
+use Rattle.hw_build.proofs.Tables.{times, count_append, AreDistinct, found}
 use Rattle.hw_build.proofs.Appended.{table_append}
 use Rattle.hw_build.specs.Scope.{IsNet, IsRegister, IsMemory, AtomIs, SameAtoms, OpIs, PartsAre, ValueIs, StepIs, first_assigned, IsBlockOf, FitsAfter, FitInOrder}
 use Rattle.hw_build.specs.Fits.{declared_names, targets, AreOnce, AloneIsFitting}
 use Rattle.hw_build.proofs.ListTables.{table, named, names_after, first_times, none_is_new, IsDeclared, net_declared, register_declared, memory_declared, net_name}
+use Rattle.vlog_module_laws.proofs.Forms.{itself as same_name}
+use Rattle.hw_build.proofs.Forms.{and_true, all_append as both_together}
 
-and_true : (a : Bool) → a ≡ true → (a && true) ≡ true
-and_true true e = refl
-and_true false e = e
-
-kept_read : (a b : Bool) → a ≡ true → b ≡ false → not (not a || b) ≡ true
+pub kept_read : (a b : Bool) → a ≡ true → b ≡ false → not (not a || b) ≡ true
 kept_read true false e f = refl
 kept_read true true e f = cc
 kept_read false b e f = cc
 
-kept_is : (a : Bool) → a ≡ true → not (not a) ≡ true
+pub kept_is : (a : Bool) → a ≡ true → not (not a) ≡ true
 kept_is true e = refl
 kept_is false e = cc
-
-not_both : (b : Bool) → (b ≡ true → ⊥) → b ≡ false
-not_both true h = absurd (h refl)
-not_both false h = refl
 
 -- ---- an element, where no name is declared twice
 

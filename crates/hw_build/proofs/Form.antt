@@ -2,7 +2,7 @@
 use Rattle.std.proofs.Common.{◌≡◌, ℕ, true, ◌&&◌, List, [], ◌∷◌, ◌++◌, length, inl, inr, refl, sym, ap, ◌∙◌, append_assoc}
 use Rattle.std.specs.Prelude.{nat_le, IsTrue}
 use Rattle.std.specs.List.{list_all, AllByRecursion}
-use Rattle.std.proofs.lemmas.Bool.{le-leb}
+use Rattle.std.proofs.lemmas.Bool.{le-leb, and_from as yes_and}
 use Rattle.vlog_tree.specs.declared.tree.Atom.{Atom}
 use Rattle.vlog_tree.specs.declared.tree.Atom.TheVariants.{Net, Part, Literal}
 use Rattle.vlog_tree.specs.declared.tree.BinaryOp.{BinaryOp}
@@ -17,14 +17,14 @@ use Rattle.vlog_tree.specs.Labels.{rst}
 use Rattle.vlog_tree.specs.Names.{is_name, starts_name, goes_on, is_keyword, always_to_default, defparam_to_event, for_to_input, instance_to_not, notif0_to_real, realtime_to_strong0, strong1_to_unsigned, use_to_xor}
 use Rattle.vlog_tree.specs.Table.{Name}
 use Rattle.vlog_tree.specs.V3.{is_width}
-use Rattle.vlog_module_laws.proofs.Lists.{both_true}
 use Rattle.hw_build.specs.Elements.{Element, Input, Output, Outlet, Wire, InstanceWire, Register, Memory, Block, Instance}
 use Rattle.hw_build.specs.Forms.{is_element}
-use Rattle.hw_build.proofs.Forms.{yes_and}
-use Rattle.hw_build.proofs.Uses.{all_has, both_together, all_of_both}
+use Rattle.hw_build.proofs.Uses.{all_has, all_of_both}
 use Rattle.hw_build.specs.Scope.{IsNet, AtomIs, OpIs, PartsAre, ValueIs, StepIs, first_assigned, IsBlockOf, FitsAfter, FitInOrder}
 use Rattle.hw_build.specs.Fits.{declared_names, AloneHasForm}
 use Rattle.hw_build.proofs.ListTables.{named, net_name, register_name, memory_name}
+use Rattle.tapa_base.proofs.Tests.{both_true}
+use Rattle.hw_build.proofs.Forms.{all_append as both_together}
 
 rst_is_name : is_name rst ≡ true
 unfolding rst starts_name goes_on is_keyword always_to_default defparam_to_event for_to_input instance_to_not notif0_to_real realtime_to_strong0 strong1_to_unsigned use_to_xor

@@ -2,19 +2,14 @@
 use Rattle.std.proofs.Common.{◌≡◌, ◌+◌, ◌≤◌, Bool, true, false, ◌&&◌, List, [], ◌∷◌, ◌++◌, length, refl, arith, length-append}
 use Rattle.std.specs.Prelude.{nat_le}
 use Rattle.std.specs.List.{list_all}
-use Rattle.std.proofs.lemmas.Bool.{le-leb}
+use Rattle.std.proofs.lemmas.Bool.{le-leb, and_from as yes_and}
 use Rattle.vlog_tree.specs.Names.{is_name, starts_name, goes_on, is_keyword, always_to_default, defparam_to_event, for_to_input, instance_to_not, notif0_to_real, realtime_to_strong0, strong1_to_unsigned, use_to_xor}
 use Rattle.vlog_tree.specs.Form.{ModuleTree, is_port, is_item, is_value, is_step, is_connection, nested, IsModule}
 use Rattle.vlog_tree.specs.Table.{Name, clk}
 use Rattle.vlog_tree.specs.Labels.{rst}
-use Rattle.vlog_module_laws.proofs.Lists.{both_true}
 use Rattle.hw_build.specs.Elements.{Element, Input, Output, Outlet, Wire, InstanceWire, Register, Memory, Block, Instance, built, with, with_all, empty, element_ports, element_items}
 use Rattle.hw_build.specs.Forms.{is_element}
-
-pub yes_and : (a b : Bool) → a ≡ true → b ≡ true → (a && b) ≡ true
-yes_and true true e f = refl
-yes_and true false e f = f
-yes_and false b e f = e
+use Rattle.tapa_base.proofs.Tests.{both_true}
 
 pub all_append : {A : Type 0} (p : A → Bool) (xs ys : List A) → list_all p xs ≡ true → list_all p ys ≡ true → list_all p (xs ++ ys) ≡ true
 all_append p [] ys e f = f
@@ -26,7 +21,7 @@ record HasForm (m : ModuleTree) : Type 0 where
   ports : list_all is_port m.ports ≡ true
   items : list_all is_item m.items ≡ true
 
-and_true : (a : Bool) → a ≡ true → (a && true) ≡ true
+pub and_true : (a : Bool) → a ≡ true → (a && true) ≡ true
 and_true a e = yes_and a true e refl
 
 ports_of : (e : Element) → is_element e ≡ true → list_all is_port (element_ports e) ≡ true

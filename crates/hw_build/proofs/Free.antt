@@ -16,7 +16,6 @@ use Rattle.vlog_tree.specs.V2.{value_uses}
 use Rattle.vlog_tree.specs.V6.{module_children, has_port}
 use Rattle.vlog_tree.specs.Loops.{Rests, directly, through, after, LiesOnLoop, TextPlace, containment, own_containment, IsLoopless, value_nets, port_of, line_edges, connection_edge, direct_edges, asked_port, answer_edges, memory_edges, instances}
 use Rattle.tapa_base.proofs.Lists.{has_left, has_split, of_flat, of_map, has_flat}
-use Rattle.vlog_module_laws.proofs.Lists.{both_true, all_at}
 use Rattle.hw_build.specs.Elements.{Element, Input, Output, Outlet, Wire, InstanceWire, Register, Memory, Block, Instance, element_items, empty, built}
 use Rattle.hw_build.specs.Forms.{is_element}
 use Rattle.hw_build.specs.Fitting.{declarations, first_table, table_after, is_new, are_kept, child_ports, AreFitting}
@@ -26,6 +25,8 @@ use Rattle.hw_build.proofs.Uses.{all_has, all_of_flat}
 use Rattle.hw_build.proofs.Places.{has_times, place_some, one_place}
 use Rattle.hw_build.proofs.Right.{table}
 use Rattle.hw_build.proofs.Order.{joins, joined, joined_once, declared_at, driver_order, instance_joined, rank, joint_rank, port_placeless, line_of, instance_has, no_loop}
+use Rattle.tapa_base.proofs.Tests.{not_so as not_free, both_true}
+use Rattle.tapa_base.proofs.Got.{all_at}
 
 child_rests : (ms : List ModuleTree) (is_top : Name → Bool) (elements : List Element) → ChildrenRestOnNoInput ms is_top elements → (kn i : Name) (ls : List Connection) → Has elements (Instance kn i ls)
     → (k : ModuleTree) → module_named ms kn ≡ Some k → RestsOnNoInput ms is_top k
@@ -47,13 +48,9 @@ pub no_loop_of_registered : (ms : List ModuleTree) (is_top : Name → Bool) (nam
 no_loop_of_registered ms is_top name elements fit form inner children x r =
     no_loop ms name elements fit form is_top (order_kept ms is_top elements children) (no_answers is_top name elements inner) x r
 
-closed_read : (a b : Bool) → (not a || b) ≡ true → a ≡ true → b ≡ true
+pub closed_read : (a b : Bool) → (not a || b) ≡ true → a ≡ true → b ≡ true
 closed_read true b h e = h
 closed_read false b h e = cc
-
-not_free : (a : Bool) → not a ≡ true → a ≡ false
-not_free true h = cc
-not_free false h = refl
 
 is_input : (s : NetKind) → net_kind_is_input s ≡ true → s ≡ InputNet
 is_input Unknown h = cc

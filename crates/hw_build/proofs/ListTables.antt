@@ -15,15 +15,13 @@ use Rattle.hw_build.specs.Fitting.{declarations, first_table, table_after, is_ne
 use Rattle.hw_build.proofs.Tables.{times, clock_declared, reset_declared, count_append, stays, stays_new}
 use Rattle.hw_build.specs.Scope.{readable, register_of, memory_of, IsNet, IsRegister, IsMemory}
 use Rattle.hw_build.specs.Fits.{declared_names}
+use Rattle.hw_build.proofs.Drivers.{one_name}
 
 abbrev pub table : List Element → List Declaration
 table elements = table_after first_table elements
 
 abbrev pub named : List Element → List Name
 named elements = flat_map declared_names elements
-
-one_name : (d : Declaration) (x : Name) → times (d ∷ []) x ≡ times_in (d.name ∷ []) x
-one_name d x = count_cons (λ (z : Declaration). bytes_eq z.name x) d [] ∙ sym (count_cons (λ y. bytes_eq y x) d.name [])
 
 declares : (e : Element) (x : Name) → times (declarations e) x ≡ times_in (declared_names e) x
 declares (Input w x) y = one_name (record { name = x; net_kind = InputNet; bits = w; cells = 0 }) y

@@ -14,14 +14,8 @@ use Rattle.vlog_tree.specs.Cycle.{Cycle, Sizes, Follows, put, run_steps, atom_va
 use Rattle.vlog_module_laws.specs.Blocks.{IsOwnBlock}
 use Rattle.vlog_module_laws.proofs.Lines.{line, register_takes, cell_takes}
 use Rattle.hw_build.specs.Elements.{copied, reset_or, reset_or_set, stored}
-
-pub has_got : {A : Type 0} (xs : List A) (i : ℕ) (x : A) → slice_get xs i ≡ Some x → Has xs x
-has_got [] i x e = cc
-has_got (y ∷ ys) zero x e = inl cc
-has_got (y ∷ ys) (suc i) x e = inr (has_got ys i x e)
-
-same_name : (x : Name) → bytes_eq x x ≡ true
-same_name x = (bytes_decides x x).1 refl
+use Rattle.vlog_module_laws.proofs.Forms.{itself as same_name}
+use Rattle.tapa_base.proofs.Lists.{has_got}
 
 module _ (s : Sizes) (old : Cycle) (x : Name) where
   put_here : (n : ℕ) (c : Cycle) → (put x n c).net x ≡ n

@@ -3,7 +3,7 @@ use Rattle.std.proofs.Common.{◌≡◌, ℕ, suc, ◌+◌, ◌-◌, ◌*◌, �
 use Rattle.std.specs.Prelude.{bytes_eq, count_by, not, nat_le}
 use Rattle.std.specs.List.{list_any, list_all, flat_map}
 use Rattle.std.specs.Cmp.Lexicographic.{bytes_decides}
-use Rattle.std.proofs.lemmas.Bool.{lt-ltb, eqb-true}
+use Rattle.std.proofs.lemmas.Bool.{lt-ltb, eqb-true, or_parts as both_false, or_right as or_true}
 use Rattle.vlog_tree.specs.declared.tree.Value.{Value}
 use Rattle.vlog_tree.specs.declared.tree.Connection.{Connection}
 use Rattle.vlog_tree.specs.declared.tree.Item.{Item}
@@ -20,16 +20,19 @@ use Rattle.vlog_tree.specs.Loops.{Rests, value_nets, port_of, line_edges, connec
 use Rattle.tapa_base.proofs.Lists.{has_split, of_flat, of_map}
 use Rattle.vlog_module_laws.specs.Ranks.{FallsBy}
 use Rattle.vlog_module_laws.proofs.Ranks.{on_no_loop}
-use Rattle.vlog_module_laws.proofs.Lists.{both_true, both_false, count_cons, counted, none_counted}
+use Rattle.vlog_module_laws.proofs.Lists.{count_cons, counted, none_counted}
 use Rattle.hw_build.specs.Elements.{Element, Input, Output, Outlet, Wire, InstanceWire, Register, Memory, Block, Instance, element_items, empty, built}
 use Rattle.hw_build.specs.Forms.{is_element}
 use Rattle.hw_build.specs.Fitting.{declarations, first_table, table_after, is_new, are_kept, child_ports, AreFitting}
 use Rattle.hw_build.specs.Order.{place_in, place, StandsBefore, InstancesKeepOrder, AnswersKeepOrder}
-use Rattle.hw_build.proofs.Tables.{times, is_known, known, same_name, count_append, comes_from, stays_new, name_of_all}
-use Rattle.hw_build.proofs.Uses.{all_has, all_of_flat, read_known, driven_known, input_known}
+use Rattle.hw_build.proofs.Tables.{times, is_known, known, count_append, comes_from, stays_new, name_of_all}
+use Rattle.hw_build.proofs.Uses.{all_has, all_of_flat, read_known, driven_known, input_known, and_true, not_not}
 use Rattle.hw_build.proofs.Drivers.{times_by, other_names, declared_times, named_in}
 use Rattle.hw_build.proofs.Places.{place_low, place_some, IsDeclaredAt, moment, value_read, read_times, known_times}
-use Rattle.hw_build.proofs.Right.{names_once, lines_are}
+use Rattle.hw_build.proofs.Right.{names_once, lines_are, four_parts}
+use Rattle.vlog_module_laws.proofs.Forms.{itself as same_name}
+use Rattle.tapa_base.proofs.Tests.{both_true}
+use Rattle.hw_build.proofs.Widths.{not_or}
 
 -- ---- names with a dot are those of ports of instances
 
@@ -46,10 +49,6 @@ after_dot (c ∷ cs) = cond (eqb c 46) cs (after_dot cs)
 
 abbrev dotted : Name → Name → Name
 dotted i p = i ++ 46 ∷ p
-
-or_true : (a b : Bool) → b ≡ true → (a || b) ≡ true
-or_true true b e = refl
-or_true false b e = e
 
 dot_there : (i p : Name) → has_dot (dotted i p) ≡ true
 dot_there [] p = refl
@@ -222,18 +221,6 @@ joined_once ports ls h x k =
 
 -- ---- the net of a connection is declared
 
-and_true : (a : Bool) → (a && true) ≡ true → a ≡ true
-and_true true h = refl
-and_true false h = h
-
-not_not : (b : Bool) → not (not b) ≡ true → b ≡ true
-not_not true h = refl
-not_not false h = cc
-
-not_or : (a b : Bool) → not (not a || b) ≡ true → a ≡ true
-not_or true b h = refl
-not_or false b h = cc
-
 net_known : (t ports : List Declaration) (l : Connection) (to_clock to_input : Bool) → (is_clk l.port && is_clk l.net) ≡ to_clock
     → not (cond to_clock (clock_use t) (cond to_input (read_use t l.net) (driven_use t l.net))).1 ≡ true → is_known (net_kind_of t l.net) ≡ true
 net_known t ports l true b e h =
@@ -250,13 +237,6 @@ ends_known t ports l h =
       read_known (net_kind_of ports l.port) (not_not (net_kind_is_read (net_kind_of ports l.port)) k.0),
       net_known t ports l (is_clk l.port && is_clk l.net) (net_kind_is_input (net_kind_of ports l.port)) refl (and_true _ k.1),
     )
-
-four_parts : (a b c d : Bool) → (a && b && c && d) ≡ true → (a ≡ true) × (b ≡ true) × (c ≡ true) × (d ≡ true)
-four_parts true true true true h = (refl, refl, refl, refl)
-four_parts true true true false h = cc
-four_parts true true false d h = cc
-four_parts true false c d h = cc
-four_parts false b c d h = cc
 
 input_or_not : (k : NetKind) → k ≡ InputNet → net_kind_is_input k ≡ true
 input_or_not k e = ap net_kind_is_input e

@@ -4,7 +4,6 @@ use Rattle.std.specs.Prelude.{◌⊎◌, bit_or, IsTrue}
 use Rattle.std.specs.Int.Bits.{or_zero_l}
 use Rattle.std.proofs.lemmas.Nat.{or_comm}
 use Rattle.std.proofs.lemmas.Bool.{cases_eq, eq-eqb, ne_eqb}
-use Rattle.vlog_tree.specs.declared.tree.Atom.TheVariants.{Net}
 use Rattle.vlog_tree.specs.declared.tree.Value.{Value}
 use Rattle.tapa_base.specs.Lists.{Has}
 use Rattle.vlog_tree.specs.Table.{Name}
@@ -16,7 +15,7 @@ use Rattle.hw_build.specs.Trees.{numbered}
 use Rattle.hw_build.proofs.Driven.{wire_driven}
 use Rattle.hw_build.specs.Scope.{readable, IsNet, AtomIs, ValueIs, FitInOrder}
 use Rattle.hw_build.specs.Fits.{IsAmong}
-use Rattle.hw_build.specs.Choices.{Entry, row, any_driver, any_elements, pick_driver, pick_elements, choice, AnyFits, PickFits}
+use Rattle.hw_build.specs.Choices.{Entry, row_of, any_driver, any_elements, pick_driver, pick_elements, choice, AnyFits, PickFits}
 use Rattle.hw_build.proofs.Parts.{net_more, atom_more}
 
 -- the last number of a row of one more
@@ -32,7 +31,7 @@ module _ (name : Name) (elements : List Element) (run : ℕ → Cycle) (f : Foll
   net_at j = at (numbered front j)
 
   abbrev Rest : ℕ → (ℕ → Entry → Value) → ℕ → List Entry → Type 0
-  Rest width driver j entries = IsAmong (row width front driver j entries) elements
+  Rest width driver j entries = IsAmong (row_of width front driver j entries) elements
 
   rest : (width : ℕ) (driver : ℕ → Entry → Value) (j : ℕ) (d : Entry) (entries : List Entry) → Rest width driver j (d ∷ entries) → Rest width driver (suc j) entries
   rest width driver j d entries among e h = among e (inr h)
@@ -203,7 +202,7 @@ net_last before w x v =
 module _ (width : ℕ) (front : Name) (wide : IsTrue (is_width width)) (driver : ℕ → Entry → Value) (Parts : List Element → Entry → Type 0) (grows : Grows Parts)
     (first : (before : List Element) (e : Entry) → Parts before e → ValueIs before width (driver 0 e))
     (next : (before : List Element) (j : ℕ) (e : Entry) → Parts before e → IsNet before (numbered front j) width → ValueIs before width (driver (suc j) e)) where
-  later_fit : (before : List Element) (j : ℕ) (entries : List Entry) → HasParts Parts before entries → IsNet before (numbered front j) width → FitInOrder before (row width front driver (suc j) entries)
+  later_fit : (before : List Element) (j : ℕ) (entries : List Entry) → HasParts Parts before entries → IsNet before (numbered front j) width → FitInOrder before (row_of width front driver (suc j) entries)
   later_fit before j [] h net = tt
   later_fit before j (e ∷ entries) h net =
       let w : Element = Wire width (numbered front (suc j)) (driver (suc j) e) in (
@@ -211,7 +210,7 @@ module _ (width : ℕ) (front : Name) (wide : IsTrue (is_width width)) (driver :
         later_fit (before ++ w ∷ []) (suc j) entries (λ d k. grows before w d (h d (inr k))) (net_last before width (numbered front (suc j)) (driver (suc j) e)),
       )
 
-  row_fits : (before : List Element) (entries : List Entry) → HasParts Parts before entries → FitInOrder before (row width front driver 0 entries)
+  row_fits : (before : List Element) (entries : List Entry) → HasParts Parts before entries → FitInOrder before (row_of width front driver 0 entries)
   row_fits before [] h = tt
   row_fits before (e ∷ entries) h =
       let w : Element = Wire width (numbered front 0) (driver 0 e) in (

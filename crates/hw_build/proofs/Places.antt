@@ -14,12 +14,14 @@ use Rattle.vlog_tree.specs.Table.{Name, NameUse, is_clk, find_name, net_kind_of,
 use Rattle.vlog_tree.specs.V2.{read_use, memory_use, atom_uses, value_uses}
 use Rattle.vlog_tree.specs.Loops.{atom_nets, value_nets}
 use Rattle.tapa_base.proofs.Lists.{has_left, has_split, of_flat}
-use Rattle.vlog_module_laws.proofs.Lists.{count_cons, counted, both_true}
+use Rattle.vlog_module_laws.proofs.Lists.{count_cons, counted}
 use Rattle.hw_build.specs.Elements.{Element, Input, Output, Outlet, Wire, InstanceWire, Register, Memory, Block, Instance}
 use Rattle.hw_build.specs.Fitting.{declarations, table_after, is_new, are_kept, has_fitting_names, have_fitting_names}
 use Rattle.hw_build.specs.Order.{place_in}
-use Rattle.hw_build.proofs.Tables.{times, is_known, known, count_append, same_name, new_is_none}
-use Rattle.hw_build.proofs.Uses.{all_of_both, all_of_flat, read_known}
+use Rattle.hw_build.proofs.Tables.{times, is_known, known, count_append, new_is_none}
+use Rattle.hw_build.proofs.Uses.{all_of_both, all_of_flat, read_known, and_true}
+use Rattle.vlog_module_laws.proofs.Forms.{itself as same_name}
+use Rattle.tapa_base.proofs.Tests.{both_true, first_true}
 
 pub has_times : (t : List Declaration) (d : Declaration) → Has t d → 1 ≤ times t d.name
 has_times t d h = counted (λ (z : Declaration). bytes_eq z.name d.name) t d h (same_name d.name)
@@ -62,10 +64,6 @@ new_is_other d t x false e new h = refl
 
 place_more : (d : Declaration) (t : List Declaration) (x : Name) → is_new t d.name ≡ true → 1 ≤ times t x → place_in (d ∷ t) x ≡ place_in t x
 place_more d t x new h = ap (λ b. cond b (suc (length t)) (place_in t x)) (new_is_other d t x (bytes_eq d.name x) refl new h)
-
-first_true : (a b c d : Bool) → (a && b && c && d) ≡ true → a ≡ true
-first_true true b c d e = refl
-first_true false b c d e = e
 
 place_with : (ms : List ModuleTree) (t : List Declaration) (e : Element) (x : Name) → has_fitting_names ms t e ≡ true → 1 ≤ times t x → place_in (declarations e ++ t) x ≡ place_in t x
 place_with ms t (Input w y) x n h = place_more (record { name = y; net_kind = InputNet; bits = w; cells = 0 }) t x n h
@@ -131,11 +129,6 @@ moment ms (c ∷ elements) t n e (inl s) =
 moment ms (c ∷ elements) t n e (inr h) =
     let both = both_true (has_fitting_names ms t c) (have_fitting_names ms (declarations c ++ t) elements) n in
     moment ms elements (declarations c ++ t) both.1 e h
-
--- the nets of a driver are read
-and_true : (a : Bool) → (a && true) ≡ true → a ≡ true
-and_true true h = refl
-and_true false h = h
 
 module _ (t : List Declaration) where
   abbrev pub IsRead : Name → Type 0

@@ -19,14 +19,18 @@ use Rattle.vlog_tree.specs.V3.{is_width, is_cell_count, net_fits, value_fits, st
 use Rattle.vlog_tree.specs.V4.{line_driven, is_block_of, breaks_driving, driving_use, module_drives}
 use Rattle.tapa_base.proofs.Lists.{of_map, has_left, has_right}
 use Rattle.vlog_module_laws.specs.Larger.{IsRightBeside}
-use Rattle.vlog_module_laws.proofs.Lists.{both_true, counted, all_right}
+use Rattle.vlog_module_laws.proofs.Lists.{counted, all_right}
 use Rattle.hw_build.specs.Elements.{Element, Input, Output, Outlet, Wire, InstanceWire, Register, Memory, Block, Instance, element_ports, element_items, empty, built}
 use Rattle.hw_build.specs.Fitting.{declarations, first_table, table_after, is_new, are_kept, child_ports, has_fitting_names, have_fitting_names, HasFittingWidths, HaveFittingWidths, ValueFits, AreFitting}
-use Rattle.hw_build.proofs.Forms.{yes_and}
-use Rattle.hw_build.proofs.Tables.{times, clock_declared, reset_declared, is_known, same_name, new_is_none, AreDistinct, distinct_all, distinct_more, found, same_in, stays, IsTable, table_of_all, first_is_table, items_of_all, ports_of_all, name_of_all}
-use Rattle.hw_build.proofs.Uses.{both_together, kept_is_none, value_same, steps_same, connections_same}
+use Rattle.hw_build.proofs.Tables.{times, clock_declared, reset_declared, is_known, new_is_none, AreDistinct, distinct_all, distinct_more, found, same_in, stays, IsTable, table_of_all, first_is_table, items_of_all, ports_of_all, name_of_all}
+use Rattle.hw_build.proofs.Uses.{kept_is_none, value_same, steps_same, connections_same}
 use Rattle.hw_build.proofs.Widths.{is_sized, AreSized, value_ok, steps_ok, connections_ok}
-use Rattle.hw_build.proofs.Drivers.{drivers_right}
+use Rattle.hw_build.proofs.Drivers.{drivers_right, few_blocks as not_twice}
+use Rattle.vlog_module_laws.proofs.Forms.{itself as same_name}
+use Rattle.std.proofs.lemmas.Bool.{not_from_false as kept_not, and_from as yes_and}
+use Rattle.hw_build.proofs.Fit.{kept_is as kept_yes}
+use Rattle.tapa_base.proofs.Tests.{both_true}
+use Rattle.hw_build.proofs.Forms.{all_append as both_together}
 
 -- an element that is right beside all that is declared
 pub record IsRightAmong (ms : List ModuleTree) (all : List Declaration) (e : Element) : Type 0 where
@@ -34,11 +38,6 @@ pub record IsRightAmong (ms : List ModuleTree) (all : List Declaration) (e : Ele
   pub uses : are_kept (flat_map (item_uses ms all) (element_items e)) ≡ true
   pub port_widths : are_kept (flat_map port_widths (element_ports e)) ≡ true
   pub widths : are_kept (flat_map (item_widths ms all) (element_items e)) ≡ true
-
-not_twice : (n : ℕ) → n ≤ 1 → nat_le 2 n ≡ false
-not_twice zero h = refl
-not_twice (suc zero) h = refl
-not_twice (suc (suc n)) h = absurd (omega arith)
 
 kept_end : (us : List NameUse) → are_kept us ≡ true → are_kept (us ++ []) ≡ true
 kept_end us h = both_together (λ (u : NameUse). not u.1) us [] h refl
@@ -54,15 +53,7 @@ no_third false true c e f g = cc
 no_third false false true e f g = refl
 no_third false false false e f g = cc
 
-kept_not : (b : Bool) → b ≡ false → not b ≡ true
-kept_not true e = cc
-kept_not false e = refl
-
-kept_yes : (b : Bool) → b ≡ true → not (not b) ≡ true
-kept_yes true e = refl
-kept_yes false e = cc
-
-four_parts : (a b c d : Bool) → (a && b && c && d) ≡ true → (a ≡ true) × (b ≡ true) × (c ≡ true) × (d ≡ true)
+pub four_parts : (a b c d : Bool) → (a && b && c && d) ≡ true → (a ≡ true) × (b ≡ true) × (c ≡ true) × (d ≡ true)
 four_parts true true true true h = (refl, refl, refl, refl)
 four_parts true true true false h = cc
 four_parts true true false d h = cc

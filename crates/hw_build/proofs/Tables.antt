@@ -15,9 +15,12 @@ use Rattle.tapa_base.specs.Lists.{Has}
 use Rattle.vlog_tree.specs.Labels.{rst}
 use Rattle.vlog_tree.specs.Table.{Name, clk, declared, port_declared, items_declared, find_name, net_kind_of, one_if}
 use Rattle.tapa_base.proofs.Lists.{has_left, has_right, has_split}
-use Rattle.vlog_module_laws.proofs.Lists.{count_cons, counted, none_counted, both_true, both_false}
+use Rattle.vlog_module_laws.proofs.Lists.{count_cons, counted, none_counted}
 use Rattle.hw_build.specs.Elements.{Element, Input, Output, Outlet, Wire, InstanceWire, Register, Memory, Block, Instance, element_ports, element_items, empty, with, with_all}
 use Rattle.hw_build.specs.Fitting.{declarations, first_table, table_after, is_new, has_fitting_names, have_fitting_names}
+use Rattle.vlog_module_laws.proofs.Forms.{itself as same_name}
+use Rattle.tapa_base.proofs.Tests.{both_true}
+use Rattle.std.proofs.lemmas.Bool.{or_parts as both_false}
 
 abbrev pub clock_declared : Declaration
 clock_declared = record { name = clk; net_kind = InputNet; bits = 1; cells = 0 }
@@ -31,9 +34,6 @@ times t x = count_by (λ (d : Declaration). bytes_eq d.name x) t
 
 pub count_append : {A : Type 0} (p : A → Bool) (xs ys : List A) → count_by p (xs ++ ys) ≡ count_by p xs + count_by p ys
 count_append p xs ys = sum_by-append (λ x. cond (p x) 1 0) xs ys
-
-pub same_name : (x : Name) → bytes_eq x x ≡ true
-same_name x = (bytes_decides x x).1 refl
 
 pub items_declared_append : (xs ys : List Item) → items_declared (xs ++ ys) ≡ items_declared xs ++ items_declared ys
 items_declared_append [] ys = refl

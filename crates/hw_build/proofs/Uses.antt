@@ -15,9 +15,11 @@ use Rattle.vlog_tree.specs.declared.table.NetKind.TheVariants.{Unknown, Input as
 use Rattle.tapa_base.specs.Lists.{Has}
 use Rattle.vlog_tree.specs.Table.{Name, NameUse, clk, is_clk, find_name, net_kind_of, net_kind_is_read, net_kind_is_driven, net_kind_is_register, net_kind_is_memory, net_kind_is_input, first_violation}
 use Rattle.vlog_tree.specs.V2.{read_use, driven_use, register_use, memory_use, clock_use, atom_uses, value_uses, step_uses, connection_uses}
-use Rattle.vlog_module_laws.proofs.Lists.{flat_same, both_true}
+use Rattle.vlog_module_laws.proofs.Lists.{flat_same}
 use Rattle.hw_build.specs.Fitting.{are_kept}
 use Rattle.hw_build.proofs.Tables.{is_known}
+use Rattle.tapa_base.proofs.Tests.{both_true}
+use Rattle.hw_build.proofs.Forms.{all_append as both_together}
 
 -- what holds of each of two lists, and of each part of a flattened one
 pub all_of_both : {A : Type 0} (p : A → Bool) (xs ys : List A) → list_all p (xs ++ ys) ≡ true → (list_all p xs ≡ true) × (list_all p ys ≡ true)
@@ -31,10 +33,6 @@ pub all_of_flat : {A B : Type 0} (p : B → Bool) (f : A → List B) (xs : List 
 all_of_flat p f [] h x k = absurd k
 all_of_flat p f (z ∷ zs) h x (inl e) = subst (λ y. list_all p (f y) ≡ true) e (all_of_both p (f z) (flat_map f zs) h).0
 all_of_flat p f (z ∷ zs) h x (inr k) = all_of_flat p f zs (all_of_both p (f z) (flat_map f zs) h).1 x k
-
-pub both_together : {A : Type 0} (p : A → Bool) (xs ys : List A) → list_all p xs ≡ true → list_all p ys ≡ true → list_all p (xs ++ ys) ≡ true
-both_together p [] ys h k = k
-both_together p (x ∷ xs) ys h k = let t = both_true (p x) (list_all p xs) h in ap (λ b. b && list_all p (xs ++ ys)) t.0 ∙ both_together p xs ys t.1 k
 
 pub flat_together : {A B : Type 0} (p : B → Bool) (f : A → List B) (xs : List A) → ((x : A) → Has xs x → list_all p (f x) ≡ true) → list_all p (flat_map f xs) ≡ true
 flat_together p f [] h = refl
@@ -100,11 +98,11 @@ input_known RegisterNet h = cc
 input_known MemoryArray h = cc
 input_known ChildInstance h = cc
 
-not_not : (b : Bool) → not (not b) ≡ true → b ≡ true
+pub not_not : (b : Bool) → not (not b) ≡ true → b ≡ true
 not_not true h = refl
 not_not false h = cc
 
-and_true : (a : Bool) → (a && true) ≡ true → a ≡ true
+pub and_true : (a : Bool) → (a && true) ≡ true → a ≡ true
 and_true true h = refl
 and_true false h = h
 

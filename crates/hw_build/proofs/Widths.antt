@@ -3,7 +3,7 @@ use Rattle.std.proofs.Common.{◌≡◌, ℕ, ◌+◌, ◌-◌, ◌*◌, ◌^◌
 use Rattle.std.specs.Prelude.{not, nat_le, nat_lt}
 use Rattle.std.specs.List.{list_all, flat_map, AllByRecursion}
 use Rattle.std.specs.Cmp.Lexicographic.{bytes_decides}
-use Rattle.std.proofs.lemmas.Bool.{le-leb, lt-ltb, eq-eqb, leb-true}
+use Rattle.std.proofs.lemmas.Bool.{le-leb, lt-ltb, eq-eqb, leb-true, and_from as yes_and}
 use Rattle.vlog_tree.specs.declared.tree.Atom.{Atom}
 use Rattle.vlog_tree.specs.declared.tree.Atom.TheVariants.{Net, Part, Literal}
 use Rattle.vlog_tree.specs.declared.tree.BinaryOp.{BinaryOp}
@@ -20,11 +20,12 @@ use Rattle.tapa_base.specs.Lists.{Has}
 use Rattle.vlog_tree.specs.Table.{Name, NameUse, clk, is_clk, find_name, net_kind_of, net_kind_is_read, net_kind_is_driven, net_kind_is_register, net_kind_is_memory, net_kind_is_input, bits_of}
 use Rattle.vlog_tree.specs.V2.{read_use, driven_use, register_use, memory_use, clock_use, atom_uses, value_uses, step_uses, connection_uses}
 use Rattle.vlog_tree.specs.V3.{is_width, is_cell_count, net_fits, memory_fits, atom_bits, atom_fits, has_bits, is_divisor, op_fits, value_fits, step_widths, connection_widths}
-use Rattle.vlog_module_laws.proofs.Lists.{both_true}
 use Rattle.hw_build.specs.Fitting.{are_kept, AtomFits, AtomHas, OpFits, ValueFits, StepFits}
-use Rattle.hw_build.proofs.Forms.{yes_and}
 use Rattle.hw_build.proofs.Tables.{is_known, known}
-use Rattle.hw_build.proofs.Uses.{all_of_both, both_together, read_is, read_found, register_found, memory_found, read_known, driven_known, register_known, memory_known, input_known}
+use Rattle.hw_build.proofs.Uses.{all_of_both, read_is, read_found, register_found, memory_found, read_known, driven_known, register_known, memory_known, input_known, and_true, not_not}
+use Rattle.hw_build.proofs.Fit.{kept_is as kept_one}
+use Rattle.tapa_base.proofs.Tests.{both_true}
+use Rattle.hw_build.proofs.Forms.{all_append as both_together}
 
 -- a declaration whose numbers are in range
 abbrev pub is_sized : NetKind → ℕ → ℕ → Bool
@@ -84,19 +85,7 @@ memory_sized RegisterNet w n h s = cc
 memory_sized MemoryArray w n h s = s
 memory_sized ChildInstance w n h s = cc
 
-not_not : (b : Bool) → not (not b) ≡ true → b ≡ true
-not_not true h = refl
-not_not false h = cc
-
-and_true : (a : Bool) → (a && true) ≡ true → a ≡ true
-and_true true h = refl
-and_true false h = h
-
-kept_one : (a : Bool) → a ≡ true → not (not a) ≡ true
-kept_one true h = refl
-kept_one false h = h
-
-not_or : (a b : Bool) → not (not a || b) ≡ true → a ≡ true
+pub not_or : (a b : Bool) → not (not a || b) ≡ true → a ≡ true
 not_or true b h = refl
 not_or false b h = cc
 

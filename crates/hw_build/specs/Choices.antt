@@ -21,9 +21,9 @@ pub record Entry : Type 0 where
   pub value : Atom
 
 -- a net for each entry, numbered from j on
-abbrev pub row : ℕ → Name → (ℕ → Entry → Value) → ℕ → List Entry → List Element
-row width front driver j [] = []
-row width front driver j (e ∷ entries) = Wire width (numbered front j) (driver j e) ∷ row width front driver (suc j) entries
+abbrev pub row_of : ℕ → Name → (ℕ → Entry → Value) → ℕ → List Entry → List Element
+row_of width front driver j [] = []
+row_of width front driver j (e ∷ entries) = Wire width (numbered front j) (driver j e) ∷ row_of width front driver (suc j) entries
 
 -- Whether the condition of an entry or of one before it holds. The net before has the answer for the entries before.
 abbrev pub any_driver : Name → ℕ → Entry → Value
@@ -31,7 +31,7 @@ any_driver front zero e = Plain (Net e.condition)
 any_driver front (suc j) e = Binary (Net (numbered front j)) Or (Net e.condition)
 
 abbrev pub any_elements : Name → List Entry → List Element
-any_elements front entries = row 1 front (any_driver front) 0 entries
+any_elements front entries = row_of 1 front (any_driver front) 0 entries
 
 -- The value of an entry where its condition holds, and that of the net before it otherwise. The first entry needs no condition.
 abbrev pub pick_driver : Name → ℕ → Entry → Value
@@ -39,7 +39,7 @@ pick_driver front zero e = Plain e.value
 pick_driver front (suc j) e = Choose (Net e.condition) e.value (Net (numbered front j))
 
 abbrev pub pick_elements : ℕ → Name → List Entry → List Element
-pick_elements width front entries = row width front (pick_driver front) 0 entries
+pick_elements width front entries = row_of width front (pick_driver front) 0 entries
 
 -- the net that has the result: the last
 abbrev pub choice : Name → List Entry → Name

@@ -3,7 +3,8 @@
 -- An element fits after the elements before it: the names that it declares are new there, its driver and its blocks read
 -- names that are declared there, and widths agree. So registers come before what reads them, and `InstanceWire`s before the
 -- instances that drive them. Drivers are counted over all elements.
-use Rattle.std.specs.Prelude.{◌≡◌, ℕ, ◌+◌, ◌-◌, ◌*◌, ◌^◌, ◌<◌, ◌≤◌, Bool, true, false, ◌&&◌, ◌==◌, List, [], ◌∷◌, ◌++◌, nat_le, bytes_eq, map, sum, count_by, not, IsTrue}
+use Rattle.std.specs.Prelude.{◌≡◌, ◌+◌, ◌-◌, ◌*◌, ◌^◌, ◌<◌, ◌≤◌, ◌&&◌, ◌==◌, ◌∷◌, ◌++◌}
+use Rattle.std.specs.Prelude.{ℕ, Bool, true, false, List, [], nat_le, bytes_eq, map, sum, count_by, not, IsTrue}
 use Rattle.std.specs.List.{list_any, list_all, flat_map, AllByRecursion}
 use Rattle.vlog_tree.specs.declared.tree.Atom.{Atom}
 use Rattle.vlog_tree.specs.declared.tree.Atom.TheVariants.{Net, Part, Literal}

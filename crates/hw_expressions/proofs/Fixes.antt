@@ -1,16 +1,15 @@
 -- Operators on numbers that are known.
 use Rattle.std.proofs.Common.{◌≡◌, ℕ, zero, suc, ◌-◌, ◌*◌, ◌<◌, Bool, true, false, ◌&&◌, ltb, Some, None, refl, sym, ap, ◌∙◌, arith, lt-ltb, ltb-true}
 use Rattle.std.specs.Prelude.{IsTrue}
-use Rattle.std.proofs.lemmas.Bool.{false≢true}
+use Rattle.std.proofs.lemmas.Bool.{false≢true, and_from as yes_and}
 use Rattle.tapa_base.specs.declared.kind.Kind.{Kind}
 use Rattle.tapa_base.specs.declared.op.Op.{Op}
 use Rattle.tapa_base.specs.declared.op.Op.TheVariants.{Add, Sub, Mul, Div, Rem, And, Or, Xor, Shl, Shr, Eq, Ne, Lt, Le, Gt, Ge}
 use Rattle.tapa_base.specs.Kinds.{values_of}
 use Rattle.tapa_base.specs.Operators.{CanApply}
-use Rattle.vlog_module_laws.proofs.Lists.{both_true}
-use Rattle.hw_build.proofs.Forms.{yes_and}
 use Rattle.kahn_model.specs.Trace.{at_zero}
 use Rattle.hw_lines.specs.Fixed.{can_apply, only_if}
+use Rattle.tapa_base.proofs.Tests.{both_true}
 
 -- the test is the one of the operators
 pub applies : (op : Op) (k : Kind) (b : ℕ) → CanApply op k b → can_apply op k b ≡ true

@@ -126,7 +126,3 @@ pub compound : (old new : ModuleTree) (told : Wired) (front : Name) (m n : ℕ) 
     → Grows old new told X → Grows old new told (compiled front m n k E)
 compound old new told front m n k E F X is none form h =
     subst (Grows old new told) (none_by (fixed F) k X (sym (ap fixed is) ∙ none) ∙ sym form ∙ sym (ap (compiled front m n k) is)) h
-
-pub is_none_of : (o : Option ℕ) → ((v : ℕ) → o ≡ Some v → ⊥) → o ≡ None
-is_none_of None h = refl
-is_none_of (Some v) h = absurd (h v refl)

@@ -13,7 +13,6 @@ use Rattle.vlog_tree.specs.Cycle.{Cycle, Follows, atom_value}
 use Rattle.hw_build.specs.Elements.{Wire, built}
 use Rattle.tapa_base.proofs.Lists.{has_right}
 use Rattle.hw_build.proofs.Driven.{wire_driven}
-use Rattle.hw_build.specs.Scope.{each}
 use Rattle.hw_build.specs.Choices.{Entry, any_elements, pick_elements, choice}
 use Rattle.hw_build.specs.Fits.{IsAmong}
 use Rattle.hw_build.proofs.Parts.{has_each, of_each}
@@ -26,9 +25,8 @@ use Rattle.hw_lines.specs.States.{net, number_of, reads_at, awaited, needs_go, g
 use Rattle.hw_lines.specs.Effects.{entry, at, first_value, gives, is_same_number, with_number, without_number, places, contents, spot_of, tokens, takings, askings, savings, endings, effect, entries}
 use Rattle.hw_lines.specs.Texts.{asked_of, read_index, most, read_numbers, task_elements}
 use Rattle.hw_lines.proofs.Members.{all, decode_in, go_in, more_in, asked_in}
-
-zero_is_not_one : ◌≡◌ {A = ℕ} 0 1 → ⊥
-zero_is_not_one e = absurd (omega (arith, e))
+use Rattle.tapa_base.proofs.Got.{got_low}
+use Rattle.tapa_base.proofs.Tests.{zero_one as zero_is_not_one}
 
 -- a net that is 1 in this state alone
 pub data IsCondition (S : Shape) (k : ℕ) : Name → Type 0 where
@@ -39,11 +37,6 @@ pub data IsCondition (S : Shape) (k : ℕ) : Name → Type 0 where
 pub most_of : (f : ℕ → ℕ) (n k : ℕ) → k < n → f k ≤ most f n
 most_of f zero k h = absurd (omega arith)
 most_of f (suc n) k h = ⊎_elim (λ e. subst (λ j. f j ≤ max (most f n) (f n)) (sym e) (omega arith)) (λ e. let r = most_of f n k (omega (arith, h, e)) in omega (arith, r)) (cases_eq k n)
-
-pub got_low : {A : Type 0} (xs : List A) (i : ℕ) (x : A) → slice_get xs i ≡ Some x → i < length xs
-got_low [] i x e = cc
-got_low (y ∷ ys) zero x e = omega arith
-got_low (y ∷ ys) (suc i) x e = let r = got_low ys i x e in omega (arith, r)
 
 -- what has a number as its value, and what has not, was among the entries
 pub with_in : (a : Atom) (es : List Entry) (d : Entry) → Has (with_number a es) d → Has es d

@@ -9,9 +9,8 @@ use Rattle.hw_build.specs.Scope.{each}
 use Rattle.hw_build.specs.Fits.{IsAmong}
 use Rattle.hw_build.proofs.Parts.{has_each}
 use Rattle.hw_lines.specs.Nets.{State, At, name, Reads}
-use Rattle.hw_lines.specs.Shape.{Shape, state_count}
+use Rattle.hw_lines.specs.Shape.{Shape, state_count, form_at}
 use Rattle.hw_lines.specs.States.{net, number_of, state_wires, decoded, index_wires, value_wires, more_wires, go_of, next_wires, awaited, needs_go}
-use Rattle.hw_lines.specs.Shape.{form_at}
 use Rattle.hw_lines.specs.Texts.{inputs, held, offered, asked, answered, unless_none, reads_of, read_numbers, choices, outputs, blocks, task_elements}
 use Rattle.hw_lines.specs.Effects.{entries}
 

@@ -2,16 +2,16 @@
 use Rattle.std.proofs.Common.{◌≡◌, ℕ, ◌+◌, ◌%◌, ◌^◌, ◌<◌, ◌≤◌, Bool, true, false, eqb, ◌||◌, List, [], ◌∷◌, ◌++◌, length, refl, ap, ◌∙◌, arith}
 use Rattle.std.specs.Prelude.{decimal, nat_le}
 use Rattle.std.specs.List.{list_all}
-use Rattle.std.proofs.lemmas.Bool.{le-leb}
+use Rattle.std.proofs.lemmas.Bool.{le-leb, and_from as yes_and}
 use Rattle.std.proofs.lemmas.Fmt.{decimal_by_steps}
 use Rattle.vlog_tree.specs.Names.{is_name, has_name_form, within, starts_name, goes_on, is_keyword, always_to_default, defparam_to_event, for_to_input, instance_to_not, notif0_to_real, realtime_to_strong0, strong1_to_unsigned, use_to_xor}
 use Rattle.vlog_tree.specs.Table.{Name}
 use Rattle.vlog_module_laws.proofs.Labelled.{early_name}
-use Rattle.vlog_module_laws.proofs.Lists.{both_true}
-use Rattle.hw_build.proofs.Forms.{all_append, yes_and}
+use Rattle.hw_build.proofs.Forms.{all_append}
 use Rattle.hw_lines.specs.Nets.{Choice, Net, choice_word, choice_numbers, word, numbers, spelled, name, front, ToState, ToEnd, Clear, Set, NextValue, Stores, WriteIndex, WriteData, Reads, ArrayIndex, Puts, Token, Takes, Address, StoreEnable, Data, State, Ended, Done, Scalar, Variable, Array, Has, Dout, Taken, Din, Wr, Rdy, Ack, Rdata, Addr, Wdata, We, Plain, Datum, Eot, At, Go, Inside, Into, Packed, Reset, Next, Value, Index, ReadIndex, ReadInside, ReadOn, Raw, Answer, Node}
 use Rattle.hw_lines.specs.Names.{AreSmall, NetsHaveNames, NodesAreNumbered}
 use Rattle.hw_lines.proofs.Names.{tail_of, spelled_tail}
+use Rattle.tapa_base.proofs.Tests.{both_true, middle}
 
 node_numbered : (c : Choice) (j : ℕ) → name (Node c j) ≡ spelled (choice_word c) (choice_numbers c ++ j ∷ [])
 unfolding name
@@ -35,11 +35,6 @@ nodes_numbered (Takes a) j = refl
 nodes_numbered (Address a) j = refl
 nodes_numbered (StoreEnable a) j = refl
 nodes_numbered (Data a) j = refl
-
-middle : (a b c : Bool) → b ≡ true → (a || b || c) ≡ true
-middle true b c e = refl
-middle false true c e = refl
-middle false false c e = cc
 
 digit_goes_on : (c : ℕ) → 48 ≤ c → c ≤ 57 → goes_on c ≡ true
 unfolding goes_on

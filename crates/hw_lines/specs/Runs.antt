@@ -1,5 +1,6 @@
 -- What a run of a task's module must do.
-use Rattle.std.specs.Prelude.{◌≡◌, ℕ, zero, suc, ◌+◌, ◌-◌, ◌^◌, ◌<◌, List, [], ◌∷◌, length, Bool, true, false, ◌&&◌, not, ◌==◌, if◌then◌else◌, Option, Some, None, slice_get, slice_index}
+use Rattle.std.specs.Prelude.{◌≡◌, ◌+◌, ◌-◌, ◌^◌, ◌<◌, ◌∷◌, ◌&&◌, ◌==◌, if◌then◌else◌}
+use Rattle.std.specs.Prelude.{ℕ, zero, suc, List, [], length, Bool, true, false, not, Option, Some, None, slice_get, slice_index}
 use Rattle.tapa_base.specs.declared.kind.Kind.{Kind}
 use Rattle.tapa_base.specs.declared.token.Token.{Token}
 use Rattle.tapa_base.specs.Kinds.{bits_of, values_of}
@@ -65,7 +66,7 @@ all_stored S run n zero cells = cells
 all_stored S run n (suc m) cells = stored_in S run n m (all_stored S run n m cells)
 
 -- the surroundings of the module: a cycle of reset, numbers of the widths of the inputs, and memories that show their cells in the
--- cycles in which they answer
+-- cycles in which they answer and nothing is stored
 pub record StandsAround (S : Shape) (run : ℕ → Cycle) (cells : ℕ → List (List ℕ)) : Type 0 where
   pub reset : (run 0).net rst ≡ 1
   pub runs : (n : ℕ) → (run (suc n)).net rst ≡ 0
@@ -75,7 +76,7 @@ pub record StandsAround (S : Shape) (run : ℕ → Cycle) (cells : ℕ → List 
   pub rdy : (n s : ℕ) → writes_of S.streams s ≡ Some true → number_at run (Rdy s) n < 2
   pub ack : (n m : ℕ) → m < length S.memories → number_at run (Ack m) n < 2
   pub memories : length (cells 0) ≡ length S.memories
-  pub rdata : (n m : ℕ) → m < length S.memories → bit_at run (Ack m) n ≡ true → number_at run (Rdata m) n ≡ cell (cells n) m (number_at run (Addr m) n)
+  pub rdata : (n m : ℕ) → m < length S.memories → bit_at run (Ack m) n ≡ true → number_at run (We m) n ≡ 0 → number_at run (Rdata m) n ≡ cell (cells n) m (number_at run (Addr m) n)
   pub fit : (n m i : ℕ) → cell (cells n) m i < values_of (memory_kind S m)
   pub goes : (n : ℕ) → cells (suc n) ≡ all_stored S run n (length S.memories) (cells n)
 

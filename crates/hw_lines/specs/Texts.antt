@@ -1,5 +1,6 @@
 -- The module of a task by its elements.
-use Rattle.std.specs.Prelude.{ℕ, zero, suc, ◌+◌, ◌-◌, max, List, [], ◌∷◌, ◌++◌, length, codes, Option, Some, None, Bool, true, false, slice_get, slice_index, ◌==◌, if◌then◌else◌}
+use Rattle.std.specs.Prelude.{◌+◌, ◌-◌, ◌∷◌, ◌++◌, ◌==◌, if◌then◌else◌}
+use Rattle.std.specs.Prelude.{ℕ, zero, suc, max, List, [], length, codes, Option, Some, None, Bool, true, false, slice_get, slice_index}
 use Rattle.tapa_base.specs.declared.kind.Kind.TheVariants.{U64}
 use Rattle.tapa_base.specs.Kinds.{bits_of}
 use Rattle.tapa_syntax.specs.declared.program.End.{End}
@@ -181,7 +182,8 @@ array_block S a = unless_none (entries S (Stores a)) (Block (stored (name (Array
 
 abbrev pub blocks : Shape → List Element
 blocks S =
-    (Block (reset_or (name State) (Literal (state_bits S) 0) (NetAtom (root S ToState))) ∷ Block (register_block rst (name Ended) (Literal 1 0) (entries S ToEnd) (root S ToEnd) (Literal 1 1)) ∷ [])
+    (Block (reset_or (name State) (Literal (state_bits S) 0) (NetAtom (root S ToState)))
+    ∷ Block (register_block rst (name Ended) (Literal 1 0) (entries S ToEnd) (root S ToEnd) (Literal 1 1)) ∷ [])
     ++ each (variable_block S) (length S.registers) ++ each (array_block S) (length S.arrays)
 
 -- ---- the module

@@ -9,7 +9,7 @@ use Rattle.vlog_tree.specs.Form.{ModuleTree}
 use Rattle.vlog_tree.specs.Table.{Name}
 use Rattle.hw_build.specs.Elements.{Wire, with, with_all}
 use Rattle.hw_build.specs.Trees.{numbered}
-use Rattle.hw_build.specs.Choices.{Entry as EntryForm, row, any_driver, pick_driver, choice}
+use Rattle.hw_build.specs.Choices.{Entry as EntryForm, row_of, any_driver, pick_driver, choice}
 use Rattle.hw_lines.specs.Texts.{result_of}
 use Rattle.hw_nets.specs.declared.entries.Entry.{Entry}
 use Rattle.hw_nets.specs.Entries.{entry_form, entry_forms}
@@ -35,14 +35,14 @@ later_pick front (suc j) e h = let same : suc j - 1 ≡ j = omega arith in ap (�
 
 -- one net more
 pub row_next : (width : ℕ) (front : Name) (driver : ℕ → EntryForm → Value) (xs : List Entry) (j : ℕ) (x : Entry) (m : ModuleTree) → j < length xs → x ≡ get_or xs j x
-    → with_all m (row width front driver j (entry_forms (drop j xs))) ≡ with_all (with m (Wire width (numbered front j) (driver j (entry_form x)))) (row width front driver (j + 1) (entry_forms (drop (j + 1) xs)))
+    → with_all m (row_of width front driver j (entry_forms (drop j xs))) ≡ with_all (with m (Wire width (numbered front j) (driver j (entry_form x)))) (row_of width front driver (j + 1) (entry_forms (drop (j + 1) xs)))
 row_next width front driver xs j x m h e =
-    at_drop_more (λ ys. with_all m (row width front driver j (entry_forms ys))) xs j x h
-    ∙ ap (λ (y : Entry). with_all (with m (Wire width (numbered front j) (driver j (entry_form y)))) (row width front driver (suc j) (entry_forms (drop (j + 1) xs)))) (sym e)
-    ∙ ap (λ i. with_all (with m (Wire width (numbered front j) (driver j (entry_form x)))) (row width front driver i (entry_forms (drop (j + 1) xs)))) (sym (add-one j))
+    at_drop_more (λ ys. with_all m (row_of width front driver j (entry_forms ys))) xs j x h
+    ∙ ap (λ (y : Entry). with_all (with m (Wire width (numbered front j) (driver j (entry_form y)))) (row_of width front driver (suc j) (entry_forms (drop (j + 1) xs)))) (sym e)
+    ∙ ap (λ i. with_all (with m (Wire width (numbered front j) (driver j (entry_form x)))) (row_of width front driver i (entry_forms (drop (j + 1) xs)))) (sym (add-one j))
 
-pub row_end : (width : ℕ) (front : Name) (driver : ℕ → EntryForm → Value) (xs : List Entry) (j : ℕ) (m : ModuleTree) → length xs ≤ j → with_all m (row width front driver j (entry_forms (drop j xs))) ≡ m
-row_end width front driver xs j m h = at_drop_all (λ ys. with_all m (row width front driver j (entry_forms ys))) xs j h
+pub row_end : (width : ℕ) (front : Name) (driver : ℕ → EntryForm → Value) (xs : List Entry) (j : ℕ) (m : ModuleTree) → length xs ≤ j → with_all m (row_of width front driver j (entry_forms (drop j xs))) ≡ m
+row_end width front driver xs j m h = at_drop_all (λ ys. with_all m (row_of width front driver j (entry_forms ys))) xs j h
 
 -- the net that has the result
 pub root_is : (front : Name) (xs : List Entry) (count : ℕ) → count ≡ length xs → numbered front (count - 1) ≡ choice front (entry_forms xs)

@@ -84,7 +84,8 @@ fn reset_of(alloc: Global, r: u32, clears: &[Entry]) -> Result<Text, AllocError>
 }
 
 fn add_state_block(alloc: Global, draft: &mut Draft, machine: &Machine) -> Result<(), AllocError>
-    ensures { IfOk result (λ u. draft.new ≡ with_all draft.old (Block (reset_or (name_lem State) (Literal (state_bits (form machine.now.shape)) 0) (NetAtom (root_lem (form machine.now.shape) ToState))) ∷ [])) }
+    ensures { IfOk result (λ u. draft.new ≡ with_all draft.old
+        (Block (reset_or (name_lem State) (Literal (state_bits (form machine.now.shape)) 0) (NetAtom (root_lem (form machine.now.shape) ToState))) ∷ [])) }
 {
     let found = entries_of(alloc, machine, Choice::ToState)?;
     let next = Atom::Net(root(alloc, Choice::ToState, &found)?);

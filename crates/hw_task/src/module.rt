@@ -74,10 +74,9 @@ fn count(machine: &Fsm, draft: &Draft) -> Result<(), AllocError>
     draft.count()
 }
 
-/// The module of a machine whose task has memories of these kinds and streams with these ends. In each cycle after reset it
-/// makes its machine's tick or none. The machine is that of a leaf: the module runs it in any design, breaks no rule on
-/// names, widths, drivers and loops, has the ports of the task, and none of its outputs depends on an input in the same cycle
-/// but those that take a token.
+/// The module of a machine whose task has memories of these kinds and streams with these ends. In each cycle after reset the module makes its machine's tick
+/// or none. If the machine is that of a leaf, the module runs it in any design, breaks no rule on names, widths, drivers and loops, and has the ports of the
+/// task. None of its outputs depends on an input of the same cycle, except those that take a token.
 pub fn module_of(
     alloc: Global,
     machine: &Fsm,

@@ -21,10 +21,7 @@ use Rattle.hw_top_laws.proofs.design.Inputs.{designs_rest_on_no_input}
 use Rattle.hw_top_laws.proofs.circuit.Circuit.{tops_have_scalars, tops_have_memories, tops_have_streams, designs_are_legal, designs_carry_streams, designs_carry_beside}
 use Rattle.hw_top.specs.Kept.{IsKept}
 use Rattle.circuit_meaning.specs.Circuits.{IsCircuitOf}
-
-last_at : (xs : List ModuleTree) (x : ModuleTree) → slice_get (xs ++ x ∷ []) (length xs) ≡ Some x
-last_at [] x = refl
-last_at (y ∷ xs) x = last_at xs x
+use Rattle.hw_top_laws.proofs.design.Whole.{last_there as last_at}
 
 pub kept_promises : (program : Program) (machines : List Fsm) → ((b : ℕ) → IsKept program machines b) → KeepPromises program machines
 kept_promises program machines kept b leaf machine p q used = (kept b).promise leaf machine p q used

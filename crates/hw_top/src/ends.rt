@@ -8,7 +8,8 @@ ghost use Rattle.hw_lines.specs.declared.nets.Net.TheVariants.{Done};
 ghost use Rattle.hw_lines.specs.Nets.{name as name_lem};
 ghost use Rattle.hw_lines.specs.Texts.{is_written as is_written_lem};
 ghost use Rattle.hw_top_lines.specs.Names.{ended_net as ended_net_lem};
-ghost use Rattle.hw_top_lines.specs.Texts.{channel_connections as channel_ends_lem, memory_connections, memory_name as memory_name_lem, named_connections, read_connections, scalar_connections, stream_connections};
+ghost use Rattle.hw_top_lines.specs.Texts.{channel_connections as channel_ends_lem, memory_connections, memory_name as memory_name_lem, named_connections, read_connections};
+ghost use Rattle.hw_top_lines.specs.Texts.{scalar_connections, stream_connections};
 ghost use Rattle.hw_top_lines.specs.Texts.{stream_label as stream_label_lem, task_connections as task_ends_lem, written_connections};
 
 use crate::bounds::bound_by;

@@ -3,6 +3,7 @@ pub mod Bounds
 pub mod Tasks
 pub mod Channels
 pub mod Order
+pub mod PartByPart
 pub mod Drives
 pub mod Once
 pub mod Reached

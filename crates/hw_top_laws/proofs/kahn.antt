@@ -1,7 +1,6 @@
 pub mod Answers
 pub mod Networks
 pub mod Done
-pub mod Asked
 pub mod Carries
 pub mod Waits
 pub mod Gives

@@ -49,7 +49,8 @@ ports program =
 abbrev pub stream_wires : Option Stream → List Element
 stream_wires None = []
 stream_wires (Some r) =
-    InstanceWire (token_bits r.kind) (s_din r.label) ∷ InstanceWire 1 (s_wr r.label) ∷ InstanceWire 1 (s_rdy r.label) ∷ InstanceWire 1 (s_has r.label) ∷ InstanceWire (token_bits r.kind) (s_dout r.label) ∷ []
+    InstanceWire (token_bits r.kind) (s_din r.label) ∷ InstanceWire 1 (s_wr r.label) ∷ InstanceWire 1 (s_rdy r.label)
+    ∷ InstanceWire 1 (s_has r.label) ∷ InstanceWire (token_bits r.kind) (s_dout r.label) ∷ []
 
 -- whether a token is taken may depend on all inputs of a task, so its wire comes after all other wires
 abbrev pub take_wire : Option Stream → List Element
@@ -103,7 +104,8 @@ memory_connections program x p = named_connections p (memory_name program (slice
 abbrev pub task_connections : Program → ℕ → Instance → Leaf → List Connection
 task_connections program i x leaf =
     clocks (connected_to (name Done) (ended_net i) ∷ [])
-    ++ each (scalar_connections i x) (length leaf.scalars.items) ++ each (stream_connections program x leaf) (length leaf.streams.items) ++ each (memory_connections program x) (length leaf.memories.items)
+    ++ each (scalar_connections i x) (length leaf.scalars.items) ++ each (stream_connections program x leaf) (length leaf.streams.items)
+    ++ each (memory_connections program x) (length leaf.memories.items)
 
 abbrev pub task_part : Program → ℕ → Instance → Leaf → List Element
 task_part program i x leaf = InstanceElement (task_name leaf.name) (task_instance x.label) (task_connections program i x leaf) ∷ []

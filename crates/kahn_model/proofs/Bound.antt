@@ -2,7 +2,7 @@
 use Rattle.std.proofs.Common.{◌≡◌, ℕ, zero, suc, ◌+◌, ◌-◌, ◌*◌, ◌<◌, ◌≤◌, List, [], ◌∷◌, length, Bool, true, false, ◌&&◌, refl, sym, ap, subst, ⊎_elim, arith}
 use Rattle.std.specs.Prelude.{nat_lt, if◌then◌else◌}
 use Rattle.std.proofs.Math.Path.{fun_ext}
-use Rattle.std.proofs.lemmas.Bool.{cases_lt, cases_eq, lt-ltb}
+use Rattle.std.proofs.lemmas.Bool.{cases_lt, cases_eq, lt-ltb, and_from as and_true}
 use Rattle.std.proofs.lemmas.Bool.Decides.{nat_tests}
 use Rattle.kahn_model.specs.Behavior.{Local, Put, Load, Store, Tick, Did, Take, See, End}
 use Rattle.kahn_model.specs.Network.{Network, IsNetwork}
@@ -13,11 +13,6 @@ use Rattle.kahn_model.specs.Timed.{Clock, ago, tick_moves, next_moves, moves, pa
 use Rattle.kahn_model.proofs.Count.{IsBelow, OwnTick, own_round, made_same, next_same, step_stays, written_le, taken_le, written_same, taken_same, bump_same, bump_other, total_bump}
 use Rattle.kahn_model.proofs.Ended.{ended_later}
 use Rattle.kahn_model.proofs.Clocked.{count_le, count_up, past_below, past_above}
-
-and_true : (a b : Bool) → a ≡ true → b ≡ true → (a && b) ≡ true
-and_true true true e f = refl
-and_true true false e f = f
-and_true false b e f = e
 
 module _ (net : Network) (ok : IsNetwork net) (clock : Clock) (top : ℕ) (ready : ℕ → Bool) (waits : ℕ) (is_clock : IsClock clock top ready waits) where
   -- a token that was there is seen to be there

@@ -9,13 +9,14 @@ use Rattle.kahn_model.specs.Network.{Network, IsNetwork}
 use Rattle.kahn_model.specs.Counts.{next, HasToken, IsSupplied, with_tick_of, after, AreSupplied, zeros, IsFounded}
 use Rattle.kahn_model.specs.Timed.{Clock, ago, tick_moves, next_moves, moves, past_of, count_at}
 use Rattle.kahn_model.proofs.Count.{IsBelow, fed_stays, written_le}
+use Rattle.tapa_base.proofs.Tests.{both_true as and_parts}
 
 -- one more step at the end
 fed_more : (net : Network) (steps : List ℕ) (k : ℕ → ℕ) (i : ℕ) → AreSupplied net steps k → IsSupplied net (after steps k) i → AreSupplied net (steps ++ i ∷ []) k
 fed_more net [] k i h f = (f, tt)
 fed_more net (j ∷ steps) k i (a, h) f = (a, fed_more net steps (with_tick_of j k) i h f)
 
-after_more : (steps : List ℕ) (k : ℕ → ℕ) (i : ℕ) → after (steps ++ i ∷ []) k ≡ with_tick_of i (after steps k)
+pub after_more : (steps : List ℕ) (k : ℕ → ℕ) (i : ℕ) → after (steps ++ i ∷ []) k ≡ with_tick_of i (after steps k)
 after_more [] k i = refl
 after_more (j ∷ steps) k i = after_more steps (with_tick_of j k) i
 
@@ -60,11 +61,6 @@ founded_upto net ok k mv r f (suc j) =
     go : (b : Bool) → mv j ≡ b → IsFounded net (upto j k mv) → (mv j ≡ true → IsSupplied net (upto j k mv) j) → IsFounded net (upto (suc j) k mv)
     go true e h supplied = founded_push net (upto j k mv) _ j h (supplied e) (upto_yes j k mv e)
     go false e h supplied = founded_same net (upto j k mv) _ h (upto_no j k mv e)
-
-pub and_parts : (a b : Bool) → (a && b) ≡ true → (a ≡ true) × (b ≡ true)
-and_parts true true e = (refl, refl)
-and_parts true false e = cc
-and_parts false b e = cc
 
 step_up : (b : Bool) (x : ℕ) → x ≤ (if b then suc x else x)
 step_up true x = omega arith

@@ -15,6 +15,7 @@ use Rattle.kahn_model.proofs.Late.{IsLate, late}
 use Rattle.kahn_model.proofs.Count.{IsBelow, step_stays, bump_below, bump_same, bump_other, total_bump}
 use Rattle.kahn_model.proofs.Reach.{reach_founded, full, total_has}
 use Rattle.kahn_model.proofs.Local.{here, here_all, here_prefix, here_is_fed}
+use Rattle.kahn_model.proofs.Clocked.{after_more as after_push}
 
 -- a job whose end is Ended has made End
 ended_found : (o : Offer) (a b : TraceEnd) (m : Token → ℕ → TraceEnd) (f : Token → ℕ → List Tick) → (Ended ≡ a → ⊥) → (Ended ≡ b → ⊥) → ((t : Token) (v : ℕ) → m t v ≡ Ended → (j : ℕ) × (slice_get (f t v) j ≡ Some End)) → on_offer o a b m ≡ Ended → (j : ℕ) × (slice_get (on_offer o [] [] f) j ≡ Some End)
@@ -147,10 +148,6 @@ find_step net cap k (suc n) =
 allowed_more : (net : Network) (steps : List ℕ) (k : ℕ → ℕ) (i : ℕ) → AreAllowed net steps k → IsAllowed net (after steps k) i → AreAllowed net (steps ++ i ∷ []) k
 allowed_more net [] k i h f = (f, tt)
 allowed_more net (j ∷ steps) k i (a, h) f = (a, allowed_more net steps (with_tick_of j k) i h f)
-
-after_push : (steps : List ℕ) (k : ℕ → ℕ) (i : ℕ) → after (steps ++ i ∷ []) k ≡ with_tick_of i (after steps k)
-after_push [] k i = refl
-after_push (j ∷ steps) k i = after_push steps (with_tick_of j k) i
 
 pub reach_push : (net : Network) (k : ℕ → ℕ) (i : ℕ) → IsReachable net k → IsAllowed net k i → IsReachable net (with_tick_of i k)
 reach_push net k i r f =

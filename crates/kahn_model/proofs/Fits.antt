@@ -18,6 +18,7 @@ use Rattle.kahn_model.specs.Behavior.{Action, Local, Load, Store, Read as ByRead
 use Rattle.kahn_model.specs.Trace.{State, cell, with_cell, set_var, set_cell, store_cell, cells_of, cleared, at_zero, expr, locals, turns, stmt, block, statements, job_of}
 use Rattle.kahn_model.specs.Fits.{IsTokenOf, ActionFits, KeepsKinds, IsFitState}
 use Rattle.tapa_syntax.proofs.Values.{converted_fits, applied_fits}
+use Rattle.tapa_base.proofs.Tests.{not_below, both_below}
 
 pub set_below : (xs : List ℕ) (x v : ℕ) (k : ℕ → ℕ) → ((y : ℕ) → get_or xs y 0 < k y) → v < k x → (y : ℕ) → get_or (slice_set xs x v) y 0 < k y
 set_below [] x v k h l y = h y
@@ -26,14 +27,14 @@ set_below (a ∷ xs) zero v k h l (suc y) = h (suc y)
 set_below (a ∷ xs) (suc x) v k h l zero = h zero
 set_below (a ∷ xs) (suc x) v k h l (suc y) = set_below xs x v (λ z. k (suc z)) (λ z. h (suc z)) l y
 
-row_below : (rows : List (List ℕ)) (r : ℕ) (row : List ℕ) (k : ℕ → ℕ) → ((a j : ℕ) → cell rows a j < k a) → ((j : ℕ) → get_or row j 0 < k r) → (a j : ℕ) → cell (slice_set rows r row) a j < k a
+pub row_below : (rows : List (List ℕ)) (r : ℕ) (row : List ℕ) (k : ℕ → ℕ) → ((a j : ℕ) → cell rows a j < k a) → ((j : ℕ) → get_or row j 0 < k r) → (a j : ℕ) → cell (slice_set rows r row) a j < k a
 row_below [] r row k h l a j = h a j
 row_below (x ∷ rows) zero row k h l zero j = l j
 row_below (x ∷ rows) zero row k h l (suc a) j = h (suc a) j
 row_below (x ∷ rows) (suc r) row k h l zero j = h zero j
 row_below (x ∷ rows) (suc r) row k h l (suc a) j = row_below rows r row (λ z. k (suc z)) (λ z. h (suc z)) l a j
 
-cell_below : (rows : List (List ℕ)) (r i v : ℕ) (k : ℕ → ℕ) → ((a j : ℕ) → cell rows a j < k a) → v < k r → (a j : ℕ) → cell (with_cell rows r i v) a j < k a
+pub cell_below : (rows : List (List ℕ)) (r i v : ℕ) (k : ℕ → ℕ) → ((a j : ℕ) → cell rows a j < k a) → v < k r → (a j : ℕ) → cell (with_cell rows r i v) a j < k a
 cell_below rows r i v k h l = row_below rows r (slice_set (slice_index_or rows r []) i v) k h (set_below (slice_index_or rows r []) i v (λ _. k r) (h r) l)
 
 pub zeros_below : (n j m : ℕ) → 0 < m → get_or {A = ℕ} (replicate n 0) j 0 < m
@@ -102,14 +103,6 @@ of_kind j k v e h = subst (λ c. v < values_of c) e h
 
 pub flip_below : (k v : ℕ) → 2 ^ k - 1 - v < 2 ^ k
 flip_below k v = let h = pow_pos k in omega arith
-
-pub not_below : (v : ℕ) → 1 - v < 2
-not_below v = omega arith
-
-pub both_below : (a b : ℕ) → a < 2 → b < 2 → a * b < 2
-both_below zero b p q = omega arith
-both_below (suc zero) b p q = omega arith
-both_below (suc (suc a)) b p q = absurd (omega arith)
 
 pub choice_below : (k : Kind) (v a b : ℕ) → a < values_of k → b < values_of k → at_zero v b a < values_of k
 choice_below k zero a b p q = q

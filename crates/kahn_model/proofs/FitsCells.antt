@@ -40,7 +40,7 @@ stores_fit bound m S M b w [] g cells h = h
 stores_fit bound m S M b w (t ∷ ts) g cells h =
     stores_fit bound m S M b w ts (All-tail (TickFits S M) t ts g) (stored bound m cells t) (stored_fits bound m S M b w t (All-head (TickFits S M) t ts g) cells h)
 
-is_same : (o : Option ℕ) (m : ℕ) → is_memory o m ≡ true → o ≡ Some m
+pub is_same : (o : Option ℕ) (m : ℕ) → is_memory o m ≡ true → o ≡ Some m
 is_same None m e = absurd (cc)
 is_same (Some r) m e = let same : r ≡ m = grind (arith, nat_tests) in ap Some same
 

@@ -31,7 +31,8 @@ use Rattle.tapa_syntax.proofs.Values.{converted_fits}
 use Rattle.kahn_model.specs.Fits.{IsFitState}
 use Rattle.kahn_model.proofs.Fits.{set_below, zeros_below, job_keeps_kinds}
 use Rattle.kahn_model.proofs.Wired.{Keeps, KeepsAct, body_keeps}
-use Rattle.kahn_model.proofs.WellFormed.{get_there, stream_kind_at}
+use Rattle.kahn_model.proofs.WellFormed.{get_there, stream_kind_at, same_leaf}
+use Rattle.tapa_base.proofs.Got.{of_map_got as mapped_there}
 
 -- a behavior at the streams of an instance
 act_at_fits : (S T M : ℕ → Kind) (w : ℕ → Option Bool) (f : ℕ → ℕ) → ((s : ℕ) (b : Bool) → w s ≡ Some b → S s ≡ T (f s)) → (a : Action) → KeepsAct w a → ActionFits S M a → ActionFits T M (act_at f a)
@@ -145,12 +146,7 @@ with_values_below [] vs vars k h g = h
 with_values_below (x ∷ xs) [] vars k h g = h
 with_values_below (x ∷ xs) (v ∷ vs) vars k h g = with_values_below xs vs (slice_set vars x v) k (set_below vars x v k h (g 0 x v refl refl)) (λ p. g (suc p))
 
-mapped_there : {A B : Type 0} (f : A → B) (xs : List A) (p : ℕ) (y : B) → slice_get (map f xs) p ≡ Some y → (x : A) × (slice_get xs p ≡ Some x) × (f x ≡ y)
-mapped_there f [] p y e = absurd (cc)
-mapped_there f (x ∷ xs) zero y e = (x, refl, cc)
-mapped_there f (x ∷ xs) (suc p) y e = mapped_there f xs p y e
-
-through_fits : (from : Kind) (ks : List Kind) (v : ℕ) → v < values_of from → through from ks v < values_of (last_kind from ks)
+pub through_fits : (from : Kind) (ks : List Kind) (v : ℕ) → v < values_of from → through from ks v < values_of (last_kind from ks)
 through_fits from [] v h = h
 through_fits from (to ∷ rest) v h = through_fits to rest (converted from to v) (converted_fits from to v)
 
@@ -200,10 +196,6 @@ first_fits program scalars memories fits i x leaf h =
       arrays = λ a j. arrays_below leaf.arrays.items a j _ (pow_pos (bits_of ((kinds_of leaf).arrays a)));
       cells = λ p j. cells_below x.memories.items memories p j _ (pow_pos (bits_of ((kinds_of leaf).memories p))) (memory_fits program scalars memories fits i x leaf h p j);
     }
-
--- the network
-same_leaf : (a b : Leaf) (o : Option Leaf) → o ≡ Some a → o ≡ Some b → a ≡ b
-same_leaf a b o e f = cc
 
 leaf_keeps : (program : Program) → IsWellFormed program → (scalars : List ℕ) (memories : List (List ℕ)) → FitsInput program scalars memories → (i n : ℕ) (x : Instance) (o : Option Leaf) → slice_get program.instances.items i ≡ Some x → slice_get program.bodies.items x.body ≡ o → KeepsKinds (stream_kind program) (kind_in_leaf o) (leaf_job o x (leaf_state (map (λ (c : Scalar). c.kind) program.scalars.items) scalars memories x o) n)
 leaf_keeps program w scalars memories fits i n x None ex eo = tt

@@ -15,7 +15,7 @@ use Rattle.kahn_model.specs.Trace.{State, job_of, act_at, at_streams}
 use Rattle.kahn_model.specs.ProgramNetwork.{stream_at, leaf_job, instance_job}
 use Rattle.kahn_model.specs.Start.{first_state, network_of}
 use Rattle.kahn_model.proofs.Wired.{Keeps, KeepsAct, body_keeps}
-use Rattle.kahn_model.proofs.WellFormed.{bound_end}
+use Rattle.kahn_model.proofs.WellFormed.{bound_end, same_leaf}
 
 not_put : (r s : ℕ) (t : Token) → (r ≡ s → ⊥) → (if r == s then t ∷ [] else []) ≡ []
 not_put r s t d = grind (arith, nat_tests)
@@ -45,9 +45,6 @@ puts_none w f s h (Act a rest) (k, ks) ins =
 puts_none w f s h (Await p how rest) (k, ks) ins =
     offer_puts_none s (first_offer how (ins (f p))) _
     (λ t v. ap (λ x. x ++ flat_map (put_on s) (ticks (at_streams f (rest v)) (lists_after how (f p) ins))) (tick_puts_none how (f p) s t) ∙ puts_none w f s h (rest v) (ks v) (lists_after how (f p) ins))
-
-same_leaf : (a b : Leaf) (o : Option Leaf) → o ≡ Some a → o ≡ Some b → a ≡ b
-same_leaf a b o e f = cc
 
 leaf_none : (program : Program) → IsWellFormed program → (i n s : ℕ) (x : Instance) (o : Option Leaf) (σ : State) → length program.streams.items ≤ s → slice_get program.instances.items i ≡ Some x → slice_get program.bodies.items x.body ≡ o → (ins : ℕ → List Token) → flat_map (put_on s) (ticks (leaf_job o x σ n) ins) ≡ []
 leaf_none program w i n s x None σ past ex eo ins = refl

@@ -18,7 +18,7 @@ use Rattle.kahn_model.specs.Start.{network_of, first_state}
 use Rattle.kahn_model.proofs.Wired.{wired_network}
 
 -- the parameter at a position that w names
-end_there : (o : Option End) (b : Bool) → option_map (λ (e : End). e.writes) o ≡ Some b → (e : End) × (o ≡ Some e) × (e.writes ≡ b)
+pub end_there : (o : Option End) (b : Bool) → option_map (λ (e : End). e.writes) o ≡ Some b → (e : End) × (o ≡ Some e) × (e.writes ≡ b)
 end_there None b h = absurd (cc)
 end_there (Some e) b h = (e, refl, cc)
 
@@ -39,7 +39,7 @@ stream_kind_at program i x leaf h p b w =
     let at = h.streams p (stream_at x p) e (get_there x.streams.items leaf.streams.items p e h.streams_len is 0) is in
     ap (λ o. unwrap_or (option_map (λ (e : End). e.kind) o) U64) is ∙ sym at.kind ∙ sym (ap (λ o. unwrap_or (option_map (λ (r : Stream). r.kind) o) U64) at.is)
 
-same_leaf : (a b : Leaf) (o : Option Leaf) → o ≡ Some a → o ≡ Some b → a ≡ b
+pub same_leaf : (a b : Leaf) (o : Option Leaf) → o ≡ Some a → o ≡ Some b → a ≡ b
 same_leaf a b o e f = cc
 
 leaf_bound : (program : Program) → IsWellFormed program → (i : ℕ) (x : Instance) (leaf : Leaf) → slice_get program.bodies.items x.body ≡ Some leaf → IsInstance program i x leaf → IsBound (λ s. end_of (λ (r : Stream). r.producer) (slice_get program.streams.items s)) (λ s. end_of (λ (r : Stream). r.consumer) (slice_get program.streams.items s)) i x leaf

@@ -1,6 +1,5 @@
--- How a network ends at its declared depths, within a bound on ticks. A stream has no more tokens than its depth (TAPA,
--- streams). A run waits for the instances that are not detached; a detached one goes on as long as it may (TAPA,
--- `invoke<tapa::detach>`).
+-- The end of a network at its declared depths, within a bound on ticks. A stream has no more tokens than its depth (TAPA, streams). A run waits for the
+-- instances that are not detached; a detached one continues as long as it can (TAPA, `invoke<tapa::detach>`).
 use Rattle.std.specs.Prelude.{◌≡◌, ◌⊎◌, ℕ, ◌<◌, ◌≤◌, List, [], length, false, if◌then◌else◌, Some}
 use Rattle.tapa_base.specs.declared.token.Token.{Token}
 use Rattle.kahn_model.specs.Behavior.{Did, Put, TraceEnd, Needs, Bad, ticks, trace_end}

@@ -1,10 +1,11 @@
 -- Counts by clock cycles: when each instance makes its ticks over channels with latency.
-use Rattle.std.specs.Prelude.{◌≡◌, ℕ, zero, suc, ◌-◌, ◌*◌, ◌≤◌, List, [], ◌∷◌, length, get_or, Bool, true, false, ◌&&◌, not, nat_lt, if◌then◌else◌, Option, Some, None}
+use Rattle.std.specs.Prelude.{◌≡◌, ◌-◌, ◌*◌, ◌≤◌, ◌∷◌, ◌&&◌, if◌then◌else◌}
+use Rattle.std.specs.Prelude.{ℕ, zero, suc, List, [], length, get_or, Bool, true, false, not, nat_lt, Option, Some, None}
 use Rattle.kahn_model.specs.Behavior.{Local, Put, Load, Store, Tick, Did, Take, See, End}
 use Rattle.kahn_model.specs.Network.{Network}
 use Rattle.kahn_model.specs.Counts.{written, taken, next, zeros}
 
--- the added latency of each stream, and whether a memory answers: by instance, memory and cycle
+-- the added latency of each stream, and whether a memory answers: by instance, the memory's position among those of the instance, and cycle
 pub record Clock : Type 0 where
   pub latency : ℕ → ℕ
   pub answers : ℕ → ℕ → ℕ → Bool
@@ -13,7 +14,8 @@ pub record Clock : Type 0 where
 abbrev pub ago : List (ℕ → ℕ) → ℕ → ℕ → ℕ
 ago past d = get_or past d zeros
 
--- the tick is made in cycle n, by the counts so far
+-- Whether the tick is made in cycle n, by the counts so far. A Put sees room after a round trip of twice the latency, and none in the
+-- first `latency` cycles.
 abbrev pub tick_moves : Network → Clock → ℕ → List (ℕ → ℕ) → ℕ → Tick → Bool
 tick_moves net clock n past i (Take s t) = nat_lt (length (taken net (ago past 0) s)) (length (written net (ago past (clock.latency s)) s))
 tick_moves net clock n past i (See s t) = nat_lt (length (taken net (ago past 0) s)) (length (written net (ago past (clock.latency s)) s))

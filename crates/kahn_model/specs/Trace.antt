@@ -115,7 +115,7 @@ statements K n (s ∷ rest) σ go out again = stmt K n s σ (λ σ'. statements 
 abbrev pub job_of : Kinds → List Stmt → State → ℕ → Behavior
 job_of K code σ n = statements K n code σ (λ σ'. Finished) (λ σ'. Finished) (λ σ'. Finished)
 
--- a job at the streams that an instance is bound to
+-- a job at the streams that an instance is bound to; memories stay positions
 abbrev pub act_at : (ℕ → ℕ) → Action → Action
 act_at f Local = Local
 act_at f (Put s t) = Put (f s) t

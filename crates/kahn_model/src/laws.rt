@@ -128,8 +128,8 @@ pub fn law_three_ways()
     ensures one { NetworksRunInOneWay }
 {}
 
-/// Where all instances that are waited for have ended, the number of their ticks and the tokens that the streams show are the
-/// same, whatever the bound and the order of steps; and with a greater bound they end too.
+/// If all instances that are waited for have ended, the number of their ticks and the tokens of the reported streams are the same for every bound and every
+/// order of steps. With a greater bound they end too.
 pub fn law_ends_alike()
     ensures alike { EndsShowAlike }
     ensures stay { EndsStay }
@@ -153,8 +153,7 @@ pub fn law_least_to_end()
     ensures { EndsHaveALeast }
 {}
 
-/// Where every instance is waited for, the one count that allows no step determines the outcome: how many ticks it has, and
-/// whether every instance has ended at it.
+/// If every instance is waited for, the one count that allows no step determines the outcome: the number of ticks, and whether every instance has ended.
 pub fn law_told_by_its_end()
     ensures { JoinedNetworksAreToldByTheirEnd }
 {}

@@ -153,7 +153,7 @@ pub enum Flow {
     Stopped(TraceEnd),
 }
 
-/// How a turn of a loop is left: for the next test, for what follows the loop, or at a end.
+/// The way in which an iteration of a loop ends: to the next test, to the code after the loop, or at the end of the task.
 #[derive(Clone, Copy, PartialEq, Eq, Debug)]
 pub enum Turn {
     On,

@@ -10,7 +10,6 @@ use Rattle.flow_cert.specs.Balance.{IsEven, cost}
 use Rattle.flow_cert.specs.Verdicts.{balance_of, AreLists, FitBelow, IsBest}
 use Rattle.flow_cert.proofs.Duality.{duality}
 use Rattle.flow_cert.proofs.Yes.{fits_even}
-use Rattle.latency_balance.specs.declared.balance.Balance.{Balance}
 use Rattle.latency_balance.specs.Search.{AreKept, AreSettled}
 use Rattle.latency_balance.specs.Earliest.{Spaces, left_by, IsEarliest}
 use Rattle.latency_balance.specs.Result.{BalancesAreOne}

@@ -1,5 +1,5 @@
-// A network that is taken apart: a batch that comes back to another case, workers that meet in a round and at a board, and runs by
-// one thread within a budget.
+// A network that is taken apart: a batch that comes back to another case, workers that meet in a round and at a board, and ends within
+// a budget by one thread and by workers.
 ghost use Rattle.std.specs.Prelude.{◌≡◌, ◌<◌, ◌≤◌, IfOk, slice_index};
 ghost use Rattle.std.specs.Arc.{arc_value};
 ghost use Rattle.kahn_model.specs.Fits.{FitsInput};
@@ -7,10 +7,11 @@ ghost use Rattle.tapa_syntax.specs.WellFormed.{IsWellFormed};
 ghost use Rattle.net_core.specs.Bounded.{scalars_of, memories_of};
 ghost use Rattle.net_case.specs.State.{AreAllHome};
 
-use crate::gates::{APART, Closed, Meeting, SHIFTS, Slow};
+use crate::gates::{APART, Awaiting, Closed, SHIFTS};
+use crate::programs::short;
 use command_source::{read_input, read_program};
 use coro_machine::Coro;
-use coro_threads::{Board, Crew, finish, run_by, run_free, run_rounds};
+use coro_threads::{Board, finish, run_free, run_rounds};
 use net_case::{Case, Claimed, Gate, OpenGate};
 use net_core::{Input, Outcome, settle};
 use run_program::network;
@@ -43,25 +44,12 @@ void B(tapa::istream<int>& p, tapa::ostream<int>& q) { for (int i = 0; i < 9000;
 void T() { tapa::stream<int, 1> a; tapa::stream<int, 1> b; tapa::task().invoke(A, a, b).invoke(B, b, a); }
 ";
 
-// Two tasks that hand tokens to and fro, and then have much to do each by itself, twice.
-const PHASES: &str =
-    "void A(tapa::istream<int>& p, tapa::ostream<int>& q) { int x = 1; for (int n = 0; n < 2; ++n) { for (int i = 0; i < 4000; ++i) { q << x; x = x + p.read(); } for (int i = 0; i < 60000; ++i) { x = x * 5 + i; } } }
-void B(tapa::istream<int>& p, tapa::ostream<int>& q) { int x = 1; for (int n = 0; n < 2; ++n) { for (int i = 0; i < 4000; ++i) { x = x + p.read(); q << x; } for (int i = 0; i < 60000; ++i) { x = x * 5 + i; } } }
-void T() { tapa::stream<int, 1> a; tapa::stream<int, 1> b; tapa::task().invoke(A, a, b).invoke(B, b, a); }
-";
-
 // A program, and the input of an empty object.
 fn given(alloc: Global, source: &str) -> Result<(Arc<Program>, Arc<Input>), Fail>
     ensures well_formed { IfOk result (λ given. IsWellFormed (arc_value given.0)) }
     ensures fits { IfOk result (λ given. FitsInput (arc_value given.0) (scalars_of (arc_value given.1)) (memories_of (arc_value given.1))) }
 {
-    let text = source.as_bytes();
-    if text.len() > 4096 {
-        return Err(OutOfMemory.into());
-    }
-    let Ok(program) = read_program(alloc, text, "T") else {
-        return Err(OutOfMemory.into());
-    };
+    let program = read_program(alloc, short(source), "T")?;
     let Ok(input) = read_input(alloc, &program, b"{}") else {
         return Err(OutOfMemory.into());
     };
@@ -139,31 +127,6 @@ fn a_batch_of_another_case_is_stale(rt: HostRuntime) -> Result<(), Fail> {
     Ok(())
 }
 
-// With two workers both instances of a round are under way at once.
-#[test]
-fn two_workers_meet_in_a_round(rt: HostRuntime) -> Result<(), Fail> {
-    let (program, input) = given(rt.alloc(), SHIFTS)?;
-    let net = network(rt.alloc(), &program, &input)?;
-    let gate = Meeting::new();
-    let run = run_rounds(&rt, rt.alloc(), net, 2, &gate, 20);
-    assert!(rt; matches!(run.end, Ok(Outcome::Done { ticks: 20 })));
-    assert_eq!(rt; gate.met.load(Ordering::SeqCst), 2);
-    Ok(())
-}
-
-// In parallel rounds the others do not go on while an instance is held up: each instance makes one batch a round, so the slow one looks
-// to the end of its patience.
-#[test]
-fn the_others_wait_in_a_round(rt: HostRuntime) -> Result<(), Fail> {
-    let (program, input) = given(rt.alloc(), APART)?;
-    let net = network(rt.alloc(), &program, &input)?;
-    let gate = Slow::new();
-    let run = run_rounds(&rt, rt.alloc(), net, 2, &gate, 100);
-    assert!(rt; matches!(run.end, Ok(Outcome::Done { ticks: 10 })));
-    assert_eq!(rt; gate.seen.load(Ordering::SeqCst), 0);
-    Ok(())
-}
-
 // Returns how a case ends that `seats` workers drive at a board, whether one of them found no memory, and whether one of them left
 // because batches stay small.
 fn at_a_board<R: Threads + Wait + Sync, G: Gate>(
@@ -190,130 +153,94 @@ fn at_a_board<R: Threads + Wait + Sync, G: Gate>(
     Ok((outcome, short, small))
 }
 
-// Two workers that share a board have both instances under way at once, and none of them is marked.
+// How a network ends that two workers drive in rounds, and how many instances saw the calls that they awaited.
+fn in_rounds<R: Threads + Wait + Sync>(
+    rt: &R,
+    alloc: Global,
+    source: &str,
+    gate: &Awaiting,
+) -> Result<(Outcome, u64), Fail> {
+    let (program, input) = given(alloc, source)?;
+    let run = run_rounds(rt, alloc, network(alloc, &program, &input)?, 2, gate, 20);
+    Ok((run.end?, gate.seen.load(Ordering::SeqCst)))
+}
+
+// With two workers both instances of a round are under way at once. But the others do not go on while an instance is held up: each makes one
+// batch a round, so the slow one looks to the end of its patience.
+#[test]
+fn two_workers_meet_in_a_round(rt: HostRuntime) -> Result<(), Fail> {
+    let meeting = in_rounds(&rt, rt.alloc(), SHIFTS, &Awaiting::new(1, 1))?;
+    assert_eq!(rt; meeting, (Outcome::Done { ticks: 20 }, 2));
+    let slow = in_rounds(&rt, rt.alloc(), APART, &Awaiting::new(2, 0))?;
+    assert_eq!(rt; slow, (Outcome::Done { ticks: 10 }, 1));
+    Ok(())
+}
+
+// Two workers that share a board have both instances under way at once, and while one is held up with one instance the other goes on with
+// the others. None of them is marked.
 #[test]
 fn two_workers_meet_at_a_board(rt: HostRuntime) -> Result<(), Fail> {
-    let (program, input) = given(rt.alloc(), SHIFTS)?;
-    let case = new_case(rt.alloc(), &program, &input, 20)?;
-    let gate = Meeting::new();
-    let end = at_a_board(&rt, rt.alloc(), case, 2, &gate)?;
-    assert!(rt; matches!(end, (Outcome::Done { ticks: 20 }, false, false)));
-    assert_eq!(rt; gate.met.load(Ordering::SeqCst), 2);
+    let alloc = rt.alloc();
+    for (source, calls, ticks) in [(SHIFTS, (1, 1), 20), (APART, (2, 0), 10)] {
+        let (program, input) = given(alloc, source)?;
+        let gate = Awaiting::new(calls.0, calls.1);
+        let case = new_case(alloc, &program, &input, 20)?;
+        let end = at_a_board(&rt, alloc, case, 2, &gate)?;
+        assert_eq!(rt; end, (Outcome::Done { ticks }, false, false));
+        assert_eq!(rt; gate.seen.load(Ordering::SeqCst), 2);
+    }
     Ok(())
 }
 
-// While one worker is held up with one instance the other goes on with the others.
-#[test]
-fn the_others_go_on_at_a_board(rt: HostRuntime) -> Result<(), Fail> {
-    let (program, input) = given(rt.alloc(), APART)?;
-    let case = new_case(rt.alloc(), &program, &input, 100)?;
-    let gate = Slow::new();
-    let end = at_a_board(&rt, rt.alloc(), case, 2, &gate)?;
-    assert!(rt; matches!(end, (Outcome::Done { ticks: 10 }, false, false)));
-    assert_eq!(rt; gate.seen.load(Ordering::SeqCst), 1);
-    Ok(())
-}
-
-// How a new network ends that `workers` workers drive at a board, each of whom passes a gate that is not open.
-fn behind_a_gate<R: Threads + Wait + Sync>(
+// How a new network ends within a budget by one thread, whole and taken apart, and by workers at a board.
+fn ends<R: Threads + Wait + Sync, G: Gate>(
     rt: &R,
     alloc: Global,
     source: &str,
     budget: u64,
     workers: u32,
-) -> Result<(Outcome, bool, bool), Fail>
+    gate: &G,
+) -> Result<(Outcome, Outcome, (Outcome, bool, bool)), Fail>
     requires budget { budget ≤ 1000000000000 }
     requires workers { (0 < workers) × (workers ≤ 64) }
 {
     let (program, input) = given(alloc, source)?;
+    let mut net = network(alloc, &program, &input)?;
+    let whole = settle(alloc, &mut net, budget)?;
+    let apart = finish(new_case(alloc, &program, &input, budget)?).end?;
     let case = new_case(alloc, &program, &input, budget)?;
-    at_a_board(rt, alloc, case, workers, &Closed)
+    Ok((whole, apart, at_a_board(rt, alloc, case, workers, gate)?))
 }
 
-// Behind a gate that is not open a network may stop, and may go past its budget.
+// A budget of all ticks is enough, and one of a tick less is not. Two tasks of which each waits for the other stop. Workers behind a gate
+// that is not open come to the same end, also sixty-four of them.
 #[test]
-fn a_network_stops_behind_a_gate(rt: HostRuntime) -> Result<(), Fail> {
-    let stopped = behind_a_gate(&rt, rt.alloc(), CROSSED, 100, 2)?;
-    assert!(rt; matches!(stopped, (Outcome::Stopped { ticks: 1 }, false, false)));
-    let limit = behind_a_gate(&rt, rt.alloc(), SHIFTS, 19, 2)?;
-    assert!(rt; matches!(limit, (Outcome::Limit, false, false)));
-    Ok(())
-}
-
-// Sixty-four workers behind a gate that is not open come to the end that one thread comes to.
-#[test]
-fn sixty_four_workers_behind_a_gate(rt: HostRuntime) -> Result<(), Fail> {
-    let (whole, apart) = ends(rt.alloc(), PAIRS, 1_000_000)?;
-    let by_many = behind_a_gate(&rt, rt.alloc(), PAIRS, 1_000_000, 64)?;
-    assert_eq!(rt; (whole, false, false), by_many);
-    assert_eq!(rt; whole, apart);
+fn ends_are_alike(rt: HostRuntime) -> Result<(), Fail> {
+    let alloc = rt.alloc();
+    let done = Outcome::Done { ticks: 20 };
+    let enough = ends(&rt, alloc, SHIFTS, 20, 2, &Closed)?;
+    assert_eq!(rt; enough, (done, done, (done, false, false)));
+    let less = ends(&rt, alloc, SHIFTS, 19, 2, &Closed)?;
+    assert_eq!(rt;
+        less,
+        (
+            Outcome::Limit,
+            Outcome::Limit,
+            (Outcome::Limit, false, false)
+        )
+    );
+    let stopped = Outcome::Stopped { ticks: 1 };
+    let crossed = ends(&rt, alloc, CROSSED, 100, 2, &Closed)?;
+    assert_eq!(rt; crossed, (stopped, stopped, (stopped, false, false)));
+    let (whole, apart, by_many) = ends(&rt, alloc, PAIRS, 1_000_000, 64, &Closed)?;
+    assert_eq!(rt; (apart, by_many), (whole, (whole, false, false)));
     Ok(())
 }
 
 // Workers whose batches stay small leave, and say that it is for this; one thread comes to the end.
 #[test]
 fn workers_with_small_batches_are_small(rt: HostRuntime) -> Result<(), Fail> {
-    let (program, input) = given(rt.alloc(), TO_AND_FRO)?;
-    let case = new_case(rt.alloc(), &program, &input, 1_000_000)?;
-    let (end, short, small) = at_a_board(&rt, rt.alloc(), case, 2, &OpenGate)?;
-    let (whole, _apart) = ends(rt.alloc(), TO_AND_FRO, 1_000_000)?;
-    assert_eq!(rt; (end, short, small), (whole, false, true));
-    Ok(())
-}
-
-// Workers share a network while its batches are large, and leave it to one thread while they are small: it ends as by one worker.
-#[test]
-fn small_and_large_batches_by_turns(rt: HostRuntime) -> Result<(), Fail> {
-    let alloc = rt.alloc();
-    let (program, input) = given(alloc, PHASES)?;
-    let crew = Crew {
-        rt: &rt,
-        gate: &OpenGate,
-        workers: 2,
-    };
-    let net = network(alloc, &program, &input)?;
-    let run = run_by(&crew, alloc, net, 10_000_000);
-    let (whole, apart) = ends(alloc, PHASES, 10_000_000)?;
-    assert_eq!(rt; run.end?, whole);
-    assert_eq!(rt; whole, apart);
-    Ok(())
-}
-
-// How a new network ends by one thread within a budget, whole and taken apart.
-fn ends(alloc: Global, source: &str, budget: u64) -> Result<(Outcome, Outcome), Fail>
-    requires { budget ≤ 1000000000000 }
-{
-    let (program, input) = given(alloc, source)?;
-    let mut net = network(alloc, &program, &input)?;
-    let whole = settle(alloc, &mut net, budget)?;
-    let apart = finish(new_case(alloc, &program, &input, budget)?).end?;
-    Ok((whole, apart))
-}
-
-// A budget of all ticks is enough, and one of a tick less is not.
-#[test]
-fn a_budget_of_all_ticks_is_enough(rt: HostRuntime) -> Result<(), Fail> {
-    let enough = ends(rt.alloc(), SHIFTS, 20)?;
-    assert!(rt;
-        matches!(
-            enough,
-            (Outcome::Done { ticks: 20 }, Outcome::Done { ticks: 20 })
-        )
-    );
-    let short = ends(rt.alloc(), SHIFTS, 19)?;
-    assert!(rt; matches!(short, (Outcome::Limit, Outcome::Limit)));
-    Ok(())
-}
-
-// Two tasks of which each waits for the other stop, whole and taken apart.
-#[test]
-fn a_network_stops(rt: HostRuntime) -> Result<(), Fail> {
-    let crossed = ends(rt.alloc(), CROSSED, 100)?;
-    assert!(rt;
-        matches!(
-            crossed,
-            (Outcome::Stopped { ticks: 1 }, Outcome::Stopped { ticks: 1 })
-        )
-    );
+    let (whole, _, end) = ends(&rt, rt.alloc(), TO_AND_FRO, 1_000_000, 2, &OpenGate)?;
+    assert_eq!(rt; end, (whole, false, true));
     Ok(())
 }

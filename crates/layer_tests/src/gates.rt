@@ -30,33 +30,37 @@ impl Gate for Closed {
     }
 }
 
-/// A gate at which each of the first two instances waits, the first time, until the other one is there, or it has looked too
-/// often.
+/// A gate at which each of the first two instances waits, the first time, until the other one has come often enough, or it has
+/// looked too often.
 #[derive(Drop)]
-pub struct Meeting {
+pub struct Awaiting {
     first: AtomicU64,
     second: AtomicU64,
-    /// How many met the other one there.
-    pub met: AtomicU64,
+    of_first: u64,
+    of_second: u64,
+    /// How many saw the calls that they awaited.
+    pub seen: AtomicU64,
 }
 
-impl Meeting {
-    /// Nobody is there.
-    pub fn new() -> Meeting {
-        Meeting {
+impl Awaiting {
+    /// Nobody is there. The first instance awaits `of_second` calls of the second, and that `of_first` calls of the first.
+    pub fn new(of_second: u64, of_first: u64) -> Awaiting {
+        Awaiting {
             first: AtomicU64::new(0),
             second: AtomicU64::new(0),
-            met: AtomicU64::new(0),
+            of_first,
+            of_second,
+            seen: AtomicU64::new(0),
         }
     }
 
-    fn meet(&self, own: &AtomicU64, other: &AtomicU64) {
-        if own.swap(1, Ordering::SeqCst) == 1 {
+    fn wait(&self, own: &AtomicU64, other: &AtomicU64, awaited: u64) {
+        if own.fetch_add(1, Ordering::SeqCst) > 0 {
             return;
         }
         for _ in 0..LOOKS {
-            if other.load(Ordering::SeqCst) == 1 {
-                self.met.fetch_add(1, Ordering::SeqCst);
+            if other.load(Ordering::SeqCst) >= awaited {
+                self.seen.fetch_add(1, Ordering::SeqCst);
                 return;
             }
             hint::spin_loop();
@@ -64,47 +68,12 @@ impl Meeting {
     }
 }
 
-impl Gate for Meeting {
+impl Gate for Awaiting {
     fn pass(&self, instance: u32) {
         match instance {
-            0 => self.meet(&self.first, &self.second),
-            1 => self.meet(&self.second, &self.first),
+            0 => self.wait(&self.first, &self.second, self.of_second),
+            1 => self.wait(&self.second, &self.first, self.of_first),
             _ => {}
-        }
-    }
-}
-
-/// A gate that holds the first instance until the second has passed twice, or it has looked too often.
-#[derive(Drop)]
-pub struct Slow {
-    passed: AtomicU64,
-    /// How often the first instance saw that the second had.
-    pub seen: AtomicU64,
-}
-
-impl Slow {
-    /// Nobody has passed.
-    pub fn new() -> Slow {
-        Slow {
-            passed: AtomicU64::new(0),
-            seen: AtomicU64::new(0),
-        }
-    }
-}
-
-impl Gate for Slow {
-    fn pass(&self, instance: u32) {
-        if instance == 1 {
-            self.passed.fetch_add(1, Ordering::SeqCst);
-        }
-        if instance == 0 {
-            for _ in 0..LOOKS {
-                if self.passed.load(Ordering::SeqCst) > 1 {
-                    self.seen.fetch_add(1, Ordering::SeqCst);
-                    return;
-                }
-                hint::spin_loop();
-            }
         }
     }
 }

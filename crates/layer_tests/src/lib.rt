@@ -1,5 +1,4 @@
-//! Tests of layers below the command: real files taken whole or refused; traces, as the slow functions compute them; a coroutine
-//! before its first tick and on its way to another thread; and networks that are taken apart.
+//! Tests of layers below the command: real files taken whole or refused, and networks that are taken apart; and what tests of several crates share.
 #![tactic(auto)]
 
 #[cfg(test)]
@@ -8,9 +7,6 @@ mod cases;
 mod files;
 mod gates;
 mod programs;
-mod threads;
-#[cfg(test)]
-mod traces;
 
-pub use gates::{APART, Closed, Meeting, SHIFTS, Slow};
-pub use programs::{CROSSING_STOPS, PATH, short};
+pub use gates::{APART, Awaiting, Closed, SHIFTS};
+pub use programs::short;

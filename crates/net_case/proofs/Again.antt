@@ -13,13 +13,13 @@ use Rattle.net_core.specs.Job.{Job}
 use Rattle.net_core.specs.Load.{AreQueued}
 use Rattle.net_core.specs.Ports.{ends_by, carried_by, waiting_by}
 use Rattle.net_core.specs.Bounded.{network_on, count_of, IsNetAt, IsBodyAt}
-use Rattle.net_core.proofs.Moves.{has_item}
 use Rattle.net_case.specs.declared.batch.Process.{Process}
 use Rattle.net_case.specs.declared.queue.Queue.{Queue}
 use Rattle.net_case.specs.Home.{IsStreamAt, IsCaseAt}
 use Rattle.net_case.specs.Make.{AreParted}
+use Rattle.tapa_base.proofs.Got.{some_at as has_item}
 
-module _ {B : Type 0} (Stands : B → Job → List Tick → Type 0) (program : Program) (input : Input) (budget : ℕ) (homes : List (Option (Process B))) (queues : List Queue) (taken_list offered counts : List ℕ) (pauses : List (Option Pause)) (listed : List Bool) (joined : ℕ) (writers : List ℕ) (fed : List Bool) (c : IsCaseAt Stands program input budget homes queues taken_list offered counts pauses listed joined writers fed) (home : (i : ℕ) → i < length homes → (x : Process B) × (slice_get homes i ≡ Some (Some x))) (bodies : List B) (ports : List Ports) (parted : AreParted (length homes) homes bodies ports) where
+module _ {B : Type 0} {Stands : B → Job → List Tick → Type 0} {program : Program} {input : Input} {budget : ℕ} {homes : List (Option (Process B))} {queues : List Queue} {taken_list offered counts : List ℕ} {pauses : List (Option Pause)} {listed : List Bool} {joined : ℕ} {writers : List ℕ} {fed : List Bool} (c : IsCaseAt Stands program input budget homes queues taken_list offered counts pauses listed joined writers fed) (home : (i : ℕ) → i < length homes → (x : Process B) × (slice_get homes i ≡ Some (Some x))) (bodies : List B) (ports : List Ports) (parted : AreParted (length homes) homes bodies ports) where
   abbrev N : Network
   N = network_on program input
 
@@ -52,26 +52,17 @@ module _ {B : Type 0} (Stands : B → Job → List Tick → Type 0) (program : P
 
   pub net_again : IsNetAt Stands program input bodies ports writers offered taken_list fed counts pauses
   net_again = record {
-    connected = c.connected;
-    network = c.network;
-    well_formed = c.well_formed;
-    fits = c.fits;
+    given = c.given;
+    bound = c.bound;
+    answered = c.answered;
     reachable = c.reachable;
     bodies_len = parted.bodies_len ∙ c.homes_len;
     ports_len = parted.ports_len ∙ c.homes_len;
-    counts_len = c.counts_len;
-    pauses_len = c.pauses_len;
-    writers_len = c.writers_len;
     offered_len = c.offered_len;
     taken_len = c.taken_len;
     queued = queued;
-    fed_len = c.fed_len;
-    fed = c.fed;
-    paused = c.paused;
-    unresumed = c.unresumed;
     standing = body_at;
     ends = λ i l. ap ends_by (at_ports i l) ∙ (c.home i (at i l).0 (at i l).1).ends;
     carries = λ i p l w. ap (λ o. carried_by o p) (at_ports i l) ∙ (c.home i (at i l).0 (at i l).1).carries p w;
     took = λ s l. (stream_at_end s l).1.took_is;
-    writer_is = c.writer_is;
   }

@@ -1,20 +1,19 @@
 -- A batch comes back to its case: what its instance answered, and who is at rest.
-use Rattle.std.proofs.Common.{◌≡◌, ℕ, ◌+◌, ◌<◌, ◌≤◌, List, [], ◌∷◌, ◌++◌, length, map, Bool, true, false, Option, Some, None, inl, inr, refl, sym, ap, ◌∙◌, subst, ⊎_elim, arith}
-use Rattle.std.specs.Prelude.{slice_get, slice_index, slice_set, if◌then◌else◌}
+use Rattle.std.proofs.Common.{◌≡◌, ℕ, ◌+◌, ◌<◌, ◌≤◌, List, ◌++◌, length, map, Bool, true, false, Option, Some, None, inl, inr, refl, sym, ap, ◌∙◌, subst, ⊎_elim, arith}
+use Rattle.std.specs.Prelude.{slice_get, slice_index, slice_set}
 use Rattle.std.proofs.lemmas.Bool.{cases_eq}
 use Rattle.std.proofs.lemmas.List.{append-nil}
 use Rattle.std.proofs.lemmas.Option.{slice_get_within}
-use Rattle.std.proofs.Math.Path.{fun_ext}
 use Rattle.tapa_syntax.specs.declared.program.Program.{Program}
 use Rattle.kahn_model.specs.declared.tick.Tick.{Tick}
 use Rattle.kahn_model.specs.declared.tick.Tick.TheVariants.{End}
 use Rattle.kahn_model.specs.declared.tick.TraceEnd.TheVariants.{Ended as TraceEnded}
 use Rattle.kahn_model.specs.Behavior.{Behavior}
 use Rattle.kahn_model.specs.Network.{Network}
-use Rattle.kahn_model.specs.Counts.{ticks_made, written, taken, IsReachable, HasEnded, total}
-use Rattle.kahn_model.specs.Outcome.{IsJoined, joined_part, joined_ticks}
+use Rattle.kahn_model.specs.Counts.{ticks_made, written, taken, IsReachable, HasEnded}
+use Rattle.kahn_model.specs.Outcome.{joined_ticks}
 use Rattle.kahn_model.proofs.Count.{IsBelow, step_stays}
-use Rattle.kahn_model.proofs.Joined.{part_is, joined_up, joined_same}
+use Rattle.kahn_model.proofs.Joined.{joined_up}
 use Rattle.kahn_model.proofs.Reach.{reach_founded}
 use Rattle.net_core.specs.declared.body.Pause.{Pause}
 use Rattle.net_core.specs.declared.body.Pause.TheVariants.{Ended, WantsRead, WantsWrite, BadToken, Fuel}
@@ -25,10 +24,11 @@ use Rattle.net_core.specs.Bindings.{stream_at, producer_of, consumer_of, Reads, 
 use Rattle.net_core.specs.Bounded.{network_on, instance_job, count_of}
 use Rattle.net_core.specs.Placement.{tick_at, IsPlaced}
 use Rattle.net_core.specs.Waits.{StopsIn, HasHeld}
-use Rattle.net_core.proofs.Chunk.{plus, plus_same, plus_other, total_plus, Chunk}
+use Rattle.net_core.proofs.Chunk.{plus, plus_same, plus_other, Chunk}
 use Rattle.net_core.proofs.Lasting.{lasts}
-use Rattle.net_core.proofs.Moves.{get_set_same, get_set_other}
-use Rattle.net_core.proofs.Stepped.{holds_other}
+use Rattle.net_core.proofs.Moves.{get_set_same, get_set_other, set_same}
+use Rattle.net_core.proofs.Quiet.{joined_plus, detached_plus}
+use Rattle.net_core.proofs.Stepped.{holds_other, none_of}
 use Rattle.net_case.specs.Batch.{IsBatchAt}
 use Rattle.net_case.specs.declared.batch.Process.{Process}
 use Rattle.net_case.proofs.Back.{whole, written_else, taken_else}
@@ -36,37 +36,10 @@ use Rattle.net_case.proofs.Runs.{commits}
 use Rattle.net_case.specs.declared.queue.Queue.{Queue}
 use Rattle.net_case.specs.Claims.{kept_of}
 use Rattle.net_case.specs.Commit.{IsFar}
-use Rattle.net_case.specs.Home.{IsQuiet, IsHeldBack, IsAtRest, IsCaseAt}
-use Rattle.net_case.specs.Look.{AreStreamsAt}
-use Rattle.net_case.proofs.Coming.{streams_at, later_is, chunk_is, above, others_stay, own_count, reachable_later}
+use Rattle.net_case.specs.Home.{AreStreamsAt, IsQuiet, IsHeldBack, IsAtRest, IsCaseAt}
+use Rattle.net_case.proofs.Coming.{later_is, chunk_is, above, others_stay, own_count, reachable_later}
 
--- the ticks of the joined instances after ticks of one of them, or of a detached one
-module _ (net : Network) (k m : ℕ → ℕ) (i made : ℕ) (own : m i ≡ k i + made) (others : (j : ℕ) → (j ≡ i → ⊥) → m j ≡ k j) where
-  part_plus : IsJoined net i → (j : ℕ) → joined_part net m j ≡ plus i made (joined_part net k) j
-  part_plus joined j =
-      ⊎_elim
-      (λ (e : j ≡ i).
-      let x = part_is net m i joined in
-      let y = part_is net k i joined in
-      let w = plus_same i made (joined_part net k) in
-      subst (λ (n : ℕ). joined_part net m n ≡ plus i made (joined_part net k) n) (sym e) (omega arith))
-      (λ (d : j ≡ i → ⊥). ap (λ (n : ℕ). if net.detached j then 0 else n) (others j d) ∙ sym (plus_other i made j (joined_part net k) d))
-      (cases_eq j i)
-
-  pub joined_plus : IsJoined net i → i < net.size → joined_ticks net m ≡ joined_ticks net k + made
-  joined_plus joined l = ap (total net.size) (fun_ext (part_plus joined)) ∙ total_plus net.size i made (joined_part net k) l
-
-  not_one : (j : ℕ) → net.detached i ≡ true → IsJoined net j → j ≡ i → ⊥
-  not_one j d joined e = let both : net.detached i ≡ false = subst (IsJoined net) e joined in cc
-
-  pub detached_plus : net.detached i ≡ true → joined_ticks net m ≡ joined_ticks net k
-  detached_plus d = joined_same net m k (λ j l joined. others j (not_one j d joined))
-
-no_ticks : (xs : List Tick) → length xs ≡ 0 → xs ≡ []
-no_ticks [] e = refl
-no_ticks (x ∷ xs) e = absurd (omega arith)
-
-module _ {B : Type 0} (Stands : B → Job → List Tick → Type 0) (program : Program) (input : Input) (budget : ℕ) (homes : List (Option (Process B))) (queues : List Queue) (taken_list offered counts : List ℕ) (pauses : List (Option Pause)) (listed : List Bool) (joined : ℕ) (writers : List ℕ) (fed : List Bool) (c : IsCaseAt Stands program input budget homes queues taken_list offered counts pauses listed joined writers fed) (at : List ℕ) (i from fuel made : ℕ) (pause : Option Pause) (ready : Bool) (body : B) (ports : Ports) (limits : List ℕ) (b : IsBatchAt Stands program input budget at i from fuel made pause ready body ports limits) (fresh : slice_index counts i ≡ from) (above_at : (j : ℕ) → slice_index at j ≤ slice_index counts j) (before : Option Pause) (before_is : slice_get pauses i ≡ Some before) where
+module _ {B : Type 0} {Stands : B → Job → List Tick → Type 0} {program : Program} {input : Input} {budget : ℕ} {homes : List (Option (Process B))} {queues : List Queue} {taken_list offered counts : List ℕ} {pauses : List (Option Pause)} {listed : List Bool} {joined : ℕ} {writers : List ℕ} {fed : List Bool} (c : IsCaseAt Stands program input budget homes queues taken_list offered counts pauses listed joined writers fed) (at : List ℕ) (i from fuel made : ℕ) (pause : Option Pause) (ready : Bool) (body : B) (ports : Ports) (limits : List ℕ) (b : IsBatchAt Stands program input budget at i from fuel made pause ready body ports limits) (fresh : slice_index counts i ≡ from) (above_at : (j : ℕ) → slice_index at j ≤ slice_index counts j) (before : Option Pause) (before_is : slice_get pauses i ≡ Some before) where
   abbrev N : Network
   N = network_on program input
 
@@ -89,7 +62,7 @@ module _ {B : Type 0} (Stands : B → Job → List Tick → Type 0) (program : P
   S = Stands body (instance_job program input i)
 
   abbrev a : AreStreamsAt program input budget queues taken_list offered counts
-  a = streams_at Stands program input budget homes queues taken_list offered counts pauses listed joined writers fed c
+  a = c.at
 
   abbrev L : ℕ → ℕ
   L = count_of (slice_set counts i (from + made))
@@ -186,10 +159,7 @@ module _ {B : Type 0} (Stands : B → Job → List Tick → Type 0) (program : P
   pub paused_later : (j : ℕ) (x : Pause) → slice_get pauses2 j ≡ Some (Some x) → HasHeld N L j (stream_at program j) x
   paused_later j x e =
       ⊎_elim
-      (λ (q : j ≡ i).
-      let here_j : slice_get pauses2 i ≡ Some (Some x) = subst (λ n. slice_get pauses2 n ≡ Some (Some x)) q e in
-      let kept_is : kept_of pause before ≡ Some x = let z = sym here ∙ here_j in cc in
-      subst (λ n. HasHeld N L n (stream_at program n) x) (sym q) (own_held pause refl x kept_is))
+      (λ (q : j ≡ i). subst (λ n. HasHeld N L n (stream_at program n) x) (sym q) (own_held pause refl x (set_same pauses i j (kept_of pause before) (Some x) e q)))
       (λ (d : j ≡ i → ⊥). held_on j (stream_at program j) x (c.paused j x (sym (other j d) ∙ e)))
       (cases_eq j i)
 
@@ -205,9 +175,7 @@ module _ {B : Type 0} (Stands : B → Job → List Tick → Type 0) (program : P
   unresumed_later j e =
       ⊎_elim
       (λ (q : j ≡ i).
-      let here_j : slice_get pauses2 i ≡ Some None = subst (λ n. slice_get pauses2 n ≡ Some None) q e in
-      let kept_is : kept_of pause before ≡ None = let z = sym here ∙ here_j in cc in
-      let n = none_kept pause kept_is in
+      let n = none_kept pause (set_same pauses i j (kept_of pause before) None e q) in
       let zero_made = b.unrun n.0 in
       let zero_then = c.unresumed i (before_is ∙ ap Some n.1) in
       let o = own in
@@ -220,7 +188,7 @@ module _ {B : Type 0} (Stands : B → Job → List Tick → Type 0) (program : P
 
   unmade : made ≡ 0 → ticks_made N L i ≡ ticks_made N m i
   unmade e =
-      let n : b.run.new ≡ [] = no_ticks b.run.new (b.run.as_many ∙ e) in
+      let n = none_of b.run.new (λ l. let z = b.run.as_many in omega arith) in
       stepped.own ∙ ap (λ l. ticks_made N m i ++ map (tick_at f) l) n ∙ append-nil (ticks_made N m i)
 
   went_past : (y : Pause) → pause ≡ Some y → (y ≡ Ended → ⊥) → HasEnded N L i → ⊥

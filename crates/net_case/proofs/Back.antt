@@ -1,5 +1,5 @@
 -- What a batch brings back, at a later count at which its instance has made no tick since.
-use Rattle.std.proofs.Common.{◌≡◌, ℕ, ◌+◌, ◌<◌, ◌≤◌, List, [], ◌∷◌, ◌++◌, length, map, take, drop, refl, sym, ap, ◌∙◌, ⊎_elim, arith, length-append, take_all}
+use Rattle.std.proofs.Common.{◌≡◌, ℕ, ◌+◌, ◌≤◌, List, [], ◌∷◌, ◌++◌, length, map, take, drop, refl, sym, ap, ◌∙◌, ⊎_elim, arith, length-append, take_all}
 use Rattle.std.specs.Prelude.{slice_index, flat_map}
 use Rattle.std.proofs.lemmas.Bool.{cases_eq}
 use Rattle.std.proofs.lemmas.List.{append-nil}
@@ -19,17 +19,13 @@ use Rattle.net_core.specs.Placement.{tick_at, AreAt, IsPlaced, IsStanding}
 use Rattle.net_core.proofs.Chunk.{plus, plus_same, Chunk, written_after}
 use Rattle.net_core.proofs.Placed.{puts_same, takes_same, put_found, take_found}
 use Rattle.net_core.proofs.Queued.{take_longer}
-use Rattle.net_core.proofs.Stepped.{plus_above, extends_same}
+use Rattle.net_core.proofs.Stepped.{plus_above, extends_same, none_of as nothing}
 use Rattle.net_case.specs.Batch.{HasRun}
 use Rattle.net_case.proofs.Runs.{commits, made_now, whole_at, new_at, whole_there}
 
 drop_front : {A : Type 0} (xs ys : List A) → drop (length xs) (xs ++ ys) ≡ ys
 drop_front [] ys = refl
 drop_front (x ∷ xs) ys = drop_front xs ys
-
-nothing : {A : Type 0} (xs : List A) → (0 < length xs → ⊥) → xs ≡ []
-nothing [] d = refl
-nothing (x ∷ xs) d = absurd (d (omega arith))
 
 module _ (net : Network) (ok : IsNetwork net) (k : ℕ → ℕ) (r : IsReachable net k) (i : ℕ) (job : ℕ → Behavior) (f : ℕ → ℕ) (R W : ℕ → Type 0) (plug : IsPlaced net i job f R W) (limits : List ℕ) (Stands : List Tick → Type 0) (made : ℕ) (ports : Ports) (h : HasRun Stands net k i job f R W limits made ports) (m : ℕ → ℕ) (rm : IsReachable net m) (below : IsBelow k m) (still : m i ≡ k i) where
   abbrev now : List Tick

@@ -25,19 +25,18 @@ use Rattle.net_core.specs.Bounded.{network_on, instance_job, count_of}
 use Rattle.net_core.specs.Placement.{tick_at, IsPlaced, IsStanding}
 use Rattle.net_core.proofs.Chunk.{plus, plus_same, plus_other, Chunk}
 use Rattle.net_core.proofs.Loaded.{in_streams}
-use Rattle.net_core.proofs.Moves.{drop_sum, has_item}
+use Rattle.net_core.proofs.Moves.{drop_sum}
 use Rattle.net_core.proofs.Queued.{take_longer}
 use Rattle.net_core.proofs.Resuming.{count_set}
 use Rattle.net_core.proofs.Stepped.{plus_above, written_up, standing_other}
 use Rattle.net_case.specs.Batch.{IsBatchAt}
-use Rattle.net_case.specs.declared.batch.Process.{Process}
 use Rattle.net_case.proofs.Back.{back, carried_is, took_is, waits_is, given_within, standing_is}
 use Rattle.net_case.specs.declared.queue.Queue.{Queue}
 use Rattle.net_case.specs.Deliver.{tokens_in, space_in, queue_at, queue_space}
-use Rattle.net_case.specs.Home.{IsStreamAt, IsHome, IsCaseAt}
-use Rattle.net_case.specs.Look.{AreStreamsAt}
+use Rattle.net_case.specs.Home.{AreStreamsAt, IsStreamAt, IsHome}
 use Rattle.net_case.proofs.Few.{written_few, room_few}
 use Rattle.net_case.proofs.Streams.{total_is, stream_is, queue_is}
+use Rattle.tapa_base.proofs.Got.{some_at as has_item}
 
 -- the rest of a list from a place on, and what a longer list has behind it
 drop_join : {A : Type 0} (t : ℕ) (xs ys : List A) → IsPrefixOf xs ys → t ≤ length xs → drop t xs ++ drop (length xs) ys ≡ drop t ys
@@ -45,21 +44,6 @@ drop_join t [] ys p l = let e : t ≡ 0 = omega arith in subst (λ n. drop n [] 
 drop_join t (x ∷ xs) [] p l = absurd p
 drop_join zero (x ∷ xs) (y ∷ ys) (e, p) l = ap (λ z. z ∷ (xs ++ drop (length xs) ys)) e ∙ ap (λ l. y ∷ l) (drop_join 0 xs ys p (omega arith))
 drop_join (suc t) (x ∷ xs) (y ∷ ys) (e, p) l = drop_join t xs ys p (omega arith)
-
-pub streams_at : {B : Type 0} (Stands : B → Job → List Tick → Type 0) (program : Program) (input : Input) (budget : ℕ) (homes : List (Option (Process B))) (queues : List Queue) (taken_list offered counts : List ℕ) (pauses : List (Option Pause)) (listed : List Bool) (joined : ℕ) (writers : List ℕ) (fed : List Bool) → IsCaseAt Stands program input budget homes queues taken_list offered counts pauses listed joined writers fed → AreStreamsAt program input budget queues taken_list offered counts
-streams_at Stands program input budget homes queues taken_list offered counts pauses listed joined writers fed c = record {
-  connected = c.connected;
-  network = c.network;
-  well_formed = c.well_formed;
-  fits = c.fits;
-  reachable = c.reachable;
-  capped = c.capped;
-  few = c.few;
-  queues_len = c.queues_len;
-  taken_len = c.taken_len;
-  offered_len = c.offered_len;
-  streams = c.streams;
-}
 
 -- what is taken over of stream s
 record IsTakenOver (N : Network) (L : ℕ → ℕ) (queues2 : List Queue) (taken2 offered2 : List ℕ) (s : ℕ) : Type 0 where

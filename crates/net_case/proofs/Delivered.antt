@@ -14,6 +14,7 @@ use Rattle.net_core.proofs.Loaded.{in_streams, read_or_write}
 use Rattle.net_core.proofs.Tokens.{tokens_drop}
 use Rattle.net_case.specs.declared.queue.Queue.{Queue}
 use Rattle.net_case.specs.Deliver.{queue_at, AreInOrder, IsDelivered}
+use Rattle.net_core.proofs.Cases.{is_or}
 
 module _ (program : Program) (connected : IsConnected program) (i : ℕ) (inside : i < length program.instances.items) (p : ℕ) (here : p < arity program i) (queues : List Queue) (taken_list offered : List ℕ) (ports : Ports) (limits : List ℕ) (o : AreInOrder program i queues taken_list offered ports limits) where
   abbrev f : ℕ → ℕ
@@ -65,35 +66,27 @@ module _ (program : Program) (connected : IsConnected program) (i : ℕ) (inside
 
       waits_read : (q : ℕ) → Reads program i q → waiting ports' q ≡ take (slice_index (slice_set offered s v) (f q) - slice_index taken_list (f q)) (queue_at queues (f q))
       waits_read q rq =
-          ⊎_elim
-          (λ (e : q ≡ p). subst (λ x. waiting ports' x ≡ take (slice_index (slice_set offered s v) (f x) - slice_index taken_list (f x)) (queue_at queues (f x))) (sym e)
-          (let g = gave_here in all ∙ sym (take_all (slice_index (slice_set offered s v) s - slice_index taken_list s) (queue_at queues s) (omega arith))))
-          (λ (d : q ≡ p → ⊥).
+          is_or (λ x. waiting ports' x ≡ take (slice_index (slice_set offered s v) (f x) - slice_index taken_list (f x)) (queue_at queues (f x))) p q
+          (let g = gave_here in all ∙ sym (take_all (slice_index (slice_set offered s v) s - slice_index taken_list s) (queue_at queues s) (omega arith)))
+          (λ d.
           adjusted.waits q d ∙ o.waits_are q rq
           ∙ ap (λ n. take (n - slice_index taken_list (f q)) (queue_at queues (f q))) (sym (gave_else (f q) (λ e. d (connected.reads_one i q p rq r e)))))
-          (cases_eq q p)
 
       pub order_read : AreInOrder program i queues taken_list (slice_set offered s v) ports' (slice_set limits p v)
       order_read = record {
-        queues_len = o.queues_len;
-        taken_len = o.taken_len;
-        offered_len = length-set offered s v ∙ o.offered_len;
+        tokens = o.tokens;
+        gives = record {
+          offered_len = length-set offered s v ∙ o.offered_len;
+          within = λ t l.
+              is_or (λ x. slice_index taken_list x ≤ slice_index (slice_set offered s v) x) s t
+              (let g = gave_here in omega arith) (λ d. let g = gave_else t d in let w = o.within t l in omega arith);
+          given = λ t l.
+              is_or (λ x. slice_index (slice_set offered s v) x ≤ slice_index taken_list x + length (queue_at queues x)) s t
+              (let g = gave_here in omega arith) (λ d. let g = gave_else t d in let w = o.given t l in omega arith);
+        };
         limits_len = length-set limits p v ∙ o.limits_len;
         ends = adjusted.ends ∙ o.ends;
-        within = λ t l.
-            ⊎_elim
-            (λ (e : t ≡ s). subst (λ x. slice_index taken_list x ≤ slice_index (slice_set offered s v) x) (sym e) (let g = gave_here in omega arith))
-            (λ (d : t ≡ s → ⊥). let g = gave_else t d in let w = o.within t l in omega arith)
-            (cases_eq t s);
-        given = λ t l.
-            ⊎_elim
-            (λ (e : t ≡ s). subst (λ x. slice_index (slice_set offered s v) x ≤ slice_index taken_list x + length (queue_at queues x)) (sym e) (let g = gave_here in omega arith))
-            (λ (d : t ≡ s → ⊥). let g = gave_else t d in let w = o.given t l in omega arith)
-            (cases_eq t s);
         waits_are = waits_read;
-        kinds = o.kinds;
-        few = o.few;
-        small = o.small;
         spaces = spaces_after;
       }
 
@@ -114,17 +107,11 @@ module _ (program : Program) (connected : IsConnected program) (i : ℕ) (inside
 
       pub order_write : AreInOrder program i queues taken_list offered ports' (slice_set limits p v)
       order_write = record {
-        queues_len = o.queues_len;
-        taken_len = o.taken_len;
-        offered_len = o.offered_len;
+        tokens = o.tokens;
+        gives = o.gives;
         limits_len = length-set limits p v ∙ o.limits_len;
         ends = adjusted.ends ∙ o.ends;
-        within = o.within;
-        given = o.given;
         waits_are = λ q r. waits_write q ∙ o.waits_are q r;
-        kinds = o.kinds;
-        few = o.few;
-        small = o.small;
         spaces = spaces_after;
       }
 

@@ -14,7 +14,7 @@ use Rattle.kahn_model.proofs.Reach.{reach_founded, all_made}
 use Rattle.kahn_model.proofs.Ends.{reach_push}
 use Rattle.net_core.proofs.Chunk.{made_more, made_other, written_after}
 
-put_one : (s : ℕ) (t : Tick) → length (put_on s t) ≤ 1
+pub put_one : (s : ℕ) (t : Tick) → length (put_on s t) ≤ 1
 put_one s (Did (Put r u)) = ⊎_elim (λ (e : r ≡ s). grind (arith, nat_tests)) (λ (d : r ≡ s → ⊥). grind (arith, nat_tests)) (cases_eq r s)
 put_one s (Did Local) = omega arith
 put_one s (Did (Load a b)) = omega arith

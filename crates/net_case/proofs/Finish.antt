@@ -31,8 +31,8 @@ use Rattle.net_case.specs.Claims.{IsFinished, Rests, IsEnd, MustWait}
 use Rattle.net_case.proofs.Over.{over_means}
 use Rattle.net_case.proofs.Same.{same_case}
 
-pub valid_of : {B : Type 0} (Stands : B → Job → List Tick → Type 0) (program : Program) (input : Input) (budget : ℕ) (homes : List (Option (Process B))) (queues : List Queue) (taken_list offered counts : List ℕ) (pauses : List (Option Pause)) (listed : List Bool) (joined : ℕ) (writers : List ℕ) (fed : List Bool) → IsCaseAt Stands program input budget homes queues taken_list offered counts pauses listed joined writers fed → IsValidCase (record { program = program; input = input; budget = budget; counts = counts; out = outs homes; pauses = pauses })
-valid_of Stands program input budget homes queues taken_list offered counts pauses listed joined writers fed c = record {
+pub valid_of : {B : Type 0} {Stands : B → Job → List Tick → Type 0} {program : Program} {input : Input} {budget : ℕ} {homes : List (Option (Process B))} {queues : List Queue} {taken_list offered counts : List ℕ} {pauses : List (Option Pause)} {listed : List Bool} {joined : ℕ} {writers : List ℕ} {fed : List Bool} → IsCaseAt Stands program input budget homes queues taken_list offered counts pauses listed joined writers fed → IsValidCase (record { program = program; input = input; budget = budget; counts = counts; out = outs homes; pauses = pauses })
+valid_of {homes} c = record {
   connected = c.connected;
   well_formed = c.well_formed;
   fits = c.fits;
@@ -46,7 +46,7 @@ valid_of Stands program input budget homes queues taken_list offered counts paus
   pauses_len = c.pauses_len;
 }
 
-module _ {B : Type 0} (Stands : B → Job → List Tick → Type 0) (program : Program) (input : Input) (budget : ℕ) (homes : List (Option (Process B))) (queues : List Queue) (taken_list offered counts : List ℕ) (pauses : List (Option Pause)) (listed : List Bool) (joined : ℕ) (writers : List ℕ) (fed : List Bool) (c : IsCaseAt Stands program input budget homes queues taken_list offered counts pauses listed joined writers fed) where
+module _ {B : Type 0} {Stands : B → Job → List Tick → Type 0} {program : Program} {input : Input} {budget : ℕ} {homes : List (Option (Process B))} {queues : List Queue} {taken_list offered counts : List ℕ} {pauses : List (Option Pause)} {listed : List Bool} {joined : ℕ} {writers : List ℕ} {fed : List Bool} (c : IsCaseAt Stands program input budget homes queues taken_list offered counts pauses listed joined writers fed) where
   abbrev N : Network
   N = network_on program input
 

@@ -17,17 +17,17 @@ use Rattle.net_core.specs.declared.body.Pause.TheVariants.{Ended, Fuel}
 use Rattle.net_core.specs.declared.input.Input.{Input}
 use Rattle.net_core.specs.Job.{Job}
 use Rattle.net_core.specs.Bindings.{stream_at, consumer_of}
-use Rattle.net_core.specs.Bounded.{network_on, count_of}
+use Rattle.net_core.specs.Bounded.{network_on, count_of, HaveAnswered}
 use Rattle.net_core.specs.Waits.{HoldsPause, HasHeld}
 use Rattle.net_core.proofs.Ends.{not_ended}
-use Rattle.net_core.proofs.Moves.{get_set_same, get_set_other}
+use Rattle.net_core.proofs.Moves.{get_set_same, get_set_other, set_some, set_none}
 use Rattle.net_case.specs.Batch.{IsBatchAt}
 use Rattle.net_case.specs.declared.batch.Process.{Process}
 use Rattle.net_case.specs.declared.queue.Queue.{Queue}
 use Rattle.net_case.specs.Home.{IsHome, IsQuiet, IsHeldBack, IsAtRest, IsCaseAt, outs}
 use Rattle.net_case.specs.Look.{CanLook, HasLooked}
 use Rattle.net_case.specs.Over.{MayStep}
-use Rattle.net_case.proofs.Coming.{streams_at}
+use Rattle.net_core.proofs.Cases.{is_or}
 
 -- an instance goes out and comes home again
 pub outs_back : {B : Type 0} (homes : List (Option (Process B))) (i : ℕ) (x y : Process B) → slice_get homes i ≡ Some (Some x) → outs (slice_set (slice_set homes i None) i (Some y)) ≡ outs homes
@@ -35,7 +35,7 @@ outs_back [] i x y e = refl
 outs_back (h ∷ hs) zero x y e = let q : h ≡ Some x = cc in ap (λ (o : Option _). is_none o ∷ outs hs) (sym q)
 outs_back (h ∷ hs) (suc i) x y e = ap (λ l. is_none h ∷ l) (outs_back hs i x y e)
 
-module _ {B : Type 0} (Stands : B → Job → List Tick → Type 0) (program : Program) (input : Input) (budget : ℕ) (homes : List (Option (Process B))) (queues : List Queue) (taken_list offered counts : List ℕ) (pauses : List (Option Pause)) (listed : List Bool) (joined : ℕ) (writers : List ℕ) (fed : List Bool) (c : IsCaseAt Stands program input budget homes queues taken_list offered counts pauses listed joined writers fed) (i : ℕ) (x : Process B) (is_home : slice_get homes i ≡ Some (Some x)) where
+module _ {B : Type 0} {Stands : B → Job → List Tick → Type 0} {program : Program} {input : Input} {budget : ℕ} {homes : List (Option (Process B))} {queues : List Queue} {taken_list offered counts : List ℕ} {pauses : List (Option Pause)} {listed : List Bool} {joined : ℕ} {writers : List ℕ} {fed : List Bool} (c : IsCaseAt Stands program input budget homes queues taken_list offered counts pauses listed joined writers fed) (i : ℕ) (x : Process B) (is_home : slice_get homes i ≡ Some (Some x)) where
   abbrev N : Network
   N = network_on program input
 
@@ -50,7 +50,7 @@ module _ {B : Type 0} (Stands : B → Job → List Tick → Type 0) (program : P
 
   pub can_look : CanLook Stands program input budget queues taken_list offered counts i x.body x.ports x.limits.items
   can_look = record {
-    at = streams_at Stands program input budget homes queues taken_list offered counts pauses listed joined writers fed c;
+    at = c.at;
     inside = inside;
     home = c.home i x is_home;
   }
@@ -100,9 +100,6 @@ module _ {B : Type 0} (Stands : B → Job → List Tick → Type 0) (program : P
       abbrev pub pauses_stay : List (Option Pause)
       pauses_stay = slice_set pauses i (Some seen)
 
-      home_here : slice_get homes_stay i ≡ Some (Some y)
-      home_here = get_set_same (slice_set homes i None) i (Some y) (let w = slice_get_within homes i (Some x) is_home in let l : length (slice_set homes i None) ≡ length homes = length-set homes i None in omega arith)
-
       home_else : (j : ℕ) → (j ≡ i → ⊥) → slice_get homes_stay j ≡ slice_get homes j
       home_else j d = get_set_other (slice_set homes i None) i j (Some y) (λ e. d (sym e)) ∙ get_set_other homes i j None (λ e. d (sym e))
 
@@ -125,94 +122,53 @@ module _ {B : Type 0} (Stands : B → Job → List Tick → Type 0) (program : P
       -- whoever was at rest is so
       pub rest_kept : (j : ℕ) → IsAtRest N budget k j (stream_at program j) pauses → IsAtRest N budget k j (stream_at program j) pauses_stay
       rest_kept j r =
-          ⊎_elim
-          (λ (e : j ≡ i). subst (λ n. IsAtRest N budget k n (stream_at program n) pauses_stay) (sym e) rests)
-          (λ (d : j ≡ i → ⊥). rest_else j d r)
-          (cases_eq j i)
+          is_or (λ n. IsAtRest N budget k n (stream_at program n) pauses_stay) i j
+          rests
+          (λ d. rest_else j d r)
+
+      answered_stay : HaveAnswered program input counts pauses_stay
+      answered_stay = record {
+        counts_len = c.counts_len;
+        pauses_len = length-set pauses i (Some seen) ∙ c.pauses_len;
+        paused = λ j z e. set_some (λ n v. HasHeld N k n (stream_at program n) v) pauses i j seen z held (λ d. c.paused j z) e;
+        unresumed = λ j e. c.unresumed j (set_none pauses i j seen e).1;
+      }
 
       pub stays : IsCaseAt Stands program input budget homes_stay queues taken_list offered' counts pauses_stay (slice_set listed i false) joined writers fed
       stays = record {
-        connected = c.connected;
-        network = c.network;
-        well_formed = c.well_formed;
-        fits = c.fits;
-        reachable = c.reachable;
-        capped = c.capped;
-        few = c.few;
+        at = h.at;
+        bound = c.bound;
+        answered = answered_stay;
         homes_len = length-set (slice_set homes i None) i (Some y) ∙ length-set homes i None ∙ c.homes_len;
-        queues_len = c.queues_len;
-        taken_len = c.taken_len;
-        offered_len = h.at.offered_len;
-        counts_len = c.counts_len;
-        pauses_len = length-set pauses i (Some seen) ∙ c.pauses_len;
         listed_len = length-set listed i false ∙ c.listed_len;
-        writers_len = c.writers_len;
-        fed_len = c.fed_len;
-        streams = h.at.streams;
         home = λ j z e.
-            ⊎_elim
-            (λ (q : j ≡ i).
-            let same : y ≡ z = let g = sym home_here ∙ subst (λ n. slice_get homes_stay n ≡ Some (Some z)) q e in cc in
-            subst (λ n. IsHome Stands program input counts taken_list offered' n z.body z.ports z.limits.items) (sym q)
-            (subst (λ (w : Process B). IsHome Stands program input counts taken_list offered' i w.body w.ports w.limits.items) same h.home))
-            (λ (d : j ≡ i → ⊥). home_other j z d (sym (home_else j d) ∙ e))
-            (cases_eq j i);
-        paused = λ j z e.
-            ⊎_elim
-            (λ (q : j ≡ i).
-            let same : seen ≡ z = let g = sym pause_here ∙ subst (λ n. slice_get pauses_stay n ≡ Some (Some z)) q e in cc in
-            subst (λ n. HasHeld N k n (stream_at program n) z) (sym q) (subst (HasHeld N k i f) same held))
-            (λ (d : j ≡ i → ⊥). c.paused j z (sym (pause_else j d) ∙ e))
-            (cases_eq j i);
-        unresumed = λ j e.
-            ⊎_elim
-            (λ (q : j ≡ i). let g = sym pause_here ∙ subst (λ n. slice_get pauses_stay n ≡ Some None) q e in absurd (cc))
-            (λ (d : j ≡ i → ⊥). c.unresumed j (sym (pause_else j d) ∙ e))
-            (cases_eq j i);
+            set_some (λ n (w : Process B). IsHome Stands program input counts taken_list offered' n w.body w.ports w.limits.items) (slice_set homes i None) i j y z h.home
+            (λ d o. home_other j z d (sym (get_set_other homes i j None (λ q. d (sym q))) ∙ o)) e;
         unended = λ j l n e.
             ⊎_elim
             (λ (q : j ≡ i). seen_goes_on may h.told (λ g. n (ap (slice_get pauses_stay) q ∙ pause_here ∙ ap (λ z. Some (Some z)) g)) (subst (HasEnded N k) q e))
             (λ (d : j ≡ i → ⊥). c.unended j l (λ g. n (pause_else j d ∙ g)) e)
             (cases_eq j i);
         rest = λ j z e g.
-            ⊎_elim
-            (λ (q : j ≡ i). subst (λ n. IsAtRest N budget k n (stream_at program n) pauses_stay) (sym q) rests)
-            (λ (d : j ≡ i → ⊥). rest_else j d (c.rest j z (sym (home_else j d) ∙ e) (sym (listed_other j d) ∙ g)))
-            (cases_eq j i);
+            is_or (λ n. IsAtRest N budget k n (stream_at program n) pauses_stay) i j
+            rests
+            (λ d. rest_else j d (c.rest j z (sym (home_else j d) ∙ e) (sym (listed_other j d) ∙ g)));
         joined_is = c.joined_is;
-        writer_is = c.writer_is;
-        fed = c.fed;
       }
 
     -- ---- it goes out
 
     pub goes : IsCaseAt Stands program input budget (slice_set homes i None) queues taken_list offered' counts pauses (slice_set listed i false) joined writers fed
     goes = record {
-      connected = c.connected;
-      network = c.network;
-      well_formed = c.well_formed;
-      fits = c.fits;
-      reachable = c.reachable;
-      capped = c.capped;
-      few = c.few;
+      at = h.at;
+      bound = c.bound;
+      answered = c.answered;
       homes_len = length-set homes i None ∙ c.homes_len;
-      queues_len = c.queues_len;
-      taken_len = c.taken_len;
-      offered_len = h.at.offered_len;
-      counts_len = c.counts_len;
-      pauses_len = c.pauses_len;
       listed_len = length-set listed i false ∙ c.listed_len;
-      writers_len = c.writers_len;
-      fed_len = c.fed_len;
-      streams = h.at.streams;
       home = λ j z e. let d = not_here j z e in home_other j z d (sym (get_set_other homes i j None (λ g. d (sym g))) ∙ e);
-      paused = c.paused;
-      unresumed = c.unresumed;
       unended = c.unended;
       rest = λ j z e g. let d = not_here j z e in c.rest j z (sym (get_set_other homes i j None (λ q. d (sym q))) ∙ e) (sym (listed_other j d) ∙ g);
       joined_is = c.joined_is;
-      writer_is = c.writer_is;
-      fed = c.fed;
     }
       where
         not_here : (j : ℕ) (z : Process B) → slice_get (slice_set homes i None) j ≡ Some (Some z) → j ≡ i → ⊥
@@ -234,18 +190,9 @@ module _ {B : Type 0} (Stands : B → Job → List Tick → Type 0) (program : P
 
       pub goes_batch : IsBatchAt Stands program input budget counts i (slice_index counts i) fuel 0 None false y.body y.ports y.limits.items
       goes_batch = record {
-        connected = c.connected;
-        network = c.network;
-        well_formed = c.well_formed;
-        reachable = c.reachable;
-        allowed = is_allowed;
-        inside = inside;
-        begins = refl;
+        claimed = record { connected = c.connected; network = c.network; well_formed = c.well_formed; reachable = c.reachable; allowed = is_allowed; inside = inside; begins = refl; few = c.few; capped = capped_by (N.detached i) refl; limits_len = h.home.limits_len };
         within = omega arith;
-        few = c.few;
-        capped = capped_by (N.detached i) refl;
         ends = h.home.ends;
-        limits_len = h.home.limits_len;
         spaces = h.home.spaces;
         run = h.run;
         unrun = λ e. refl;

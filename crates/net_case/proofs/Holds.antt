@@ -34,15 +34,7 @@ use Rattle.net_case.specs.Batch.{HasRun, EndsAfter, FillsAfter, StopsAfter, HasS
 use Rattle.net_case.proofs.Runs.{commits}
 use Rattle.net_case.proofs.Back.{carried_is, written_else, taken_else}
 use Rattle.net_case.proofs.Says.{at_next, next_there, ends_after, not_ended, holds_here}
-
-put_small : (p : ℕ) (t : Tick) → length (put_on p t) ≤ 1
-put_small p (Did (Put q u)) = ⊎_elim (λ (e : q ≡ p). grind (arith, nat_tests)) (λ (e : q ≡ p → ⊥). grind (arith, nat_tests)) (cases_eq q p)
-put_small p (Did Local) = omega arith
-put_small p (Did (Load x y)) = omega arith
-put_small p (Did (Store x y z)) = omega arith
-put_small p (Take q u) = omega arith
-put_small p (See q u) = omega arith
-put_small p End = omega arith
+use Rattle.net_case.proofs.Few.{put_one as put_small}
 
 put_room : (ports : Ports) (t : Tick) (p : ℕ) → HasRoomAt ports t → 0 < length (put_on p t) → 0 < room_at ports p
 put_room ports (Did (Put q t)) p a l = ⊎_elim (λ (e : q ≡ p). subst (λ x. 0 < room_at ports x) e a) (λ (e : q ≡ p → ⊥). absurd (grind (arith, nat_tests))) (cases_eq q p)

@@ -19,7 +19,7 @@ use Rattle.net_case.specs.Home.{IsCaseAt, outs}
 use Rattle.net_case.specs.Over.{MayStep}
 use Rattle.net_case.proofs.Outs.{out_at, outs_set}
 
-module _ {B : Type 0} (Stands : B → Job → List Tick → Type 0) (program : Program) (input : Input) (budget : ℕ) (homes : List (Option (Process B))) (queues : List Queue) (taken_list offered counts : List ℕ) (pauses : List (Option Pause)) (listed : List Bool) (joined : ℕ) (writers : List ℕ) (fed : List Bool) (c : IsCaseAt Stands program input budget homes queues taken_list offered counts pauses listed joined writers fed) (i : ℕ) (from left : ℕ) (from_is : from ≡ slice_index counts i) (left_is : left ≡ (if detached_at program i then budget - from else budget - joined)) where
+module _ {B : Type 0} {Stands : B → Job → List Tick → Type 0} {program : Program} {input : Input} {budget : ℕ} {homes : List (Option (Process B))} {queues : List Queue} {taken_list offered counts : List ℕ} {pauses : List (Option Pause)} {listed : List Bool} {joined : ℕ} {writers : List ℕ} {fed : List Bool} (c : IsCaseAt Stands program input budget homes queues taken_list offered counts pauses listed joined writers fed) (i : ℕ) (from left : ℕ) (from_is : from ≡ slice_index counts i) (left_is : left ≡ (if detached_at program i then budget - from else budget - joined)) where
   abbrev N : Network
   N = network_on program input
 

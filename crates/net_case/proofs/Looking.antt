@@ -1,5 +1,5 @@
 -- A look at an instance that is at home.
-use Rattle.std.proofs.Common.{◌≡◌, ℕ, ◌+◌, ◌-◌, ◌<◌, ◌≤◌, ◌⊎◌, List, [], ◌∷◌, ◌++◌, length, take, drop, Bool, true, false, Some, inl, inr, refl, sym, ap, ◌∙◌, subst, arith, take_all}
+use Rattle.std.proofs.Common.{◌≡◌, ℕ, ◌+◌, ◌-◌, ◌<◌, ◌≤◌, ◌⊎◌, List, [], ◌++◌, length, take, drop, Bool, true, false, Some, inl, inr, refl, sym, ap, ◌∙◌, subst, arith, take_all}
 use Rattle.std.specs.Prelude.{slice_get, slice_index, flat_map, MatchBool}
 use Rattle.std.proofs.lemmas.Option.{slice_get_within}
 use Rattle.std.proofs.lemmas.List.{append-nil, drop-take}
@@ -24,14 +24,14 @@ use Rattle.net_core.specs.Bounded.{network_on, instance_job, count_of}
 use Rattle.net_core.specs.Placement.{IsPlaced}
 use Rattle.net_core.specs.Waits.{HoldsPause}
 use Rattle.net_core.proofs.Loaded.{in_streams}
-use Rattle.net_core.proofs.Stepped.{prefix_rest, took_is}
+use Rattle.net_core.proofs.Stepped.{prefix_rest, took_is, none_of}
 use Rattle.net_case.specs.Batch.{HasRun}
 use Rattle.net_case.proofs.Runs.{agrees, made_now}
 use Rattle.net_case.proofs.Says.{at_next, may_put, may_act, holds_here}
 use Rattle.net_case.specs.declared.queue.Queue.{Queue}
 use Rattle.net_case.specs.Deliver.{AreInOrder, IsDelivered}
-use Rattle.net_case.specs.Home.{IsStreamAt, IsHome}
-use Rattle.net_case.specs.Look.{AreStreamsAt, CanLook, HasLooked}
+use Rattle.net_case.specs.Home.{AreStreamsAt, IsStreamAt, IsHome}
+use Rattle.net_case.specs.Look.{CanLook, HasLooked}
 use Rattle.net_case.proofs.Streams.{stream_is, queue_is, begins, total_is, small_is, few_is, kinds_are}
 use Rattle.net_case.proofs.Ported.{ports_many}
 
@@ -62,21 +62,25 @@ module _ {B : Type 0} (Stands : B → Job → List Tick → Type 0) (program : P
 
   pub order : AreInOrder program i queues taken_list offered ports limits
   order = record {
-    queues_len = c.at.queues_len;
-    taken_len = c.at.taken_len;
-    offered_len = c.at.offered_len;
+    tokens = record {
+      queues_len = c.at.queues_len;
+      taken_len = c.at.taken_len;
+      kinds = kinds_are program input budget queues taken_list offered counts c.at;
+      few = few_is program input budget queues taken_list offered counts c.at;
+      small = λ s l. let t = total_is program input budget queues taken_list offered counts c.at s l in let w = small_is program input budget queues taken_list offered counts c.at s l in omega arith;
+    };
+    gives = record {
+      offered_len = c.at.offered_len;
+      within = λ s l. (stream_is program input budget queues taken_list offered counts c.at s l).within;
+      given = λ s l. let g = (stream_is program input budget queues taken_list offered counts c.at s l).given in let t = total_is program input budget queues taken_list offered counts c.at s l in omega arith;
+    };
     limits_len = c.home.limits_len;
     ends = c.home.ends;
-    within = λ s l. (stream_is program input budget queues taken_list offered counts c.at s l).within;
-    given = λ s l. let g = (stream_is program input budget queues taken_list offered counts c.at s l).given in let t = total_is program input budget queues taken_list offered counts c.at s l in omega arith;
     waits_are = λ p d.
         let l = own p d.0 in
         c.home.waits_are p d
         ∙ front (slice_index taken_list (f p)) (slice_index offered (f p)) (written N k (f p)) (stream_is program input budget queues taken_list offered counts c.at (f p) l).within
         ∙ ap (take (slice_index offered (f p) - slice_index taken_list (f p))) (sym (queue_is program input budget queues taken_list offered counts c.at (f p) l));
-    kinds = λ s l. kinds_are program input budget queues taken_list offered counts c.at s l;
-    few = λ s l. few_is program input budget queues taken_list offered counts c.at s l;
-    small = λ s l. let t = total_is program input budget queues taken_list offered counts c.at s l in let w = small_is program input budget queues taken_list offered counts c.at s l in omega arith;
     spaces = c.home.spaces;
   }
 
@@ -84,10 +88,7 @@ module _ {B : Type 0} (Stands : B → Job → List Tick → Type 0) (program : P
   module _ (offered' : List ℕ) (ready : Ports) (limits' : List ℕ) (o : AreInOrder program i queues taken_list offered' ready limits') (d : (p : ℕ) → p < arity program i → IsDelivered program i p queues taken_list offered' ready limits') (same : (p : ℕ) → carried ready p ≡ carried ports p) where
     pub at_after : AreStreamsAt program input budget queues taken_list offered' counts
     at_after = record {
-      connected = c.at.connected;
-      network = c.at.network;
-      well_formed = c.at.well_formed;
-      fits = c.at.fits;
+      given = c.at.given;
       reachable = c.at.reachable;
       capped = c.at.capped;
       few = c.at.few;
@@ -183,11 +184,7 @@ module _ {B : Type 0} (Stands : B → Job → List Tick → Type 0) (program : P
     -- after the look
     module _ (body' : B) (after : Ports) (x : Pause) (u : Resumed (Stands body' (instance_job program input i)) job ts ready 0 x after) where
       none : u.made ≡ []
-      none = empty u.made u.within
-        where
-          empty : (xs : List Tick) → length xs ≤ 0 → xs ≡ []
-          empty [] l = refl
-          empty (y ∷ ys) l = absurd (omega arith)
+      none = none_of u.made (λ l. let w = u.within in omega arith)
 
       abbrev Later : List Tick → Type 0
       Later = Stands body' (instance_job program input i)

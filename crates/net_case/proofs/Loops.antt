@@ -9,11 +9,12 @@ use Rattle.tapa_syntax.specs.declared.program.Program.{Program}
 use Rattle.net_core.specs.declared.ports.Ports.{Ports}
 use Rattle.net_core.specs.Bindings.{arity, depth_of}
 use Rattle.net_core.proofs.Loaded.{each_push}
-use Rattle.net_core.proofs.Moves.{get_set_same, get_set_other}
+use Rattle.net_core.proofs.Moves.{get_set_same, get_set_other, set_some}
 use Rattle.net_case.specs.declared.batch.Process.{Process}
 use Rattle.net_case.specs.declared.queue.Queue.{Queue}
 use Rattle.net_case.specs.Queue.{waits, space}
 use Rattle.net_case.specs.Make.{AreEmptyQueues, AreLimits, AreBroughtHome, AreParted}
+use Rattle.net_core.proofs.Chunk.{get_past}
 
 pub queues_push : (program : Program) (n : ℕ) (xs zs : List Queue) (q : Queue) → zs ≡ xs ++ q ∷ [] → waits q ≡ [] → 2 * depth_of program n ≤ space q → AreEmptyQueues program n xs → AreEmptyQueues program (n + 1) zs
 queues_push program n xs zs q e empty room h =
@@ -40,10 +41,6 @@ limits_push program n xs zs v e many h =
 pub last_of : {A : Type 0} (old front new r : List A) (y : A) → old ≡ front ++ r → front ≡ new ++ y ∷ [] → old ≡ new ++ (y ∷ r)
 last_of old front new r y e g = e ∙ ap (λ l. l ++ r) g ∙ append_assoc new (y ∷ []) r
 
-get_past : {A : Type 0} (xs ys : List A) (x : A) → slice_get (xs ++ x ∷ ys) (length xs) ≡ Some x
-get_past [] ys x = refl
-get_past (z ∷ xs) ys x = get_past xs ys x
-
 pub last_at : {A : Type 0} (old new r : List A) (y : A) (m : ℕ) → old ≡ new ++ (y ∷ r) → length new ≡ m → slice_get old m ≡ Some y
 last_at old new r y m e l = ap (λ z. slice_get z m) e ∙ subst (λ n. slice_get (new ++ y ∷ r) n ≡ Some y) l (get_past new r y)
 
@@ -68,13 +65,7 @@ module _ {B : Type 0} (m : ℕ) (limits : List (Vec ℕ Global)) (bodies : List 
   else_at i d = get_set_other homes m i (Some x) (λ e. d (sym e))
 
   by_place : {X : Type 0} (xs : List X) (part : Process B → X) → slice_get xs m ≡ Some (part x) → ((i : ℕ) (y : Process B) → m + 1 ≤ i → slice_get homes i ≡ Some (Some y) → slice_get xs i ≡ Some (part y)) → (i : ℕ) (y : Process B) → m ≤ i → slice_get homes' i ≡ Some (Some y) → slice_get xs i ≡ Some (part y)
-  by_place xs part at old i y l e =
-      ⊎_elim
-      (λ (q : i ≡ m).
-      let same : x ≡ y = let g = sym here ∙ subst (λ n. slice_get homes' n ≡ Some (Some y)) q e in cc in
-      subst (λ n. slice_get xs n ≡ Some (part y)) (sym q) (at ∙ ap (λ z. Some (part z)) same))
-      (λ (d : i ≡ m → ⊥). old i y (omega arith) (sym (else_at i d) ∙ e))
-      (cases_eq i m)
+  by_place xs part at old i y l e = set_some (λ n w. slice_get xs n ≡ Some (part w)) homes m i x y at (λ d. old i y (omega arith)) e
 
   pub brought_more : slice_get bodies m ≡ Some x.body → slice_get ports m ≡ Some x.ports → slice_get limits m ≡ Some x.limits → AreBroughtHome m limits bodies ports homes'
   brought_more eb ep el = record {

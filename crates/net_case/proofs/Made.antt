@@ -1,5 +1,5 @@
 -- A case of a net: one that is new, or in which each instance was asked how it stands.
-use Rattle.std.proofs.Common.{◌≡◌, ◌⊎◌, ℕ, zero, suc, ◌+◌, ◌<◌, ◌≤◌, List, length, drop, Bool, true, false, Option, Some, sym, ap, ◌∙◌, subst, ⊎_elim, arith}
+use Rattle.std.proofs.Common.{◌≡◌, ◌⊎◌, ℕ, ◌+◌, ◌<◌, ◌≤◌, List, length, drop, Bool, true, false, Option, Some, sym, ap, ◌∙◌, subst, ⊎_elim, arith}
 use Rattle.std.specs.Prelude.{slice_get, slice_index, replicate, Vec}
 use Rattle.std.specs.declared.alloc.Global.{Global}
 use Rattle.std.proofs.lemmas.List.{length-replicate}
@@ -26,27 +26,24 @@ use Rattle.net_core.specs.Bounded.{network_on, count_of, IsNetAt}
 use Rattle.net_core.proofs.Ends.{not_ended}
 use Rattle.net_core.proofs.Lasting.{decide_fuel}
 use Rattle.net_core.proofs.Loaded.{port_in, producer_in}
-use Rattle.net_core.proofs.Moves.{has_item}
+use Rattle.net_core.proofs.Moves.{replicated}
 use Rattle.net_core.proofs.Resuming.{list_is}
 use Rattle.net_case.specs.declared.batch.Process.{Process}
 use Rattle.net_case.specs.declared.queue.Queue.{Queue}
 use Rattle.net_case.specs.Home.{IsStreamAt, IsHome, IsCaseAt}
 use Rattle.net_case.specs.Make.{HaveSameTokens, AreReserved, IsSpare, AreBroughtHome, CanFill, AreFilled}
 use Rattle.net_case.proofs.Few.{room_few}
+use Rattle.tapa_base.proofs.Got.{some_at as has_item}
 
 -- the net with its ports reserved
 pub reserved_net : {B : Type 0} (Stands : B → Job → List Tick → Type 0) (program : Program) (input : Input) (bodies : List B) (ports ports' : List Ports) (writers offered taken_list : List ℕ) (fed : List Bool) (counts : List ℕ) (pauses : List (Option Pause)) → length ports' ≡ length ports → ((i : ℕ) (x y : Ports) → slice_get ports i ≡ Some x → slice_get ports' i ≡ Some y → HaveSameTokens x y) → IsNetAt Stands program input bodies ports writers offered taken_list fed counts pauses → IsNetAt Stands program input bodies ports' writers offered taken_list fed counts pauses
 reserved_net Stands program input bodies ports ports' writers offered taken_list fed counts pauses len kept n = record {
-  connected = n.connected;
-  network = n.network;
-  well_formed = n.well_formed;
-  fits = n.fits;
+  given = n.given;
+  bound = n.bound;
+  answered = n.answered;
   reachable = n.reachable;
   bodies_len = n.bodies_len;
   ports_len = len ∙ n.ports_len;
-  counts_len = n.counts_len;
-  pauses_len = n.pauses_len;
-  writers_len = n.writers_len;
   offered_len = n.offered_len;
   taken_len = n.taken_len;
   queued = record {
@@ -54,15 +51,10 @@ reserved_net Stands program input bodies ports ports' writers offered taken_list
     offered_within = n.queued.offered_within;
     taken_within = n.queued.taken_within;
   };
-  fed_len = n.fed_len;
-  fed = n.fed;
-  paused = n.paused;
-  unresumed = n.unresumed;
   standing = n.standing;
   ends = λ i l. let x = at i l in ap ends_by x.3 ∙ (kept i x.0 x.1 x.2 x.3).ends ∙ ap ends_by (sym x.2) ∙ n.ends i l;
   carries = λ i p l w. let x = at i l in ap (λ o. carried_by o p) x.3 ∙ (kept i x.0 x.1 x.2 x.3).carries p ∙ ap (λ o. carried_by o p) (sym x.2) ∙ n.carries i p l w;
   took = n.took;
-  writer_is = n.writer_is;
 }
   where
     at : (i : ℕ) → i < length program.instances.items → (x : Ports) × (y : Ports) × (slice_get ports i ≡ Some x) × (slice_get ports' i ≡ Some y)
@@ -117,9 +109,9 @@ module _ {B : Type 0} (Stands : B → Job → List Tick → Type 0) (program : P
     taken_within = λ s l.
         let a = n.queued.taken_within s l in
         let b = n.queued.offered_within s l in
-        let e = ap length (list_is Stands program input bodies ports writers offered taken_list fed counts pauses n s l) in
+        let e = ap length (list_is n s l) in
         omega arith;
-    few = λ s l. let e = ap length (list_is Stands program input bodies ports writers offered taken_list fed counts pauses n s l) in let f = few_wait s l in omega arith;
+    few = λ s l. let e = ap length (list_is n s l) in let f = few_wait s l in omega arith;
   }
 
   module _ (reserved : AreReserved program ports) (homes0 : List (Option (Process B))) (limits : List (Vec ℕ Global)) (queues0 : List Queue) (listed : List Bool) (spare : IsSpare program homes0 limits queues0 listed) (queues : List Queue) (filled : AreFilled program ports writers taken_list queues) (homes : List (Option (Process B))) (homes_len : length homes ≡ length homes0) (brought : AreBroughtHome 0 limits bodies ports homes) where
@@ -143,7 +135,7 @@ module _ {B : Type 0} (Stands : B → Job → List Tick → Type 0) (program : P
         let l : s < length program.streams.items = let a = filled.len in omega arith in
         record {
           took_is = n.took s l;
-          rest = filled.waits_are s q e ∙ ap (drop (slice_index taken_list s)) (list_is Stands program input bodies ports writers offered taken_list fed counts pauses n s l);
+          rest = filled.waits_are s q e ∙ ap (drop (slice_index taken_list s)) (list_is n s l);
           within = n.queued.taken_within s l;
           given = n.queued.offered_within s l;
           space_is = filled.spaces s q e;
@@ -151,37 +143,16 @@ module _ {B : Type 0} (Stands : B → Job → List Tick → Type 0) (program : P
 
     pub case_of : (joined : ℕ) → joined ≡ joined_ticks N k → IsNew net ⊎ AreAnswered net → IsCaseAt Stands program input budget homes queues taken_list offered counts pauses listed joined writers fed
     case_of joined joined_is told = record {
-      connected = n.connected;
-      network = n.network;
-      well_formed = n.well_formed;
-      fits = n.fits;
-      reachable = n.reachable;
-      capped = capped;
-      few = few;
-      homes_len = homes_len ∙ spare.homes_len;
-      queues_len = filled.len;
-      taken_len = n.taken_len;
-      offered_len = n.offered_len;
-      counts_len = n.counts_len;
-      pauses_len = n.pauses_len;
-      listed_len = ap length spare.listed_are ∙ length-replicate _ true;
-      writers_len = n.writers_len;
-      fed_len = n.fed_len;
-      streams = stream_of;
-      home = home_at;
-      paused = n.paused;
-      unresumed = n.unresumed;
+      at = record { given = n.given; reachable = n.reachable; capped = capped; few = few; queues_len = filled.len; taken_len = n.taken_len; offered_len = n.offered_len; streams = stream_of };
+      bound = n.bound;
+      answered = n.answered;
       unended = unended told;
+      homes_len = homes_len ∙ spare.homes_len;
+      listed_len = ap length spare.listed_are ∙ length-replicate _ true;
+      home = home_at;
       rest = λ i x e g. absurd (all_listed i (ap (λ l. slice_get l i) (sym spare.listed_are) ∙ g));
       joined_is = joined_is;
-      writer_is = n.writer_is;
-      fed = n.fed;
     }
       where
-        all_true : (m i : ℕ) → slice_get (replicate m true) i ≡ Some false → ⊥
-        all_true zero i e = cc
-        all_true (suc m) zero e = cc
-        all_true (suc m) (suc i) e = all_true m i e
-
         all_listed : (i : ℕ) → slice_get (replicate (length program.instances.items) true) i ≡ Some false → ⊥
-        all_listed i e = all_true (length program.instances.items) i e
+        all_listed i e = let q = replicated (length program.instances.items) i true false e in cc

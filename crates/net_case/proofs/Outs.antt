@@ -5,10 +5,9 @@ use Rattle.std.specs.Option.{is_some}
 use Rattle.std.proofs.lemmas.Bool.{cases_lt}
 use Rattle.std.proofs.lemmas.List.{map-set, length-map, get_or_past}
 use Rattle.std.proofs.lemmas.Option.{get_or_from_slice_get}
-use Rattle.net_core.proofs.Moves.{has_item}
-use Rattle.net_core.proofs.Placed.{map_get}
 use Rattle.net_case.specs.declared.batch.Process.{Process}
 use Rattle.net_case.specs.Home.{outs}
+use Rattle.tapa_base.proofs.Got.{some_at as has_item, got_map as map_get}
 
 pub out_at : {B : Type 0} (homes : List (Option (Process B))) (i : ℕ) (h : Option (Process B)) → slice_get homes i ≡ Some h → slice_index_or (outs homes) i false ≡ is_none h
 out_at homes i h e = get_or_from_slice_get (outs homes) i (is_none h) false (map_get is_none homes i h e)
@@ -29,10 +28,6 @@ home_by homes i out (Some x) e = (x, e)
 -- who is not out is at home
 pub home_of : {B : Type 0} (homes : List (Option (Process B))) (i : ℕ) → i < length homes → slice_index_or (outs homes) i false ≡ false → (x : Process B) × (slice_get homes i ≡ Some (Some x))
 home_of homes i l out = let h = has_item homes i l in home_by homes i out h.0 h.1
-
-pub empty_of : {A : Type 0} (xs : List A) → length xs ≡ 0 → xs ≡ []
-empty_of [] e = refl
-empty_of (x ∷ xs) e = absurd (omega arith)
 
 none_by : {A : Type 0} (x : Option A) → is_some x ≡ true → is_none x ≡ false
 none_by None e = absurd (cc)

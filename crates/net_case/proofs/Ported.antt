@@ -4,7 +4,8 @@ use Rattle.tapa_syntax.specs.declared.program.Program.{Program}
 use Rattle.net_core.specs.declared.ports.Ports.{Ports}
 use Rattle.net_core.specs.Ports.{ends_of, port_count}
 use Rattle.net_core.specs.Bindings.{IsConnected, arity, arity_in, ends_at}
-use Rattle.net_core.proofs.Moves.{has_item, port_count_is}
+use Rattle.net_core.proofs.Moves.{port_count_is}
+use Rattle.tapa_base.proofs.Got.{some_at as has_item}
 
 pub ports_many : (program : Program) → IsConnected program → (i : ℕ) → i < length program.instances.items → (ports : Ports) → ends_of ports ≡ ends_at program i → port_count ports ≡ arity program i
 ports_many program connected i inside ports ends =

@@ -21,13 +21,14 @@ use Rattle.net_core.specs.Bounded.{network_on, instance_job, count_of}
 use Rattle.net_core.specs.Placement.{IsPlaced}
 use Rattle.net_core.proofs.Chunk.{plus, plus_none}
 use Rattle.net_core.proofs.Ends.{stopped}
-use Rattle.net_core.proofs.Moves.{has_item, port_count_is}
+use Rattle.net_core.proofs.Moves.{port_count_is}
 use Rattle.net_core.proofs.Lasting.{decide_fuel}
 use Rattle.net_core.specs.Waits.{HoldsPause}
 use Rattle.net_case.specs.declared.lot.Lot.{Lot}
 use Rattle.net_case.specs.Batch.{WritesAt, KeepsTokens, AreRoomsWhole, HasRun, HasSaid, IsBatchAt, Ran}
 use Rattle.net_case.proofs.Runs.{agrees, made_now, again}
 use Rattle.net_case.proofs.Holds.{said}
+use Rattle.tapa_base.proofs.Got.{some_at as has_item}
 
 module _ {B : Type 0} (Stands : B → Job → List Tick → Type 0) (program : Program) (input : Input) (budget : ℕ) (at : List ℕ) (i from fuel made : ℕ) (pause : Option Pause) (is_ready : Bool) (body : B) (ports : Ports) (limits : List ℕ) (b : IsBatchAt Stands program input budget at i from fuel made pause is_ready body ports limits) where
   abbrev net : Network
@@ -57,18 +58,9 @@ module _ {B : Type 0} (Stands : B → Job → List Tick → Type 0) (program : P
 
   pub prepared : (after : Ports) → KeepsTokens ports after → (flag : Bool) → (flag ≡ true → AreRoomsWhole limits (length limits) after) → IsBatchAt Stands program input budget at i from fuel made pause flag body after limits
   prepared after keeps flag whole = record {
-    connected = b.connected;
-    network = b.network;
-    well_formed = b.well_formed;
-    reachable = b.reachable;
-    allowed = b.allowed;
-    inside = b.inside;
-    begins = b.begins;
+    claimed = b.claimed;
     within = b.within;
-    few = b.few;
-    capped = b.capped;
     ends = keeps.ends ∙ b.ends;
-    limits_len = b.limits_len;
     spaces = λ p d. let a = b.spaces p d in let c = keeps.spaces p in omega arith;
     run = record {
       before = b.run.before;
@@ -179,18 +171,9 @@ module _ {B : Type 0} (Stands : B → Job → List Tick → Type 0) (program : P
 
     pub batch_after : (more : ℕ) → length u.made ≡ more → IsBatchAt Stands program input budget at i from fuel (made + more) (Some x) is_ready body' after limits
     batch_after more m = subst (λ n. IsBatchAt Stands program input budget at i from fuel (made + n) (Some x) is_ready body' after limits) m (record {
-      connected = b.connected;
-      network = b.network;
-      well_formed = b.well_formed;
-      reachable = b.reachable;
-      allowed = b.allowed;
-      inside = b.inside;
-      begins = b.begins;
+      claimed = b.claimed;
       within = let a = u.within in let c = b.within in omega arith;
-      few = b.few;
-      capped = b.capped;
       ends = u.moved.ends ∙ b.ends;
-      limits_len = b.limits_len;
       spaces = λ p d. let a = b.spaces p d in let e = u.moved.spaces p in omega arith;
       run = run_after;
       unrun = λ e. absurd (cc);

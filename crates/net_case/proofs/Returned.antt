@@ -20,8 +20,7 @@ use Rattle.net_case.specs.Claims.{MayCommit, Commits, kept_of}
 use Rattle.net_case.specs.Commit.{IsFar}
 use Rattle.net_case.specs.Deliver.{queue_at, queue_space}
 use Rattle.net_case.specs.Home.{IsCaseAt, outs}
-use Rattle.net_case.specs.Look.{AreStreamsAt}
-use Rattle.net_case.proofs.Coming.{streams_at, same_run, small, there, space_there, more, enough}
+use Rattle.net_case.proofs.Coming.{same_run, small, there, space_there, more, enough}
 use Rattle.net_case.proofs.Committed.{committed}
 use Rattle.net_case.proofs.Outs.{outs_set}
 use Rattle.net_case.proofs.Summed.{sum_fits}
@@ -77,24 +76,23 @@ pub record HasSummed (program : Program) (i joined made joined2 : ℕ) : Type 0 
   pub detached : detached_at program i ≡ true → joined2 ≡ joined
   pub joined_more : detached_at program i ≡ false → joined2 ≡ joined + made
 
-module _ {B : Type 0} (Stands : B → Job → List Tick → Type 0) (program : Program) (input : Input) (budget : ℕ) (homes : List (Option (Process B))) (queues : List Queue) (taken_list offered counts : List ℕ) (pauses : List (Option Pause)) (listed : List Bool) (joined : ℕ) (writers : List ℕ) (fed : List Bool) (c : IsCaseAt Stands program input budget homes queues taken_list offered counts pauses listed joined writers fed) (program' : Program) (input' : Input) (budget' : ℕ) (at : List ℕ) (i from fuel made : ℕ) (pause : Option Pause) (ready : Bool) (y : Process B) (b' : IsBatchAt Stands program' input' budget' at i from fuel made pause ready y.body y.ports y.limits.items) (e1 : program' ≡ program) (e2 : input' ≡ input) (e3 : budget' ≡ budget) (fresh : slice_index counts i ≡ from) (above_at : (j : ℕ) → slice_index at j ≤ slice_index counts j) where
-  b : IsBatchAt Stands program input budget at i from fuel made pause ready y.body y.ports y.limits.items
-  b = same_run Stands program' program input' input budget' budget at i from fuel made pause ready y.body y.ports y.limits.items e1 e2 e3 b'
+module _ {B : Type 0} {Stands : B → Job → List Tick → Type 0} {program : Program} {input : Input} {budget : ℕ} {homes : List (Option (Process B))} {queues : List Queue} {taken_list offered counts : List ℕ} {pauses : List (Option Pause)} {listed : List Bool} {joined : ℕ} {writers : List ℕ} {fed : List Bool} (c : IsCaseAt Stands program input budget homes queues taken_list offered counts pauses listed joined writers fed) {program' : Program} {input' : Input} {budget' : ℕ} {at : List ℕ} {i from fuel made : ℕ} {pause : Option Pause} {ready : Bool} (y : Process B) (b' : IsBatchAt Stands program' input' budget' at i from fuel made pause ready y.body y.ports y.limits.items) (run : IsOfRun (record { program = program; input = input; budget = budget; counts = counts; out = outs homes; pauses = pauses }) (record { program = program'; input = input'; budget = budget'; instance = i; at = at; from = from; fuel = fuel; made = made; pause = pause; ready = ready })) where
+  open run use {fresh, later as above_at}
 
-  a : AreStreamsAt program input budget queues taken_list offered counts
-  a = streams_at Stands program input budget homes queues taken_list offered counts pauses listed joined writers fed c
+  b : IsBatchAt Stands program input budget at i from fuel made pause ready y.body y.ports y.limits.items
+  b = same_run Stands program' program input' input budget' budget at i from fuel made pause ready y.body y.ports y.limits.items run.program run.input run.budget b'
 
   pub can_take_written : CanTakeWritten program i queues taken_list y.ports
   can_take_written = record {
-    small = small Stands program input budget queues taken_list offered counts a at i from fuel made pause ready y.body y.ports y.limits.items b c.counts_len fresh above_at;
-    there = there Stands program input budget queues taken_list offered counts a at i from fuel made pause ready y.body y.ports y.limits.items b c.counts_len fresh above_at;
-    space = space_there Stands program input budget queues taken_list offered counts a at i from fuel made pause ready y.body y.ports y.limits.items b c.counts_len fresh above_at;
+    small = small Stands program input budget queues taken_list offered counts c.at at i from fuel made pause ready y.body y.ports y.limits.items b c.counts_len fresh above_at;
+    there = there Stands program input budget queues taken_list offered counts c.at at i from fuel made pause ready y.body y.ports y.limits.items b c.counts_len fresh above_at;
+    space = space_there Stands program input budget queues taken_list offered counts c.at at i from fuel made pause ready y.body y.ports y.limits.items b c.counts_len fresh above_at;
   }
 
-  pub can_take_taken : (queues1 : List Queue) → HasTakenWritten program i queues queues1 taken_list y.ports → CanTakeTaken program i queues1 taken_list y.ports y.limits.items
-  can_take_taken queues1 h = record {
-    more = more Stands program input budget queues taken_list offered counts a at i from fuel made pause ready y.body y.ports y.limits.items b c.counts_len fresh above_at queues1 h.joined h.others;
-    there = enough Stands program input budget queues taken_list offered counts a at i from fuel made pause ready y.body y.ports y.limits.items b c.counts_len fresh above_at queues1 h.joined h.others;
+  pub can_take_taken : {queues1 : List Queue} → HasTakenWritten program i queues queues1 taken_list y.ports → CanTakeTaken program i queues1 taken_list y.ports y.limits.items
+  can_take_taken {queues1} h = record {
+    more = more Stands program input budget queues taken_list offered counts c.at at i from fuel made pause ready y.body y.ports y.limits.items b c.counts_len fresh above_at queues1 h.joined h.others;
+    there = enough Stands program input budget queues taken_list offered counts c.at at i from fuel made pause ready y.body y.ports y.limits.items b c.counts_len fresh above_at queues1 h.joined h.others;
   }
 
   pub sum_fits_back : joined + made < 2 ^ 64
@@ -102,12 +100,12 @@ module _ {B : Type 0} (Stands : B → Job → List Tick → Type 0) (program : P
       let w = b.within in
       let k = b.capped in
       let f = b.few in
-      sum_fits Stands program input budget homes queues taken_list offered counts pauses listed joined writers fed c made (omega arith)
+      sum_fits c made (omega arith)
 
-  pub came_back : (before : Option Pause) → slice_get pauses i ≡ Some before → (queues1 : List Queue) → HasTakenWritten program i queues queues1 taken_list y.ports → (queues2 : List Queue) (taken2 offered2 : List ℕ) → length queues2 ≡ length queues → length taken2 ≡ length taken_list → length offered2 ≡ length offered → HasTakenTaken program i queues1 queues2 taken_list taken2 offered offered2 y.ports y.limits.items → ((s : ℕ) → queue_space queues s ≤ queue_space queues1 s) → ((s : ℕ) → queue_space queues1 s ≤ queue_space queues2 s) → (listed2 : List Bool) → length listed2 ≡ length listed → HasListed program i listed listed2 → (joined2 : ℕ) → HasSummed program i joined made joined2 → (kept : Option Pause) → kept ≡ kept_of pause before → IsCaseAt Stands program input budget (slice_set homes i (Some y)) queues2 taken2 offered2 (slice_set counts i (from + made)) (slice_set pauses i kept) listed2 joined2 writers fed
-  came_back before before_is queues1 h queues2 taken2 offered2 ql tl ol t s1 s2 listed2 ll k joined2 j kept ke =
+  pub came_back : {before : Option Pause} → slice_get pauses i ≡ Some before → {queues1 : List Queue} → HasTakenWritten program i queues queues1 taken_list y.ports → {queues2 : List Queue} {taken2 offered2 : List ℕ} → length queues2 ≡ length queues → length taken2 ≡ length taken_list → length offered2 ≡ length offered → HasTakenTaken program i queues1 queues2 taken_list taken2 offered offered2 y.ports y.limits.items → ((s : ℕ) → queue_space queues s ≤ queue_space queues1 s) → ((s : ℕ) → queue_space queues1 s ≤ queue_space queues2 s) → {listed2 : List Bool} → length listed2 ≡ length listed → HasListed program i listed listed2 → {joined2 : ℕ} → HasSummed program i joined made joined2 → {kept : Option Pause} → kept ≡ kept_of pause before → IsCaseAt Stands program input budget (slice_set homes i (Some y)) queues2 taken2 offered2 (slice_set counts i (from + made)) (slice_set pauses i kept) listed2 joined2 writers fed
+  came_back {before} before_is {queues1} h {queues2} {taken2} {offered2} ql tl ol t s1 s2 {listed2} ll k {joined2} j {kept} ke =
       subst (λ (z : Option Pause). IsCaseAt Stands program input budget (slice_set homes i (Some y)) queues2 taken2 offered2 (slice_set counts i (from + made)) (slice_set pauses i z) listed2 joined2 writers fed) (sym ke)
-      (committed Stands program input budget homes queues taken_list offered counts pauses listed joined writers fed c at i from fuel made pause ready y b fresh above_at before before_is
+      (committed c at i from fuel made pause ready y b fresh above_at before before_is
       queues1 h.joined h.others queues2 taken2 offered2 (ql ∙ c.queues_len) (tl ∙ c.taken_len) (ol ∙ c.offered_len) t.took t.gave t.rest t.others_taken t.others_given t.others_wait
       (λ s. let u = s1 s in let v = s2 s in omega arith)
       listed2 (ll ∙ c.listed_len) k.kept k.far joined2

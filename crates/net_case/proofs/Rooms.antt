@@ -6,6 +6,7 @@ use Rattle.tapa_syntax.specs.declared.program.End.{End}
 use Rattle.tapa_syntax.specs.LeafKinds.{writes_of}
 use Rattle.net_core.specs.declared.ports.Ports.{Ports}
 use Rattle.net_core.specs.Ports.{waiting, carried, room_at, space_at, port_count, ends_of, Adjusted}
+use Rattle.net_core.proofs.Cases.{short_of}
 use Rattle.net_core.proofs.Moves.{port_count_is}
 use Rattle.net_case.specs.Batch.{WritesAt, KeepsTokens, AreRoomsWhole}
 
@@ -36,11 +37,7 @@ whole_more limits b c s room h j e r p l w =
 
 -- a port that reads has none
 pub whole_skip : (limits : List ℕ) (b : Ports) (s : ℕ) → AreRoomsWhole limits s b → (WritesAt b s → ⊥) → AreRoomsWhole limits (s + 1) b
-whole_skip limits b s h d p l w =
-    ⊎_elim
-    (λ (q : p ≡ s). absurd (d (subst (WritesAt b) q w)))
-    (λ (n : p ≡ s → ⊥). h p (omega arith) w)
-    (cases_eq p s)
+whole_skip limits b s h d p l w = h p (short_of (WritesAt b) s p l d w) w
 
 -- as many ports after a change of one
 pub still_many : (b c : Ports) (s : ℕ) → Adjusted b s c → port_count c ≡ port_count b

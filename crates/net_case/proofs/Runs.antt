@@ -22,9 +22,10 @@ use Rattle.net_core.specs.Resume.{lists_at, Agrees, PausesBy, Resumed}
 use Rattle.net_core.specs.Placement.{tick_at, AreAt, IsPlaced, IsStanding}
 use Rattle.net_core.proofs.Placed.{placed_ticks, asks_ticks, ticks_at, at_asks, are_prefix, puts_same, put_found, map_prefix}
 use Rattle.net_core.proofs.Chunk.{plus, HasRoomFor, Chunk}
-use Rattle.net_core.proofs.Stepped.{prefix_rest, prefix_of_append, prefix_unappend, made_is_map}
+use Rattle.net_core.proofs.Stepped.{prefix_rest, made_is_map}
 use Rattle.net_core.proofs.Commit.{commit_chunk}
 use Rattle.net_case.specs.Batch.{HasRun}
+use Rattle.net_core.proofs.Follow.{prefix_of_append, prefix_unappend}
 
 module _ (net : Network) (ok : IsNetwork net) (k : ℕ → ℕ) (r : IsReachable net k) (i : ℕ) (job : ℕ → Behavior) (f : ℕ → ℕ) (R W : ℕ → Type 0) (plug : IsPlaced net i job f R W) (limits : List ℕ) (Stands : List Tick → Type 0) (made : ℕ) (ports : Ports) (h : HasRun Stands net k i job f R W limits made ports) where
   abbrev now : List Tick

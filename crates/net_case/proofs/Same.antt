@@ -1,9 +1,7 @@
 -- What a claim says of a case does not depend on what its instances answered.
-use Rattle.std.proofs.Common.{◌≡◌, ℕ, List, Option, refl, ap, ◌∙◌, subst}
+use Rattle.std.proofs.Common.{◌≡◌, List, Option, refl, ◌∙◌, subst}
 use Rattle.net_core.specs.declared.body.Pause.{Pause}
-use Rattle.net_core.specs.declared.input.Input.{Input}
 use Rattle.net_case.specs.declared.lot.Lot.{Lot}
-use Rattle.tapa_syntax.specs.declared.program.Program.{Program}
 use Rattle.net_case.specs.declared.case_state.CaseState.{CaseState}
 use Rattle.net_case.specs.declared.claim.Claimed.{Claimed}
 use Rattle.net_case.specs.declared.claim.Claimed.TheVariants.{Work, Wait, Over}
@@ -16,12 +14,7 @@ pub same_case : (c : CaseState) → IsSameCase c c
 same_case c = record { program = refl; input = refl; budget = refl; counts = refl; out = refl }
 
 is_told_else : (c m : CaseState) → IsSameCase c m → m ≡ told_else c m.pauses
-is_told_else c m h =
-    ap (λ (p : Program). record { program = p; input = m.input; budget = m.budget; counts = m.counts; out = m.out; pauses = m.pauses }) h.program
-    ∙ ap (λ (n : Input). record { program = c.program; input = n; budget = m.budget; counts = m.counts; out = m.out; pauses = m.pauses }) h.input
-    ∙ ap (λ (n : ℕ). record { program = c.program; input = c.input; budget = n; counts = m.counts; out = m.out; pauses = m.pauses }) h.budget
-    ∙ ap (λ (n : List ℕ). record { program = c.program; input = c.input; budget = c.budget; counts = n; out = m.out; pauses = m.pauses }) h.counts
-    ∙ ap (λ n. record { program = c.program; input = c.input; budget = c.budget; counts = c.counts; out = n; pauses = m.pauses }) h.out
+is_told_else c m h = λ i. record { program = h.program i; input = h.input i; budget = h.budget i; counts = h.counts i; out = h.out i; pauses = m.pauses }
 
 hands_out : (c : CaseState) (pauses : List (Option Pause)) (b : Lot) (c' : CaseState) → HandsOut (told_else c pauses) b c' → HandsOut c b c'
 hands_out c pauses b c' h = record {

@@ -28,10 +28,11 @@ use Rattle.net_core.specs.Resume.{lists_at, StopsAt, GoesOnBy, PausesBy}
 use Rattle.net_core.specs.Placement.{tick_at, trace_end_at, TickAt, IsPlaced}
 use Rattle.net_core.specs.Waits.{StopsIn, IsFullFor, HoldsPause}
 use Rattle.net_core.proofs.Chunk.{plus, plus_same, Chunk, is_step}
-use Rattle.net_core.proofs.Placed.{placed_ticks, placed_trace_end, asks_ticks, asks_trace_end, ticks_at, at_asks, map_get, at_get, puts_same, put_found}
+use Rattle.net_core.proofs.Placed.{placed_ticks, placed_trace_end, asks_ticks, asks_trace_end, ticks_at, at_asks, at_get, puts_same, put_found}
 use Rattle.net_core.proofs.Ends.{end_trace_ends}
 use Rattle.net_case.specs.Batch.{HasRun, EndsAfter}
 use Rattle.net_case.proofs.Runs.{commits, made_now, run_there}
+use Rattle.tapa_base.proofs.Got.{got_map as map_get}
 
 -- of two lists that begin a third the shorter one begins the other
 prefix_short : {A : Type 0} (xs ys zs : List A) → IsPrefixOf xs zs → IsPrefixOf ys zs → length xs ≤ length ys → IsPrefixOf xs ys

@@ -30,7 +30,7 @@ rests_on c c' from i same keeps before here j a b home =
     (cases_eq j i)
 
 -- an instance at home that is not listed is at rest
-module _ {B : Type 0} (Stands : B → Job → List Tick → Type 0) (program : Program) (input : Input) (budget : ℕ) (homes : List (Option (Process B))) (queues : List Queue) (taken_list offered counts : List ℕ) (pauses : List (Option Pause)) (listed : List Bool) (joined : ℕ) (writers : List ℕ) (fed : List Bool) (c : IsCaseAt Stands program input budget homes queues taken_list offered counts pauses listed joined writers fed) where
+module _ {B : Type 0} {Stands : B → Job → List Tick → Type 0} {program : Program} {input : Input} {budget : ℕ} {homes : List (Option (Process B))} {queues : List Queue} {taken_list offered counts : List ℕ} {pauses : List (Option Pause)} {listed : List Bool} {joined : ℕ} {writers : List ℕ} {fed : List Bool} (c : IsCaseAt Stands program input budget homes queues taken_list offered counts pauses listed joined writers fed) where
   pub unlisted : (i : ℕ) (b : Bool) → b ≡ slice_index_or listed i b → b ≡ false → i < length homes → IsAtHome (record { program = program; input = input; budget = budget; counts = counts; out = outs homes; pauses = pauses }) i → Rests (record { program = program; input = input; budget = budget; counts = counts; out = outs homes; pauses = pauses }) i
   unlisted i b e f l home =
       let x = home_of homes i l home in

@@ -18,13 +18,12 @@ use Rattle.net_core.specs.Kinds.{AreTokensOf}
 use Rattle.net_core.specs.declared.input.Input.{Input}
 use Rattle.net_core.specs.Bindings.{depth_of}
 use Rattle.net_core.specs.Bounded.{network_on, count_of, scalars_of, memories_of}
-use Rattle.net_core.proofs.Moves.{has_item}
 use Rattle.net_core.proofs.Tokens.{tokens_drop}
 use Rattle.net_case.specs.declared.queue.Queue.{Queue}
 use Rattle.net_case.specs.Deliver.{tokens_in, queue_at}
-use Rattle.net_case.specs.Home.{IsStreamAt}
-use Rattle.net_case.specs.Look.{AreStreamsAt}
+use Rattle.net_case.specs.Home.{AreStreamsAt, IsStreamAt}
 use Rattle.net_case.proofs.Few.{written_few, room_few}
+use Rattle.tapa_base.proofs.Got.{some_at as has_item}
 
 all_get : {A : Type 0} (P : A → Type 0) (xs : List A) → All P xs → (n : ℕ) (x : A) → slice_get xs n ≡ Some x → P x
 all_get P xs h n x e = subst P (get_or_from_slice_get xs n x x e) (h n x (slice_get_within xs n x e))

@@ -21,8 +21,8 @@ part_le false x n h = h
 pub joined_few : (net : Network) (k : ℕ → ℕ) (cap : ℕ) → ((i : ℕ) → k i ≤ cap) → joined_ticks net k ≤ net.size * cap
 joined_few net k cap h = total_cap net.size cap (joined_part net k) (λ i. part_le (net.detached i) (k i) cap (h i))
 
-pub sum_fits : {B : Type 0} (Stands : B → Job → List Tick → Type 0) (program : Program) (input : Input) (budget : ℕ) (homes : List (Option (Process B))) (queues : List Queue) (taken_list offered counts : List ℕ) (pauses : List (Option Pause)) (listed : List Bool) (joined : ℕ) (writers : List ℕ) (fed : List Bool) → IsCaseAt Stands program input budget homes queues taken_list offered counts pauses listed joined writers fed → (made : ℕ) → made ≤ 1000000000000 → joined + made < 2 ^ 64
-sum_fits Stands program input budget homes queues taken_list offered counts pauses listed joined writers fed c made l =
+pub sum_fits : {B : Type 0} {Stands : B → Job → List Tick → Type 0} {program : Program} {input : Input} {budget : ℕ} {homes : List (Option (Process B))} {queues : List Queue} {taken_list offered counts : List ℕ} {pauses : List (Option Pause)} {listed : List Bool} {joined : ℕ} {writers : List ℕ} {fed : List Bool} → IsCaseAt Stands program input budget homes queues taken_list offered counts pauses listed joined writers fed → (made : ℕ) → made ≤ 1000000000000 → joined + made < 2 ^ 64
+sum_fits {program} {input} {counts} c made l =
     let few = c.few in
     let cap = c.capped in
     let s = c.network.size in

@@ -12,6 +12,7 @@ use Rattle.net_core.proofs.Moves.{get_set_same, get_set_other}
 use Rattle.net_case.specs.declared.queue.Queue.{Queue}
 use Rattle.net_case.specs.Queue.{waits, space}
 use Rattle.net_case.specs.Deliver.{tokens_in, space_in, queue_at, queue_space}
+use Rattle.net_core.proofs.Cases.{short_of, is_or}
 
 -- a queue that is changed, and the others
 module _ (queues : List Queue) (s : ℕ) (q q' : Queue) (at : slice_get queues s ≡ Some q) where
@@ -48,11 +49,7 @@ joined_none program i ports taken_list old = record { len = refl; joined = λ q 
 pub joined_skip : (program : Program) (i p : ℕ) (ports : Ports) (taken_list : List ℕ) (old now : List Queue) → (Writes program i p → ⊥) → HasJoined program i p ports taken_list old now → HasJoined program i (p + 1) ports taken_list old now
 joined_skip program i p ports taken_list old now d h = record {
   len = h.len;
-  joined = λ q l w.
-      ⊎_elim
-      (λ (e : q ≡ p). absurd (d (subst (Writes program i) e w)))
-      (λ (n : q ≡ p → ⊥). h.joined q (omega arith) w)
-      (cases_eq q p);
+  joined = λ q l w. h.joined q (short_of (Writes program i) p q l d w) w;
   rest = λ s n. h.rest s (λ q l w. n q (omega arith) w);
   spaces = h.spaces;
 }
@@ -69,10 +66,9 @@ module _ (program : Program) (connected : IsConnected program) (i p : ℕ) (port
   joined_more s e q q' at from from_is joins room = record {
     len = length-set now s q' ∙ h.len;
     joined = λ r l wr.
-        ⊎_elim
-        (λ (g : r ≡ p). subst (λ x. queue_at (slice_set now s q') (f x) ≡ queue_at old (f x) ++ drop (slice_index taken_list (f x) + length (queue_at old (f x))) (carried ports x)) (sym g) here)
-        (λ (n : r ≡ p → ⊥). queue_else now s q q' at (f r) (λ z. n (connected.writes_one i r p wr w (z ∙ e))) ∙ h.joined r (omega arith) wr)
-        (cases_eq r p);
+        is_or (λ x. queue_at (slice_set now s q') (f x) ≡ queue_at old (f x) ++ drop (slice_index taken_list (f x) + length (queue_at old (f x))) (carried ports x)) p r
+        here
+        (λ n. queue_else now s q q' at (f r) (λ z. n (connected.writes_one i r p wr w (z ∙ e))) ∙ h.joined r (omega arith) wr);
     rest = λ t n. queue_else now s q q' at t (λ z. n p (omega arith) w (sym e ∙ sym z)) ∙ h.rest t (λ r l wr. n r (omega arith) wr);
     spaces = λ t. let a = h.spaces t in let b = space_more now s q q' at room t in omega arith;
   }
@@ -122,21 +118,14 @@ taken_skip program i p ports limits old now taken_old taken_now offered_old offe
   queues_len = h.queues_len;
   taken_len = h.taken_len;
   offered_len = h.offered_len;
-  took = λ q l r. h.took q (less q l r) r;
-  gave = λ q l r. h.gave q (less q l r) r;
-  rest = λ q l r. h.rest q (less q l r) r;
+  took = λ q l r. h.took q (short_of (Reads program i) p q l d r) r;
+  gave = λ q l r. h.gave q (short_of (Reads program i) p q l d r) r;
+  rest = λ q l r. h.rest q (short_of (Reads program i) p q l d r) r;
   others_taken = λ s n. h.others_taken s (λ q l r. n q (omega arith) r);
   others_given = λ s n. h.others_given s (λ q l r. n q (omega arith) r);
   others_wait = λ s n. h.others_wait s (λ q l r. n q (omega arith) r);
   spaces = h.spaces;
 }
-  where
-    less : (q : ℕ) → q < p + 1 → Reads program i q → q < p
-    less q l r =
-        ⊎_elim
-        (λ (e : q ≡ p). absurd (d (subst (Reads program i) e r)))
-        (λ (n : q ≡ p → ⊥). omega arith)
-        (cases_eq q p)
 
 module _ (program : Program) (connected : IsConnected program) (i p : ℕ) (ports : Ports) (limits : List ℕ) (old now : List Queue) (taken_old taken_now offered_old offered_now : List ℕ) (h : HasTaken program i p ports limits old now taken_old taken_now offered_old offered_now) (d : Reads program i p) where
   abbrev g : ℕ → ℕ
@@ -179,22 +168,19 @@ module _ (program : Program) (connected : IsConnected program) (i p : ℕ) (port
       taken_len = length-set taken_now s took ∙ h.taken_len;
       offered_len = length-set offered_now s limit ∙ h.offered_len;
       took = λ r l dr.
-          ⊎_elim
-          (λ (same : r ≡ p). subst (λ x. slice_index (slice_set taken_now s took) (g x) + length (waiting ports x) ≡ slice_index limits x) (sym same) (let a = taken_here in omega arith))
-          (λ (n : r ≡ p → ⊥). let a = taken_else (g r) (other r dr n) in let b = h.took r (omega arith) dr in omega arith)
-          (cases_eq r p);
+          is_or (λ x. slice_index (slice_set taken_now s took) (g x) + length (waiting ports x) ≡ slice_index limits x) p r
+          (let a = taken_here in omega arith)
+          (λ n. let a = taken_else (g r) (other r dr n) in let b = h.took r (omega arith) dr in omega arith);
       gave = λ r l dr.
-          ⊎_elim
-          (λ (same : r ≡ p). subst (λ x. slice_index (slice_set offered_now s limit) (g x) ≡ slice_index limits x) (sym same) (offered_here ∙ limit_is))
-          (λ (n : r ≡ p → ⊥). offered_else (g r) (other r dr n) ∙ h.gave r (omega arith) dr)
-          (cases_eq r p);
+          is_or (λ x. slice_index (slice_set offered_now s limit) (g x) ≡ slice_index limits x) p r
+          (offered_here ∙ limit_is)
+          (λ n. offered_else (g r) (other r dr n) ∙ h.gave r (omega arith) dr);
       rest = λ r l dr.
-          ⊎_elim
-          (λ (same : r ≡ p). subst (λ x. queue_at (slice_set now s q') (g x) ≡ drop (slice_index (slice_set taken_now s took) (g x) - slice_index taken_old (g x)) (queue_at old (g x))) (sym same) queue_now)
-          (λ (n : r ≡ p → ⊥).
+          is_or (λ x. queue_at (slice_set now s q') (g x) ≡ drop (slice_index (slice_set taken_now s took) (g x) - slice_index taken_old (g x)) (queue_at old (g x))) p r
+          queue_now
+          (λ n.
           queue_else now s q q' at (g r) (other r dr n) ∙ h.rest r (omega arith) dr
-          ∙ ap (λ z. drop (z - slice_index taken_old (g r)) (queue_at old (g r))) (sym (taken_else (g r) (other r dr n))))
-          (cases_eq r p);
+          ∙ ap (λ z. drop (z - slice_index taken_old (g r)) (queue_at old (g r))) (sym (taken_else (g r) (other r dr n))));
       others_taken = λ t n. taken_else t (λ z. n p (omega arith) d (sym e ∙ sym z)) ∙ h.others_taken t (λ r l dr. n r (omega arith) dr);
       others_given = λ t n. offered_else t (λ z. n p (omega arith) d (sym e ∙ sym z)) ∙ h.others_given t (λ r l dr. n r (omega arith) dr);
       others_wait = λ t n. queue_else now s q q' at t (λ z. n p (omega arith) d (sym e ∙ sym z)) ∙ h.others_wait t (λ r l dr. n r (omega arith) dr);

@@ -1,5 +1,6 @@
 -- What it is for an instance to be out with a batch of its ticks.
-use Rattle.std.specs.Prelude.{◌≡◌, ◌==◌, if◌then◌else◌, ◌⊎◌, Bool, true, ℕ, ◌+◌, ◌-◌, ◌*◌, ◌<◌, ◌≤◌, List, ◌++◌, length, flat_map, Option, Some, None, slice_get, slice_index}
+use Rattle.std.specs.Prelude.{◌≡◌, ◌==◌, if◌then◌else◌, ◌⊎◌, ◌+◌, ◌-◌, ◌*◌, ◌<◌, ◌≤◌, ◌++◌}
+use Rattle.std.specs.Prelude.{Bool, true, ℕ, List, length, flat_map, Option, Some, None, slice_get, slice_index}
 use Rattle.tapa_syntax.specs.declared.program.Program.{Program}
 use Rattle.tapa_syntax.specs.LeafKinds.{writes_of}
 use Rattle.tapa_syntax.specs.WellFormed.{IsWellFormed}
@@ -94,9 +95,8 @@ pub record HasSaid (net : Network) (k : ℕ → ℕ) (i made : ℕ) (f : ℕ →
   pub goes_on : (x ≡ SaysEnded → ⊥) → HasEnded net (with_ticks_of i made k) i → ⊥
   pub holds : (fed_by_self → ⊥) ⊎ ((made ≡ 0) ⊎ (IsLast x ⊎ (x ≡ Fuel))) → HoldsPause net (with_ticks_of i made k) i f x
 
--- an instance is out with a batch since the count `at`, at which it could make a step
-pub record IsBatchAt {B : Type 0} (Stands : B → Job → List Tick → Type 0) (program : Program) (input : Input) (budget : ℕ) (at : List ℕ) (i from fuel made : ℕ) (pause : Option Pause)
-    (ready : Bool) (body : B) (ports : Ports) (limits : List ℕ) : Type 0 where
+-- instance i goes out at the count `at`, at which it could make a step, with this fuel
+pub record IsClaimed (program : Program) (input : Input) (budget : ℕ) (at : List ℕ) (i from fuel : ℕ) (limits : List ℕ) : Type 0 where
   pub connected : IsConnected program
   pub network : IsNetworkOf program input
   pub well_formed : IsWellFormed program
@@ -104,11 +104,17 @@ pub record IsBatchAt {B : Type 0} (Stands : B → Job → List Tick → Type 0) 
   pub allowed : IsAllowed (network_on program input) (count_of at) i
   pub inside : i < length program.instances.items
   pub begins : from ≡ count_of at i
-  pub within : made ≤ fuel
   pub few : budget ≤ 1000000000000
   pub capped : from + fuel ≤ budget
-  pub ends : ends_of ports ≡ ends_at program i
   pub limits_len : length limits ≡ arity program i
+
+-- an instance is out with a batch that was claimed so, and has made some ticks
+pub record IsBatchAt {B : Type 0} (Stands : B → Job → List Tick → Type 0) (program : Program) (input : Input) (budget : ℕ) (at : List ℕ) (i from fuel made : ℕ) (pause : Option Pause)
+    (ready : Bool) (body : B) (ports : Ports) (limits : List ℕ) : Type 0 where
+  pub claimed : IsClaimed program input budget at i from fuel limits
+  pub open claimed use *
+  pub within : made ≤ fuel
+  pub ends : ends_of ports ≡ ends_at program i
   pub spaces : (p : ℕ) → Reads program i p → 2 * depth_of program (stream_at program i p) ≤ space_at ports p
   pub run : HasRun (Stands body (instance_job program input i)) (network_on program input) (count_of at) i (instance_job program input i).behavior (stream_at program i) (Reads program i)
       (Writes program i) limits made ports

@@ -1,11 +1,9 @@
 -- What a case holds at its count.
-use Rattle.std.specs.Prelude.{◌≡◌, ◌⊎◌, ℕ, ◌*◌, ◌≤◌, ◌<◌, Bool, true, false, List, length, map, drop, take, is_none, Option, Some, None, slice_get, slice_index}
+use Rattle.std.specs.Prelude.{◌≡◌, ◌⊎◌, ℕ, ◌*◌, ◌≤◌, ◌<◌, Bool, true, false, List, length, map, drop, take, is_none, Option, Some, slice_get, slice_index}
 use Rattle.tapa_syntax.specs.declared.program.Program.{Program}
-use Rattle.tapa_syntax.specs.WellFormed.{IsWellFormed}
 use Rattle.kahn_model.specs.declared.tick.Tick.{Tick}
 use Rattle.kahn_model.specs.Network.{Network}
 use Rattle.kahn_model.specs.Counts.{written, taken, IsAllowed, IsReachable, HasEnded}
-use Rattle.kahn_model.specs.Fits.{FitsInput}
 use Rattle.kahn_model.specs.Outcome.{IsCapped, IsJoined, joined_ticks}
 use Rattle.net_core.specs.declared.body.Pause.{Pause}
 use Rattle.net_core.specs.declared.body.Pause.TheVariants.{Ended, Fuel}
@@ -13,9 +11,9 @@ use Rattle.net_core.specs.declared.input.Input.{Input}
 use Rattle.net_core.specs.declared.ports.Ports.{Ports}
 use Rattle.net_core.specs.Job.{Job}
 use Rattle.net_core.specs.Ports.{waiting, carried, space_at, ends_of}
-use Rattle.net_core.specs.Bindings.{IsConnected, ends_at, stream_at, depth_of, arity, Reads, Writes, producer_of, IsWriter, TellsFedBySelf}
-use Rattle.net_core.specs.Bounded.{network_on, count_of, scalars_of, memories_of, IsNetworkOf, IsBodyAt}
-use Rattle.net_core.specs.Waits.{HoldsPause, HasHeld}
+use Rattle.net_core.specs.Bindings.{ends_at, stream_at, depth_of, arity, Reads, Writes}
+use Rattle.net_core.specs.Bounded.{network_on, count_of, IsGiven, AreBound, HaveAnswered, IsBodyAt}
+use Rattle.net_core.specs.Waits.{HoldsPause}
 use Rattle.net_case.specs.declared.batch.Process.{Process}
 use Rattle.net_case.specs.declared.queue.Queue.{Queue}
 use Rattle.net_case.specs.Queue.{waits, space}
@@ -61,36 +59,36 @@ pub record IsHeldBack (net : Network) (budget : ℕ) (k : ℕ → ℕ) (i : ℕ)
 abbrev pub IsAtRest : Network → ℕ → (ℕ → ℕ) → ℕ → (ℕ → ℕ) → List (Option Pause) → Type 0
 IsAtRest net budget k i f pauses = (x : Pause) × (slice_get pauses i ≡ Some (Some x)) × (IsQuiet net k i f x ⊎ IsHeldBack net budget k i x)
 
-pub record IsCaseAt {B : Type 0} (Stands : B → Job → List Tick → Type 0) (program : Program) (input : Input) (budget : ℕ) (homes : List (Option (Process B))) (queues : List Queue)
-    (taken_list offered counts : List ℕ) (pauses : List (Option Pause)) (listed : List Bool) (joined : ℕ) (writers : List ℕ) (fed_by_self : List Bool) : Type 0 where
-  pub connected : IsConnected program
-  pub network : IsNetworkOf program input
-  pub well_formed : IsWellFormed program
-  pub fits : FitsInput program (scalars_of input) (memories_of input)
+-- the streams of a case at a count within a budget
+pub record AreStreamsAt (program : Program) (input : Input) (budget : ℕ) (queues : List Queue) (taken_list offered counts : List ℕ) : Type 0 where
+  pub given : IsGiven program input
+  pub open given use *
   pub reachable : IsReachable (network_on program input) (count_of counts)
   pub capped : IsCapped (network_on program input) budget (count_of counts)
   pub few : budget ≤ 1000000000000
-  pub homes_len : length homes ≡ length program.instances.items
   pub queues_len : length queues ≡ length program.streams.items
   pub taken_len : length taken_list ≡ length program.streams.items
   pub offered_len : length offered ≡ length program.streams.items
-  pub counts_len : length counts ≡ length program.instances.items
-  pub pauses_len : length pauses ≡ length program.instances.items
-  pub listed_len : length listed ≡ length program.instances.items
-  pub writers_len : length writers ≡ length program.streams.items
-  pub fed_len : length fed_by_self ≡ length program.instances.items
   pub streams : (s : ℕ) (q : Queue) → slice_get queues s ≡ Some q → IsStreamAt program (network_on program input) (count_of counts) s q (slice_index taken_list s) (slice_index offered s)
-  pub home : (i : ℕ) (x : Process B) → slice_get homes i ≡ Some (Some x) → IsHome Stands program input counts taken_list offered i x.body x.ports x.limits.items
-  -- what an instance answered last was true once; no tick was made before the first answer; and who has ended has answered so
-  pub paused : (i : ℕ) (x : Pause) → slice_get pauses i ≡ Some (Some x) → HasHeld (network_on program input) (count_of counts) i (stream_at program i) x
-  pub unresumed : (i : ℕ) → slice_get pauses i ≡ Some None → count_of counts i ≡ 0
+
+-- a case is at its count
+pub record IsCaseAt {B : Type 0} (Stands : B → Job → List Tick → Type 0) (program : Program) (input : Input) (budget : ℕ) (homes : List (Option (Process B))) (queues : List Queue)
+    (taken_list offered counts : List ℕ) (pauses : List (Option Pause)) (listed : List Bool) (joined : ℕ) (writers : List ℕ) (fed_by_self : List Bool) : Type 0 where
+  pub at : AreStreamsAt program input budget queues taken_list offered counts
+  pub open at use *
+  pub bound : AreBound program writers fed_by_self
+  pub open bound use *
+  pub answered : HaveAnswered program input counts pauses
+  pub open answered use *
+  -- who has ended has answered so
   pub unended : (i : ℕ) → i < length program.instances.items → (slice_get pauses i ≡ Some (Some Ended) → ⊥) → HasEnded (network_on program input) (count_of counts) i → ⊥
+  pub homes_len : length homes ≡ length program.instances.items
+  pub listed_len : length listed ≡ length program.instances.items
+  pub home : (i : ℕ) (x : Process B) → slice_get homes i ≡ Some (Some x) → IsHome Stands program input counts taken_list offered i x.body x.ports x.limits.items
   -- who is at home and is not listed makes no step
   pub rest : (i : ℕ) (x : Process B) → slice_get homes i ≡ Some (Some x) → slice_get listed i ≡ Some false
       → IsAtRest (network_on program input) budget (count_of counts) i (stream_at program i) pauses
   pub joined_is : joined ≡ joined_ticks (network_on program input) (count_of counts)
-  pub writer_is : (s : ℕ) → s < length program.streams.items → IsWriter program s (producer_of program s) (slice_index writers s)
-  pub fed : (i : ℕ) (b : Bool) → slice_get fed_by_self i ≡ Some b → TellsFedBySelf program i b
 
 -- there is room for all bodies and ports where they are put together again
 pub record IsReadyFor (program : Program) (bodies ports body_room port_room : ℕ) : Type 0 where

@@ -43,7 +43,18 @@ impl<B: Body> Model for Batch<B> {
 
     ghost coded = { Prim.hlevel (codes, stmt.the_row.coded, expr.the_row.coded) };
 
-    ghost view = { λ b. record { program = b.program.value; input = b.input.value; budget = b.budget; instance = b.instance; at = b.at.value.items; from = b.from; fuel = b.fuel; made = b.made; pause = b.pause; ready = b.ready } };
+    ghost view = { λ b. record {
+      program = b.program.value;
+      input = b.input.value;
+      budget = b.budget;
+      instance = b.instance;
+      at = b.at.value.items;
+      from = b.from;
+      fuel = b.fuel;
+      made = b.made;
+      pause = b.pause;
+      ready = b.ready;
+    } };
 
     ghost invariant = { λ b. IsBatchAt B.stands b.program.value b.input.value b.budget b.at.value.items b.instance b.from b.fuel b.made b.pause b.ready
         b.process.body b.process.ports b.process.limits.items };

@@ -27,7 +27,7 @@ pub struct Case<B: Body> {
     pub offered: Vec<usize>,
     pub counts: Vec<u64>,
     pub pauses: Vec<Option<Pause>>,
-    /// Which instances may go on, as far as is known, and where the search for the next one begins.
+    /// The instances that are known to be able to continue, and the place where the search for the next one begins.
     pub listed: Vec<bool>,
     pub cursor: usize,
     /// The ticks of the instances that are waited for.

@@ -7,10 +7,9 @@ ghost use Rattle.net_case.specs.Commit.{IsFar};
 ghost use Rattle.net_case.specs.Claims.{Commits, MayCommit, kept_of};
 
 use crate::batch::Batch;
-use crate::bindings::{arity, consumer, producer, stream_at};
 use crate::case::Case;
 use crate::queue::Queue;
-use net_core::{Body, Pause, Ports, is_detached};
+use net_core::{Body, Pause, Ports, arity, consumer, is_detached, producer, stream_at};
 use tapa_syntax::Program;
 
 /// A batch whose instance has made ticks in the case since it went out, with the ticks that it has made there by now and those
@@ -163,15 +162,10 @@ impl<B: Body + Drop> Case<B> {
             pause,
             ready: _,
         } = batch;
-        take_over_written(
-            &self.program,
-            &mut self.queues,
-            &self.taken,
-            &process.ports,
-            i,
-        );
+        let program: &Program = &self.program;
+        take_over_written(program, &mut self.queues, &self.taken, &process.ports, i);
         take_over_taken(
-            &self.program,
+            program,
             &mut self.queues,
             &mut self.taken,
             &mut self.offered,
@@ -179,10 +173,10 @@ impl<B: Body + Drop> Case<B> {
             &process.limits,
             i,
         );
-        list(&self.program, &mut self.listed, i);
+        list(program, &mut self.listed, i);
         self.pace.count(made);
         self.counts[i] = from + made;
-        self.joined = sum_after(&self.program, i, self.joined, made);
+        self.joined = sum_after(program, i, self.joined, made);
         self.pauses[i] = kept(pause, self.pauses[i]);
         self.homes[i] = Some(process);
     }

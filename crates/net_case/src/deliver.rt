@@ -4,9 +4,8 @@ ghost use Rattle.net_core.specs.Ports.{carried, Adjusted};
 ghost use Rattle.net_core.specs.Bindings.{IsConnected, arity, stream_at, Reads};
 ghost use Rattle.net_case.specs.Deliver.{AreInOrder, IsDelivered};
 
-use crate::bindings::{depth, stream_at};
 use crate::queue::Queue;
-use net_core::Ports;
+use net_core::{Ports, depth, stream_at};
 use tapa_syntax::Program;
 
 // Gives one port the tokens that it has not, or the limit of its stream.

@@ -43,8 +43,9 @@ impl<B: Body + Drop> Case<B> {
         let Some(mut process) = self.homes[i].take() else {
             return None;
         };
+        let program: &Program = &self.program;
         let (may, pause) = look(
-            &self.program,
+            program,
             &self.queues,
             &self.taken,
             &mut self.offered,
@@ -52,7 +53,7 @@ impl<B: Body + Drop> Case<B> {
             i,
         );
         let from = self.counts[i];
-        let left = left_to(&self.program, i, self.budget, from, self.joined);
+        let left = left_to(program, i, self.budget, from, self.joined);
         self.listed[i] = false;
         if may && left > 0 {
             return Some(Batch {

@@ -4,7 +4,6 @@
 #![tactic(auto)]
 
 mod batch;
-mod bindings;
 mod case;
 mod case_state;
 mod claim;

@@ -12,12 +12,12 @@ pub struct Lot {
     pub at: [u64; 0],
     /// How many the batch's own instance had made then.
     pub from: u64,
-    /// How many more it may make.
+    /// The number of ticks that the instance can still make.
     pub fuel: u64,
     /// How many of them it has made.
     pub made: u64,
     /// The answer of the last resume.
     pub pause: Option<Pause>,
-    /// Whether there is memory for all that it may write.
+    /// Whether there is memory for everything that the instance can write.
     pub ready: bool,
 }

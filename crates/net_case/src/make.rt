@@ -11,11 +11,10 @@ ghost use Rattle.net_case.specs.State.{AreAllHome};
 ghost use Rattle.net_case.specs.Make.{HaveSameTokens, AreEmptyQueues, CanFill, AreFilled, AreLimits, AreReserved, IsSpare, AreBroughtHome};
 
 use crate::batch::Process;
-use crate::bindings::{arity, depth, producer, stream_at};
 use crate::case::Case;
 use crate::pace::Pace;
 use crate::queue::Queue;
-use net_core::{Body, Net, Ports};
+use net_core::{Body, Net, Ports, arity, depth, producer, stream_at};
 use std::alloc::Global;
 use tapa_base::OutOfMemory;
 use tapa_syntax::Program;
@@ -279,8 +278,8 @@ impl<B: Body + Drop> Case<B> {
         Case::of(alloc, net, budget, 0)
     }
 
-    /// A case of a net that was driven for some time, in which each instance was asked whether it may go on, and those that are waited for may
-    /// make `left` more ticks of the budget. It is as one of a new net.
+    /// Makes a case of a net that has run for some time and whose instances were all asked whether they can continue. The instances that are waited for can make
+    /// `left` more ticks of the budget. The case has the same properties as the case of a new net.
     pub fn again(
         alloc: Global,
         net: Net<B>,

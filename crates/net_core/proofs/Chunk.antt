@@ -104,7 +104,7 @@ is_step net ok k n i t ts inside r at room =
       refl,
     )
 
-get_past : {A : Type 0} (xs ys : List A) (x : A) → slice_get (xs ++ x ∷ ys) (length xs) ≡ Some x
+pub get_past : {A : Type 0} (xs ys : List A) (x : A) → slice_get (xs ++ x ∷ ys) (length xs) ≡ Some x
 get_past [] ys x = refl
 get_past (z ∷ xs) ys x = get_past xs ys x
 

@@ -18,28 +18,21 @@ use Rattle.kahn_model.specs.ProgramNetwork.{end_of, leaf_job, instance_job as pr
 use Rattle.kahn_model.specs.Start.{first_state, network_of}
 use Rattle.kahn_model.specs.Fits.{stream_kind}
 use Rattle.kahn_model.proofs.Wired.{KeepsAct, Keeps, body_keeps}
-use Rattle.kahn_model.proofs.WellFormed.{program_network}
+use Rattle.kahn_model.proofs.WellFormed.{program_network, end_there}
 use Rattle.net_core.specs.declared.input.Input.{Input}
 use Rattle.net_core.specs.Kinds.{kind_in}
 use Rattle.net_core.specs.Placement.{PutsAct, IsAt}
 use Rattle.net_core.specs.Bindings.{leaf_in, leaf_at, ends_in_leaf, ends_at, arity, arity_in, stream_in, stream_at, Reads, Writes, producer_of, consumer_of, depth_of, IsBuilt, IsLinked, IsWriter, IsReader, IsConnected}
 use Rattle.net_core.specs.Bounded.{scalars_of, memories_of, leaf_behavior, instance_job, IsNetworkOf}
-use Rattle.net_core.proofs.Moves.{has_item}
+use Rattle.tapa_base.proofs.Got.{some_at as has_item}
 
 either : {A : Type 0} (o : Option A) → (o ≡ None) ⊎ ((x : A) × (o ≡ Some x))
 either None = inl refl
 either (Some x) = inr (x, refl)
 
-end_there : (o : Option End) (b : Bool) → option_map (λ (e : End). e.writes) o ≡ Some b → (e : End) × (o ≡ Some e) × (e.writes ≡ b)
-end_there None b h = absurd (cc)
-end_there (Some e) b h = (e, refl, cc)
-
 pub ends_is : (program : Program) (i : ℕ) (x : Instance) (leaf : Leaf) → slice_get program.instances.items i ≡ Some x → slice_get program.bodies.items x.body ≡ Some leaf → ends_at program i ≡ leaf.streams.items
 unfolding ends_at
 ends_is program i x leaf is body = ap (λ o. ends_in_leaf (leaf_in program o)) is ∙ ap ends_in_leaf body
-
-same_leaf : (a b : Leaf) (o : Option Leaf) → o ≡ Some a → o ≡ Some b → a ≡ b
-same_leaf a b o e f = cc
 
 producer_is : (program : Program) (s : ℕ) (r : Stream) → slice_get program.streams.items s ≡ Some r → producer_of program s ≡ r.producer
 unfolding producer_of

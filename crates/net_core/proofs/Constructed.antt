@@ -23,6 +23,7 @@ use Rattle.tapa_syntax.specs.WellFormed.{IsWellFormed}
 use Rattle.kahn_model.specs.Fits.{FitsInput}
 use Rattle.net_core.specs.Bindings.{IsConnected, ends_at, stream_at, producer_of, IsWriter, TellsFedBySelf}
 use Rattle.net_core.specs.Bounded.{scalars_of, memories_of, network_on, instance_job, IsNetworkOf, count_of, IsNetAt}
+use Rattle.net_core.proofs.Moves.{replicated}
 
 -- what holds at each index of a list and of one more element
 pub get_push : {A X : Type 0} (f : Option A → X) (xs : List A) (y : A) (P : ℕ → X → Type 0) → ((i : ℕ) → i < length xs → P i (f (slice_get xs i))) → P (length xs) (f (Some y)) → (i : ℕ) → i < length xs + 1 → P i (f (slice_get (xs ++ y ∷ []) i))
@@ -80,38 +81,27 @@ writer_push program xs zs y e h g s l = subst (λ v. IsWriter program s (produce
 
 pub first_net : {B : Type 0} (Stands : B → Job → List Tick → Type 0) (program : Program) (input : Input) → IsConnected program → IsNetworkOf program input → IsWellFormed program → FitsInput program (scalars_of input) (memories_of input) → (bodies : List B) (ports : List Ports) (writers offered taken_list : List ℕ) (fed : List Bool) (counts : List ℕ) (pauses : List (Option Pause)) → length bodies ≡ length program.instances.items → length ports ≡ length program.instances.items → length counts ≡ length program.instances.items → length pauses ≡ length program.instances.items → length writers ≡ length program.streams.items → length offered ≡ length program.streams.items → length taken_list ≡ length program.streams.items → ((i : ℕ) (b : B) → slice_get bodies i ≡ Some b → Stands b (instance_job program input i) []) → ((i : ℕ) → i < length program.instances.items → ends_in ports i ≡ ends_at program i) → ((i p : ℕ) → carried_of ports i p ≡ []) → ((s : ℕ) → s < length program.streams.items → IsWriter program s (producer_of program s) (slice_index writers s)) → ((s : ℕ) → slice_index taken_list s ≡ 0) → ((s : ℕ) → slice_index offered s ≡ 0) → ((i p : ℕ) → waiting_of ports i p ≡ []) → length fed ≡ length program.instances.items → ((i : ℕ) (b : Bool) → slice_get fed i ≡ Some b → TellsFedBySelf program i b) → ((i : ℕ) (x : Pause) → slice_get pauses i ≡ Some (Some x) → ⊥) → zeros ≡ count_of counts → IsNetAt Stands program input bodies ports writers offered taken_list fed counts pauses
 first_net Stands program input connected network well fits bodies ports writers offered taken_list fed counts pauses lb lp lc lu lw lo lt first ends none wr tz oz wz lf ft unpaused z = record {
-  connected = connected;
-  network = network;
-  well_formed = well;
-  fits = fits;
+  given = record { connected = connected; network = network; well_formed = well; fits = fits };
+  bound = record { writers_len = lw; writer_is = wr; fed_len = lf; fed = ft };
+  answered = record { counts_len = lc; pauses_len = lu; paused = λ i x e. absurd (unpaused i x e); unresumed = λ i e. sym (ap (λ m. m i) z) };
   reachable = subst (IsReachable (network_on program input)) z (record { steps = []; allowed = tt; is_after = λ i. refl });
   bodies_len = lb;
   ports_len = lp;
-  counts_len = lc;
-  pauses_len = lu;
-  writers_len = lw;
   offered_len = lo;
   taken_len = lt;
-  unresumed = λ i e. sym (ap (λ m. m i) z);
   standing = λ i b e. record { ticks = []; stands = first i b e; count = ap (λ m. m i) z; tests = 0; runs = tt };
   ends = ends;
   carries = λ i p l d. none i p ∙ ap (λ m. written (network_on program input) m (stream_at program i p)) z;
   took = λ s l. tz s ∙ ap (λ m. length (taken (network_on program input) m s)) z;
-  writer_is = wr;
   queued = record {
     waits = λ i p l d. wz i p ∙ sym (ap (λ n. drop n (take (slice_index offered (stream_at program i p)) (written (network_on program input) (count_of counts) (stream_at program i p)))) (tz (stream_at program i p)) ∙ ap (λ n. take n (written (network_on program input) (count_of counts) (stream_at program i p))) (oz (stream_at program i p)));
     offered_within = λ s l. let e = oz s in omega arith;
     taken_within = λ s l. let e = tz s in omega arith;
   };
-  fed_len = lf;
-  fed = ft;
-  paused = λ i x e. absurd (unpaused i x e);
 }
 
 pub not_some : (n i : ℕ) (x : Pause) → slice_get (no_pauses n) i ≡ Some (Some x) → ⊥
-not_some zero i x e = cc
-not_some (suc n) zero x e = cc
-not_some (suc n) (suc i) x e = not_some n i x e
+not_some n i x e = let q = replicated n i None (Some x) e in cc
 
 pub fed_push : (program : Program) (xs zs : List Bool) (y : Bool) → zs ≡ xs ++ y ∷ [] → ((i : ℕ) (b : Bool) → i < length xs → slice_get xs i ≡ Some b → TellsFedBySelf program i b) → TellsFedBySelf program (length xs) y → (i : ℕ) (b : Bool) → i < length zs → slice_get zs i ≡ Some b → TellsFedBySelf program i b
 fed_push program xs zs y e h g i b l at = each_push xs zs y (TellsFedBySelf program) e (λ n c k. h n c (slice_get_within xs n c k) k) g i b at

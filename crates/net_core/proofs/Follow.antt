@@ -31,7 +31,7 @@ pub prefix_of_append : {A : Type 0} (xs ys : List A) → IsPrefixOf xs (xs ++ ys
 prefix_of_append [] ys = tt
 prefix_of_append (x ∷ xs) ys = (refl, prefix_of_append xs ys)
 
-prefix_unappend : {A : Type 0} (xs ys zs : List A) → IsPrefixOf (xs ++ ys) (xs ++ zs) → IsPrefixOf ys zs
+pub prefix_unappend : {A : Type 0} (xs ys zs : List A) → IsPrefixOf (xs ++ ys) (xs ++ zs) → IsPrefixOf ys zs
 prefix_unappend [] ys zs p = p
 prefix_unappend (x ∷ xs) ys zs (e, p) = prefix_unappend xs ys zs p
 
@@ -57,7 +57,7 @@ step_do a r ins = (refl, refl)
 pub step_end : (ins : ℕ → List Token) → (ticks_left (Still Finished) ins ≡ End ∷ ticks_left Over (left (End ∷ []) ins)) × (trace_end_left (Still Finished) ins ≡ trace_end_left Over (left (End ∷ []) ins))
 step_end ins = (refl, refl)
 
-first_is : (how : StreamOperation) (x t : Token) (v : ℕ) → judge_token how x ≡ Answer t v → x ≡ t
+pub first_is : (how : StreamOperation) (x t : Token) (v : ℕ) → judge_token how x ≡ Answer t v → x ≡ t
 first_is Read (Datum w) t v e = cc
 first_is Read Eot t v e = cc
 first_is Peek (Datum w) t v e = cc

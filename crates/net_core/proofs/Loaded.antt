@@ -1,7 +1,7 @@
 -- Filled ports.
-use Rattle.std.proofs.Common.{◌≡◌, ℕ, zero, suc, ◌+◌, ◌-◌, ◌<◌, ◌≤◌, List, [], ◌∷◌, ◌++◌, length, drop, Bool, true, false, Some, refl, sym, ap, ◌∙◌, subst, ⊎_elim, arith}
+use Rattle.std.proofs.Common.{◌≡◌, ℕ, zero, suc, ◌+◌, ◌-◌, ◌<◌, List, [], ◌∷◌, ◌++◌, length, drop, Bool, true, false, Some, refl, sym, ap, ◌∙◌, subst, ⊎_elim, arith}
 use Rattle.std.specs.Prelude.{replicate, slice_get, slice_index, slice_set}
-use Rattle.std.proofs.lemmas.Bool.{cases_lt, cases_eq}
+use Rattle.std.proofs.lemmas.Bool.{cases_eq}
 use Rattle.tapa_syntax.specs.declared.program.Program.{Program}
 use Rattle.net_core.specs.declared.ports.Ports.{Ports}
 use Rattle.tapa_base.specs.declared.token.Token.{Token}
@@ -9,10 +9,12 @@ use Rattle.kahn_model.specs.Fits.{stream_kind}
 use Rattle.net_core.specs.Kinds.{kind_in}
 use Rattle.net_core.specs.Ports.{carried, kind_at, port_count, ends_by, carried_by, IsReloaded, ends_in, carried_of, waiting_of, room_of}
 use Rattle.net_core.specs.Bindings.{IsConnected, IsWriter, arity, ends_at, arity_in, stream_at, stream_in, Reads, Writes, producer_of, consumer_of, depth_of}
-use Rattle.net_core.proofs.Moves.{has_item, get_set_other, port_count_is}
+use Rattle.net_core.proofs.Cases.{up_to}
+use Rattle.net_core.proofs.Moves.{get_set_other, replicated, port_count_is}
 use Rattle.net_core.specs.declared.ties.Tie.{Tie}
 use Rattle.net_core.specs.Ties.{IsTie}
 use Rattle.net_core.specs.Load.{IsIn, AreBelow, AreListed, AreKept, AreLoaded, IsLoaded, AreWoken, list_at, queue_at}
+use Rattle.tapa_base.proofs.Got.{some_at as has_item, last_at as get_last, got_left as get_append}
 
 pub in_streams : (program : Program) → IsConnected program → (i p : ℕ) → i < length program.instances.items → p < arity program i → stream_at program i p < length program.streams.items
 in_streams program connected i p inside l =
@@ -82,45 +84,24 @@ loaded_none program i a b w t o = record {
 pub loaded_more : (program : Program) → IsConnected program → (i p : ℕ) → i < length program.instances.items → (a b c : List Ports) (w t o o' o'' : List ℕ) → AreKept a o b o' → AreLoaded program p i a w t b o' → IsReloaded b i p c → IsLoaded program i p b w t o' c o'' → AreLoaded program (p + 1) i a w t c o''
 loaded_more program connected i p inside a b c w t o o' o'' k h r f = record {
   waits = λ q l d.
-      ⊎_elim
-      (λ (e : q < p). r.waits q (λ x. omega arith) ∙ h.waits q e d)
-      (λ (e : p ≤ q). let same : p ≡ q = omega arith in
-      subst (λ x. Reads program i x → waiting_of c i x ≡ queue_at program a w t (stream_at program i x)) same
-      (λ d'. f.waits d' ∙ ap (drop (slice_index t (stream_at program i p))) (k.carries (producer_of program (stream_at program i p)) (slice_index w (stream_at program i p)))) d)
-      (cases_lt q p);
+      up_to (λ x. Reads program i x → waiting_of c i x ≡ queue_at program a w t (stream_at program i x)) p q l
+      (λ e d'. r.waits q (λ x. omega arith) ∙ h.waits q e d')
+      (λ d'. f.waits d' ∙ ap (drop (slice_index t (stream_at program i p))) (k.carries (producer_of program (stream_at program i p)) (slice_index w (stream_at program i p)))) d;
   offers = λ q l d.
-      ⊎_elim
-      (λ (e : q < p). f.others (stream_at program i q) (λ d' x. let y = connected.reads_one i q p d d' x in omega arith) ∙ h.offers q e d)
-      (λ (e : p ≤ q). let same : p ≡ q = omega arith in
-      subst (λ x. Reads program i x → slice_index o'' (stream_at program i x) ≡ length (list_at program a w (stream_at program i x))) same
-      (λ d'. f.offers d' ∙ ap length (k.carries (producer_of program (stream_at program i p)) (slice_index w (stream_at program i p)))) d)
-      (cases_lt q p);
+      up_to (λ x. Reads program i x → slice_index o'' (stream_at program i x) ≡ length (list_at program a w (stream_at program i x))) p q l
+      (λ e dq. f.others (stream_at program i q) (λ d' x. let y = connected.reads_one i q p dq d' x in omega arith) ∙ h.offers q e dq)
+      (λ d'. f.offers d' ∙ ap length (k.carries (producer_of program (stream_at program i p)) (slice_index w (stream_at program i p)))) d;
   rooms = λ q l d.
-      ⊎_elim
-      (λ (e : q < p). r.rooms q (λ x. omega arith) ∙ h.rooms q e d)
-      (λ (e : p ≤ q). let same : p ≡ q = omega arith in
-      subst (λ x. Writes program i x → room_of c i x ≡ depth_of program (stream_at program i x) - (length (carried_of a i x) - slice_index t (stream_at program i x))) same
-      (λ d'. f.room d' ∙ ap (λ l. depth_of program (stream_at program i p) - (length l - slice_index t (stream_at program i p))) (k.carries i p)) d)
-      (cases_lt q p);
+      up_to (λ x. Writes program i x → room_of c i x ≡ depth_of program (stream_at program i x) - (length (carried_of a i x) - slice_index t (stream_at program i x))) p q l
+      (λ e d'. r.rooms q (λ x. omega arith) ∙ h.rooms q e d')
+      (λ d'. f.room d' ∙ ap (λ l. depth_of program (stream_at program i p) - (length l - slice_index t (stream_at program i p))) (k.carries i p)) d;
 }
 
 -- what is collected at one more port
 pub took_more : (program : Program) → IsConnected program → (i p : ℕ) → i < length program.instances.items → (all : List Ports) (o t t' t'' : List ℕ) → ((q : ℕ) → q < p → Reads program i q → slice_index t' (stream_at program i q) ≡ slice_index o (stream_at program i q) - length (waiting_of all i q)) → (Reads program i p → slice_index t'' (stream_at program i p) ≡ slice_index o (stream_at program i p) - length (waiting_of all i p)) → ((s : ℕ) → (Reads program i p → s ≡ stream_at program i p → ⊥) → slice_index t'' s ≡ slice_index t' s) → (q : ℕ) → q < p + 1 → Reads program i q → slice_index t'' (stream_at program i q) ≡ slice_index o (stream_at program i q) - length (waiting_of all i q)
 took_more program connected i p inside all o t t' t'' h f g q l d =
-    ⊎_elim
-    (λ (e : q < p). g (stream_at program i q) (λ d' x. let y = connected.reads_one i q p d d' x in omega arith) ∙ h q e d)
-    (λ (e : p ≤ q). let same : p ≡ q = omega arith in
-    subst (λ x. Reads program i x → slice_index t'' (stream_at program i x) ≡ slice_index o (stream_at program i x) - length (waiting_of all i x)) same f d)
-    (cases_lt q p)
-
-get_append : {A : Type 0} (xs ys : List A) (n : ℕ) (x : A) → slice_get xs n ≡ Some x → slice_get (xs ++ ys) n ≡ Some x
-get_append [] ys n x e = cc
-get_append (z ∷ xs) ys zero x e = e
-get_append (z ∷ xs) ys (suc n) x e = get_append xs ys n x e
-
-get_last : {A : Type 0} (xs : List A) (x : A) → slice_get (xs ++ x ∷ []) (length xs) ≡ Some x
-get_last [] x = refl
-get_last (z ∷ xs) x = get_last xs x
+    up_to (λ x. Reads program i x → slice_index t'' (stream_at program i x) ≡ slice_index o (stream_at program i x) - length (waiting_of all i x)) p q l
+    (λ e dq. g (stream_at program i q) (λ d' x. let y = connected.reads_one i q p dq d' x in omega arith) ∙ h q e dq) f d
 
 pub in_more : (xs ys : List ℕ) (x : ℕ) → IsIn x xs → IsIn x (xs ++ ys)
 in_more xs ys x (n, e) = (n, get_append xs ys n x e)
@@ -141,15 +122,11 @@ woken_by program i p xs zs kept h = record { reader = λ d. kept _ (h.reader d);
 -- one more port's other end is on the list
 pub woken_more : (program : Program) (i p : ℕ) (xs zs : List ℕ) (y : ℕ) → ((x : ℕ) → IsIn x xs → IsIn x zs) → IsIn y zs → ((q : ℕ) → q < p → AreWoken program i q xs) → (Writes program i p → y ≡ consumer_of program (stream_at program i p)) → (Reads program i p → y ≡ producer_of program (stream_at program i p)) → (q : ℕ) → q < p + 1 → AreWoken program i q zs
 woken_more program i p xs zs y kept there h w r q l =
-    ⊎_elim
-    (λ (e : q < p). woken_by program i q xs zs kept (h q e))
-    (λ (e : p ≤ q). let same : p ≡ q = omega arith in
-    subst (λ x. AreWoken program i x zs) same
+    up_to (λ x. AreWoken program i x zs) p q l (λ e. woken_by program i q xs zs kept (h q e))
     (record {
       reader = λ d. subst (λ z. IsIn z zs) (w d) there;
       writer = λ d. subst (λ z. IsIn z zs) (r d) there;
-    }))
-    (cases_lt q p)
+    })
 
 -- an instance is listed
 pub listed_push : (listed listed' : List Bool) (xs zs : List ℕ) (j : ℕ) → AreListed listed xs → listed' ≡ slice_set listed j true → zs ≡ xs ++ j ∷ [] → AreListed listed' zs
@@ -161,23 +138,13 @@ listed_push listed listed' xs zs j h el ez x e =
     (cases_eq j x))
 
 pub all_push : (i : ℕ) (xs : List ℕ) → ((j : ℕ) → j < i → IsIn j xs) → (j : ℕ) → j < i + 1 → IsIn j (xs ++ i ∷ [])
-all_push i xs h j l =
-    ⊎_elim
-    (λ (e : j < i). in_more xs (i ∷ []) j (h j e))
-    (λ (e : i ≤ j). let same : i ≡ j = omega arith in subst (λ z. IsIn z (xs ++ i ∷ [])) same (in_last xs i))
-    (cases_lt j i)
+all_push i xs h j l = up_to (λ z. IsIn z (xs ++ i ∷ [])) i j l (λ e. in_more xs (i ∷ []) j (h j e)) (in_last xs i)
 
 -- one more item of a list is on another
 pub all_more : (near xs zs : List ℕ) (n y : ℕ) → slice_get near n ≡ Some y → ((x : ℕ) → IsIn x xs → IsIn x zs) → IsIn y zs → ((m x : ℕ) → m < n → slice_get near m ≡ Some x → IsIn x xs) → (m x : ℕ) → m < n + 1 → slice_get near m ≡ Some x → IsIn x zs
 all_more near xs zs n y at kept there h m x l e =
-    ⊎_elim
-    (λ (q : m < n). kept x (h m x q e))
-    (λ (q : n ≤ m).
-    let same : m ≡ n = omega arith in
-    let here : slice_get near n ≡ Some x = subst (λ z. slice_get near z ≡ Some x) same e in
-    let is : y ≡ x = cc in
-    subst (λ z. IsIn z zs) is there)
-    (cases_lt m n)
+    up_to (λ k. slice_get near k ≡ Some x → IsIn x zs) n m l (λ q e'. kept x (h m x q e'))
+    (λ here. let is : y ≡ x = cc in subst (λ z. IsIn z zs) is there) e
 
 -- nothing is in an empty list
 pub none_in : {A : Type 0} (n : ℕ) (x : A) (l : List A) → l ≡ [] → slice_get l n ≡ Some x → ⊥
@@ -186,9 +153,7 @@ none_in n x (y ∷ l) e h = cc
 
 -- no instance is listed at first
 pub none_listed : (n x : ℕ) → slice_get (replicate n false) x ≡ Some true → ⊥
-none_listed zero x e = cc
-none_listed (suc n) zero e = cc
-none_listed (suc n) (suc x) e = none_listed n x e
+none_listed n x e = let q = replicated n x false true e in cc
 
 each_next : {A : Type 0} (xs : List A) (y : A) (P : ℕ → A → Type 0) → ((i : ℕ) (x : A) → slice_get xs i ≡ Some x → P i x) → P (length xs) y → (i : ℕ) (x : A) → slice_get (xs ++ y ∷ []) i ≡ Some x → P i x
 each_next [] y P h g zero x at = let q : y ≡ x = cc in subst (P 0) q g

@@ -1,11 +1,10 @@
 -- Ports after ticks.
-use Rattle.std.proofs.Common.{◌≡◌, ℕ, zero, suc, ◌+◌, ◌<◌, List, [], ◌∷◌, ◌++◌, length, map, drop, Some, refl, sym, ap, ◌∙◌, subst, ⊎_elim, arith, length-append, append_assoc}
-use Rattle.std.specs.Prelude.{◌≤◌, vec_capacity, slice_get, slice_set, flat_map, true, false, ◌==◌, if◌then◌else◌}
-use Rattle.std.proofs.lemmas.Bool.{cases_eq}
+use Rattle.std.proofs.Common.{◌≡◌, ℕ, zero, suc, ◌+◌, ◌<◌, List, [], ◌∷◌, ◌++◌, length, map, drop, Option, Some, None, refl, sym, ap, ◌∙◌, subst, ⊎_elim, arith, length-append, append_assoc}
+use Rattle.std.specs.Prelude.{◌≤◌, replicate, vec_capacity, slice_get, slice_set, flat_map, true, false, ◌==◌, if◌then◌else◌}
 use Rattle.std.proofs.lemmas.Bool.Decides.{nat_tests}
-use Rattle.std.proofs.lemmas.List.{append-nil, length-map, length-set}
+use Rattle.std.proofs.lemmas.List.{append-nil, drop-drop, length-map, length-set}
 use Rattle.std.proofs.lemmas.Option.{slice_get_within}
-use Rattle.std.proofs.lemmas.Grind.{common_steps, flat_map-append}
+use Rattle.std.proofs.lemmas.Grind.{flat_map-append}
 use Rattle.tapa_base.specs.declared.token.Token.{Token}
 use Rattle.kahn_model.specs.declared.tick.Tick.{Tick}
 use Rattle.kahn_model.specs.declared.tick.Tick.TheVariants.{Did, Take}
@@ -14,14 +13,11 @@ use Rattle.kahn_model.specs.Network.{put_on, take_from}
 use Rattle.net_core.specs.declared.port.Port.{Port}
 use Rattle.net_core.specs.declared.ports.Ports.{Ports}
 use Rattle.net_core.specs.Ports.{waiting_in, carried_in, room_in, held_in, space_in, waiting, carried, room_at, space_at, port_count, ends_of, Moved, Adjusted, ends_by, carried_by, waiting_by, room_by, ends_in, carried_of, IsReloaded}
+use Rattle.std.proofs.lemmas.Bool.{cases_eq}
+use Rattle.net_core.proofs.Cases.{at_or}
 
 pub drop_sum : {A : Type 0} (m n q : ℕ) (xs : List A) → q ≡ m + n → drop n (drop m xs) ≡ drop q xs
-drop_sum zero n q xs e = ap (λ k. drop k xs) (omega arith)
-drop_sum (suc m) zero q [] e = grind (arith, common_steps)
-drop_sum (suc m) (suc n) zero [] e = refl
-drop_sum (suc m) (suc n) (suc q) [] e = refl
-drop_sum (suc m) n zero (x ∷ xs) e = absurd (omega arith)
-drop_sum (suc m) n (suc q) (x ∷ xs) e = drop_sum m n q xs (omega arith)
+drop_sum m n q xs e = drop-drop n m xs ∙ ap (λ k. drop k xs) (sym e)
 
 pub moved_none : (a b : Ports) → a ≡ b → Moved a [] b
 moved_none a b e = subst (Moved a []) e (record { ends = refl; waits = λ p. refl; puts = λ p. sym (append-nil (carried a p)); rooms = λ p. omega arith; spaces = λ p. omega arith })
@@ -54,11 +50,6 @@ moved_still a b t ht hp h = record {
   spaces = h.spaces;
 }
 
-pub has_item : {A : Type 0} (xs : List A) (i : ℕ) → i < length xs → (x : A) × (slice_get xs i ≡ Some x)
-has_item [] i h = absurd (omega arith)
-has_item (x ∷ xs) zero h = (x, refl)
-has_item (x ∷ xs) (suc i) h = has_item xs i (omega arith)
-
 pub get_set_same : {A : Type 0} (xs : List A) (i : ℕ) (y : A) → i < length xs → slice_get (slice_set xs i y) i ≡ Some y
 get_set_same [] i y h = absurd (omega arith)
 get_set_same (x ∷ xs) zero y h = refl
@@ -70,6 +61,31 @@ get_set_other (x ∷ xs) zero zero y h = absurd (h refl)
 get_set_other (x ∷ xs) zero (suc j) y h = refl
 get_set_other (x ∷ xs) (suc i) zero y h = refl
 get_set_other (x ∷ xs) (suc i) (suc j) y h = get_set_other xs i j y (λ e. h (ap suc e))
+
+-- what is in a list after some value was written there
+pub set_same : {A : Type 0} (xs : List A) (i j : ℕ) (y z : A) → slice_get (slice_set xs i y) j ≡ Some z → j ≡ i → y ≡ z
+set_same xs i j y z e q =
+    let l = length-set xs i y in
+    let w = slice_get_within (slice_set xs i y) j z e in
+    let at : slice_get (slice_set xs i y) j ≡ Some y = ap (slice_get (slice_set xs i y)) q ∙ get_set_same xs i y (omega arith) in
+    cc
+
+pub set_some : {A : Type 0} (P : ℕ → A → Type 0) (xs : List (Option A)) (i j : ℕ) (y z : A) → P i y → ((j ≡ i → ⊥) → slice_get xs j ≡ Some (Some z) → P j z) → slice_get (slice_set xs i (Some y)) j ≡ Some (Some z) → P j z
+set_some P xs i j y z here other e =
+    ⊎_elim
+    (λ (q : j ≡ i). let some = set_same xs i j (Some y) (Some z) e q in let same : y ≡ z = cc in subst (λ n. P n z) (sym q) (subst (P i) same here))
+    (λ (d : j ≡ i → ⊥). other d (sym (get_set_other xs i j (Some y) (λ q. d (sym q))) ∙ e))
+    (cases_eq j i)
+
+pub set_none : {A : Type 0} (xs : List (Option A)) (i j : ℕ) (y : A) → slice_get (slice_set xs i (Some y)) j ≡ Some None → (j ≡ i → ⊥) × (slice_get xs j ≡ Some None)
+set_none xs i j y e =
+    let d : j ≡ i → ⊥ = λ q. let some = set_same xs i j (Some y) None e q in cc in
+    (d, sym (get_set_other xs i j (Some y) (λ q. d (sym q))) ∙ e)
+
+pub replicated : {A : Type 0} (n i : ℕ) (x y : A) → slice_get (replicate n x) i ≡ Some y → x ≡ y
+replicated zero i x y e = cc
+replicated (suc n) zero x y e = cc
+replicated (suc n) (suc i) x y e = replicated n i x y e
 
 pub test_true : (s p : ℕ) → s ≡ p → (s == p) ≡ true
 test_true s p e = grind (arith, nat_tests)
@@ -99,11 +115,9 @@ map_set f (x ∷ xs) (suc s) q r e h = ap (λ l. f x ∷ l) (map_set f xs s q r 
 space_kept : (a b : Ports) (s : ℕ) (q r : Port) → slice_get a.ports.items s ≡ Some q → b.ports.items ≡ slice_set a.ports.items s r → r.tokens ≡ q.tokens → (p : ℕ) → space_at a p ≤ space_at b p
 space_kept a b s q r eq eb et p =
     let same : space_at b p ≡ space_at a p =
-    ⊎_elim
-    (λ (e : s ≡ p). subst (λ x. space_at b x ≡ space_at a x) e
-    (ap space_in (ap (λ l. slice_get l s) eb ∙ get_set_same a.ports.items s r (slice_get_within a.ports.items s q eq)) ∙ ap vec_capacity et ∙ ap space_in (sym eq)))
-    (λ (d : s ≡ p → ⊥). ap space_in (ap (λ l. slice_get l p) eb ∙ get_set_other a.ports.items s p r d))
-    (cases_eq s p)
+    at_or (λ x. space_at b x ≡ space_at a x) s p
+    (ap space_in (ap (λ l. slice_get l s) eb ∙ get_set_same a.ports.items s r (slice_get_within a.ports.items s q eq)) ∙ ap vec_capacity et ∙ ap space_in (sym eq))
+    (λ d. ap space_in (ap (λ l. slice_get l p) eb ∙ get_set_other a.ports.items s p r d))
     in
     omega arith
 
@@ -112,32 +126,26 @@ pub moved_take : (a b : Ports) (s : ℕ) (t : Token) (q r : Port) → slice_get 
 moved_take a b s t q r eq eb ee et eh ec er = record {
   ends = ap (map (λ (p : Port). p.end)) eb ∙ map_set (λ (p : Port). p.end) a.ports.items s q r eq ee;
   waits = λ p.
-      ⊎_elim
-      (λ (e : s ≡ p). subst (λ x. waiting b x ≡ drop (length (flat_map (take_from x) (Take s t ∷ []))) (waiting a x)) e
+      at_or (λ x. waiting b x ≡ drop (length (flat_map (take_from x) (Take s t ∷ []))) (waiting a x)) s p
       (ap waiting_in (ap (λ l. slice_get l s) eb ∙ get_set_same a.ports.items s r there)
       ∙ ap (λ x. drop r.head x.items) et ∙ ap (λ n. drop n q.tokens.items) eh
       ∙ sym (drop_sum q.head 1 (q.head + 1) q.tokens.items refl)
       ∙ ap (λ o. drop 1 (waiting_in o)) (sym eq)
-      ∙ ap (λ (l : List Token). drop (length l) (waiting a s)) (sym (took_same s t))))
-      (λ (d : s ≡ p → ⊥).
+      ∙ ap (λ (l : List Token). drop (length l) (waiting a s)) (sym (took_same s t)))
+      (λ d.
       ap waiting_in (ap (λ l. slice_get l p) eb ∙ get_set_other a.ports.items s p r d)
-      ∙ ap (λ (l : List Token). drop (length l) (waiting a p)) (sym (took_other s p t d)))
-      (cases_eq s p);
+      ∙ ap (λ (l : List Token). drop (length l) (waiting a p)) (sym (took_other s p t d)));
   puts = λ p.
-      ⊎_elim
-      (λ (e : s ≡ p). subst (λ x. carried b x ≡ carried a x ++ []) e
+      at_or (λ x. carried b x ≡ carried a x ++ []) s p
       (ap carried_in (ap (λ l. slice_get l s) eb ∙ get_set_same a.ports.items s r there)
-      ∙ ap (λ x. x.items) ec ∙ ap carried_in (sym eq) ∙ sym (append-nil (carried a s))))
-      (λ (d : s ≡ p → ⊥).
-      ap carried_in (ap (λ l. slice_get l p) eb ∙ get_set_other a.ports.items s p r d) ∙ sym (append-nil (carried a p)))
-      (cases_eq s p);
+      ∙ ap (λ x. x.items) ec ∙ ap carried_in (sym eq) ∙ sym (append-nil (carried a s)))
+      (λ d.
+      ap carried_in (ap (λ l. slice_get l p) eb ∙ get_set_other a.ports.items s p r d) ∙ sym (append-nil (carried a p)));
   rooms = λ p.
       let h : room_at b p ≡ room_at a p =
-      ⊎_elim
-      (λ (e : s ≡ p). subst (λ x. room_at b x ≡ room_at a x) e
-      (ap room_in (ap (λ l. slice_get l s) eb ∙ get_set_same a.ports.items s r there) ∙ er ∙ ap room_in (sym eq)))
-      (λ (d : s ≡ p → ⊥). ap room_in (ap (λ l. slice_get l p) eb ∙ get_set_other a.ports.items s p r d))
-      (cases_eq s p)
+      at_or (λ x. room_at b x ≡ room_at a x) s p
+      (ap room_in (ap (λ l. slice_get l s) eb ∙ get_set_same a.ports.items s r there) ∙ er ∙ ap room_in (sym eq))
+      (λ d. ap room_in (ap (λ l. slice_get l p) eb ∙ get_set_other a.ports.items s p r d))
       in
       omega arith;
   spaces = space_kept a b s q r eq eb et;
@@ -150,33 +158,27 @@ pub moved_put : (a b : Ports) (s : ℕ) (t : Token) (q r : Port) → slice_get a
 moved_put a b s t q r eq eb ee et eh ec er = record {
   ends = ap (map (λ (p : Port). p.end)) eb ∙ map_set (λ (p : Port). p.end) a.ports.items s q r eq ee;
   waits = λ p.
-      ⊎_elim
-      (λ (e : s ≡ p). subst (λ x. waiting b x ≡ waiting a x) e
+      at_or (λ x. waiting b x ≡ waiting a x) s p
       (ap waiting_in (ap (λ l. slice_get l s) eb ∙ get_set_same a.ports.items s r there)
-      ∙ ap (λ x. drop r.head x.items) et ∙ ap (λ n. drop n q.tokens.items) eh ∙ ap waiting_in (sym eq)))
-      (λ (d : s ≡ p → ⊥). ap waiting_in (ap (λ l. slice_get l p) eb ∙ get_set_other a.ports.items s p r d))
-      (cases_eq s p);
+      ∙ ap (λ x. drop r.head x.items) et ∙ ap (λ n. drop n q.tokens.items) eh ∙ ap waiting_in (sym eq))
+      (λ d. ap waiting_in (ap (λ l. slice_get l p) eb ∙ get_set_other a.ports.items s p r d));
   puts = λ p.
-      ⊎_elim
-      (λ (e : s ≡ p). subst (λ x. carried b x ≡ carried a x ++ flat_map (put_on x) (Did (Put s t) ∷ [])) e
+      at_or (λ x. carried b x ≡ carried a x ++ flat_map (put_on x) (Did (Put s t) ∷ [])) s p
       (ap carried_in (ap (λ l. slice_get l s) eb ∙ get_set_same a.ports.items s r there)
-      ∙ ec ∙ ap (λ o. carried_in o ++ t ∷ []) (sym eq) ∙ ap (λ l. carried a s ++ l) (sym (put_same s t))))
-      (λ (d : s ≡ p → ⊥).
+      ∙ ec ∙ ap (λ o. carried_in o ++ t ∷ []) (sym eq) ∙ ap (λ l. carried a s ++ l) (sym (put_same s t)))
+      (λ d.
       ap carried_in (ap (λ l. slice_get l p) eb ∙ get_set_other a.ports.items s p r d)
-      ∙ sym (append-nil (carried a p)) ∙ ap (λ l. carried a p ++ l) (sym (put_other s p t d)))
-      (cases_eq s p);
+      ∙ sym (append-nil (carried a p)) ∙ ap (λ l. carried a p ++ l) (sym (put_other s p t d)));
   rooms = λ p.
-      ⊎_elim
-      (λ (e : s ≡ p). subst (λ x. room_at b x + length (flat_map (put_on x) (Did (Put s t) ∷ [])) ≡ room_at a x) e
+      at_or (λ x. room_at b x + length (flat_map (put_on x) (Did (Put s t) ∷ [])) ≡ room_at a x) s p
       (let x : room_at b s ≡ r.room = ap room_in (ap (λ l. slice_get l s) eb ∙ get_set_same a.ports.items s r there) in
       let y : room_at a s ≡ q.room = ap room_in eq in
       let z = ap length (put_same s t) in
-      omega arith))
-      (λ (d : s ≡ p → ⊥).
+      omega arith)
+      (λ d.
       let x : room_at b p ≡ room_at a p = ap room_in (ap (λ l. slice_get l p) eb ∙ get_set_other a.ports.items s p r d) in
       let z = ap length (put_other s p t d) in
-      omega arith)
-      (cases_eq s p);
+      omega arith);
   spaces = space_kept a b s q r eq eb et;
 }
   where
@@ -187,11 +189,9 @@ pub adjust : (a b : Ports) (s : ℕ) (q r : Port) → slice_get a.ports.items s 
 adjust a b s q r eq eb ee ec = record {
   ends = ap (map (λ (p : Port). p.end)) eb ∙ map_set (λ (p : Port). p.end) a.ports.items s q r eq ee;
   carries = λ p.
-      ⊎_elim
-      (λ (e : s ≡ p). subst (λ x. carried b x ≡ carried a x) e
-      (ap carried_in (ap (λ l. slice_get l s) eb ∙ get_set_same a.ports.items s r (slice_get_within a.ports.items s q eq)) ∙ ec ∙ ap carried_in (sym eq)))
-      (λ (d : s ≡ p → ⊥). ap carried_in (ap (λ l. slice_get l p) eb ∙ get_set_other a.ports.items s p r d))
-      (cases_eq s p);
+      at_or (λ x. carried b x ≡ carried a x) s p
+      (ap carried_in (ap (λ l. slice_get l s) eb ∙ get_set_same a.ports.items s r (slice_get_within a.ports.items s q eq)) ∙ ec ∙ ap carried_in (sym eq))
+      (λ d. ap carried_in (ap (λ l. slice_get l p) eb ∙ get_set_other a.ports.items s p r d));
   waits = λ p d. ap waiting_in (ap (λ l. slice_get l p) eb ∙ get_set_other a.ports.items s p r (λ e. d (sym e)));
   rooms = λ p d. ap room_in (ap (λ l. slice_get l p) eb ∙ get_set_other a.ports.items s p r (λ e. d (sym e)));
   spaces = λ p d. let same = ap space_in (ap (λ l. slice_get l p) eb ∙ get_set_other a.ports.items s p r (λ e. d (sym e))) in omega arith;
@@ -230,15 +230,13 @@ pub reloaded : (all new : List Ports) (i p : ℕ) (x y : Ports) → slice_get al
 reloaded all new i p x y e en a = record {
   len = ap length en ∙ length-set all i y;
   ends = λ j.
-      ⊎_elim
-      (λ (q : i ≡ j). subst (λ z. ends_in new z ≡ ends_in all z) q (ap ends_by here ∙ a.ends ∙ ap ends_by (sym e)))
-      (λ (d : i ≡ j → ⊥). ap ends_by (other j d))
-      (cases_eq i j);
+      at_or (λ z. ends_in new z ≡ ends_in all z) i j
+      (ap ends_by here ∙ a.ends ∙ ap ends_by (sym e))
+      (λ d. ap ends_by (other j d));
   carries = λ j q.
-      ⊎_elim
-      (λ (w : i ≡ j). subst (λ z. carried_of new z q ≡ carried_of all z q) w (ap (λ o. carried_by o q) here ∙ a.carries q ∙ ap (λ o. carried_by o q) (sym e)))
-      (λ (d : i ≡ j → ⊥). ap (λ o. carried_by o q) (other j d))
-      (cases_eq i j);
+      at_or (λ z. carried_of new z q ≡ carried_of all z q) i j
+      (ap (λ o. carried_by o q) here ∙ a.carries q ∙ ap (λ o. carried_by o q) (sym e))
+      (λ d. ap (λ o. carried_by o q) (other j d));
   waits = λ q d. ap (λ o. waiting_by o q) here ∙ a.waits q d ∙ ap (λ o. waiting_by o q) (sym e);
   rooms = λ q d. ap (λ o. room_by o q) here ∙ a.rooms q d ∙ ap (λ o. room_by o q) (sym e);
   others_wait = λ j q d. ap (λ o. waiting_by o q) (other j (λ w. d (sym w)));

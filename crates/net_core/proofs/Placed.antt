@@ -2,7 +2,6 @@
 use Rattle.std.proofs.Common.{◌≡◌, ℕ, zero, suc, ◌<◌, List, [], ◌∷◌, ◌++◌, length, map, drop, Some, ◌&&◌, refl, sym, ap, ◌∙◌, subst, ⊎_elim, arith}
 use Rattle.std.specs.Prelude.{◌==◌, slice_get, flat_map, if◌then◌else◌}
 use Rattle.std.proofs.lemmas.Bool.{cases_eq}
-use Rattle.std.proofs.lemmas.Bool.Decides.{nat_tests}
 use Rattle.tapa_base.specs.declared.token.Token.{Token}
 use Rattle.kahn_model.specs.declared.tick.Action.TheVariants.{Local, Put, Load, Store}
 use Rattle.kahn_model.specs.declared.tick.Tick.{Tick}
@@ -16,13 +15,7 @@ use Rattle.kahn_model.specs.Behavior.{Behavior, Finished, OutOfTurns, Act, Await
 use Rattle.kahn_model.specs.Network.{Owns, put_on, take_from}
 use Rattle.kahn_model.specs.Trace.{act_at, at_streams}
 use Rattle.net_core.specs.Placement.{tick_at, trace_end_at, AsksAt, IsAt, TickAt, AreAt}
-
-same_test : (a b c d : ℕ) → (a ≡ b → c ≡ d) → (c ≡ d → a ≡ b) → (a == b) ≡ (c == d)
-same_test a b c d h k =
-    ⊎_elim
-    (λ (e : a ≡ b). let x = h e in grind (arith, nat_tests))
-    (λ (e : a ≡ b → ⊥). let x : c ≡ d → ⊥ = λ q. e (k q) in grind (arith, nat_tests))
-    (cases_eq a b)
+use Rattle.tapa_base.proofs.Tests.{eq_same as same_test}
 
 found_ticks : (F : Tick → Tick) (o : Offer) (g h : Token → ℕ → List Tick) → ((t : Token) (v : ℕ) → g t v ≡ map F (h t v)) → on_offer o [] [] g ≡ map F (on_offer o [] [] h)
 found_ticks F NoToken g h e = refl
@@ -195,11 +188,6 @@ pub map_prefix : {A B : Type 0} (F : A → B) (xs ys : List A) → IsPrefixOf xs
 map_prefix F [] ys p = tt
 map_prefix F (x ∷ xs) [] p = absurd p
 map_prefix F (x ∷ xs) (y ∷ ys) (e, p) = (ap F e, map_prefix F xs ys p)
-
-pub map_get : {A B : Type 0} (F : A → B) (xs : List A) (n : ℕ) (x : A) → slice_get xs n ≡ Some x → slice_get (map F xs) n ≡ Some (F x)
-map_get F [] n x e = cc
-map_get F (y ∷ xs) zero x e = let q : y ≡ x = cc in ap (λ z. Some (F z)) q
-map_get F (y ∷ xs) (suc n) x e = map_get F xs n x e
 
 pub at_get : (R W : ℕ → Type 0) (ts : List Tick) (n : ℕ) (t : Tick) → AreAt R W ts → slice_get ts n ≡ Some t → TickAt R W t
 at_get R W [] n t d e = cc

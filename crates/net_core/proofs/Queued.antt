@@ -12,6 +12,7 @@ use Rattle.net_core.specs.Ports.{IsReloaded, waiting_of}
 use Rattle.net_core.specs.Bindings.{IsConnected, stream_at, Reads, Writes, producer_of, consumer_of}
 use Rattle.net_core.specs.Load.{AreQueued, HasPorts, IsOffered, list_at}
 use Rattle.net_core.proofs.Loaded.{in_streams}
+use Rattle.net_core.proofs.Cases.{is_or}
 
 -- a queue and what its stream got since
 pub queue_more : {A : Type 0} (t o : ℕ) (l : List A) → t ≤ o → o ≤ length l → drop t (take o l) ++ drop o l ≡ drop t l
@@ -79,10 +80,9 @@ ports_offered program connected a b w o o' t i p inside d h r lo f other = recor
         ∙ ap (λ n. drop (slice_index t (stream_at program j q)) (take n (list_at program a w (stream_at program j q)))) (sym (other (stream_at program j q) diff)))
         (cases_eq (stream_at program j q) (stream_at program i p));
     offered_within = λ s l.
-        ⊎_elim
-        (λ (same : s ≡ stream_at program i p). subst (λ z. slice_index o' z ≤ length (list_at program a w z)) (sym same) f.within)
-        (λ (diff : s ≡ stream_at program i p → ⊥). subst (λ n. n ≤ length (list_at program a w s)) (sym (other s diff)) (h.queued.offered_within s l))
-        (cases_eq s (stream_at program i p));
+        is_or (λ z. slice_index o' z ≤ length (list_at program a w z)) (stream_at program i p) s
+        f.within
+        (λ diff. subst (λ n. n ≤ length (list_at program a w s)) (sym (other s diff)) (h.queued.offered_within s l));
     taken_within = λ s l.
         let x = h.queued.taken_within s l in
         ⊎_elim
@@ -94,10 +94,9 @@ ports_offered program connected a b w o o' t i p inside d h r lo f other = recor
   where
     stays : (j q : ℕ) → (stream_at program j q ≡ stream_at program i p → ⊥) → waiting_of b j q ≡ waiting_of a j q
     stays j q diff =
-        ⊎_elim
-        (λ (e : j ≡ i). subst (λ z. (stream_at program z q ≡ stream_at program i p → ⊥) → waiting_of b z q ≡ waiting_of a z q) (sym e) (λ diff'. r.waits q (λ x. diff' (ap (stream_at program i) x))) diff)
-        (λ (e : j ≡ i → ⊥). r.others_wait j q e)
-        (cases_eq j i)
+        is_or (λ z. (stream_at program z q ≡ stream_at program i p → ⊥) → waiting_of b z q ≡ waiting_of a z q) i j
+        (λ diff'. r.waits q (λ x. diff' (ap (stream_at program i) x)))
+        (λ e _. r.others_wait j q e) diff
 
 -- a port that writes was loaded
 pub ports_adjusted : (program : Program) → IsConnected program → (a b : List Ports) (w o t : List ℕ) (i p : ℕ) → Writes program i p → HasPorts program a w o t → IsReloaded a i p b → HasPorts program b w o t
@@ -120,7 +119,6 @@ ports_adjusted program connected a b w o t i p d h r = record {
 
     stays : (j q : ℕ) → Reads program j q → waiting_of b j q ≡ waiting_of a j q
     stays j q e =
-        ⊎_elim
-        (λ (s : j ≡ i). subst (λ z. Reads program z q → waiting_of b z q ≡ waiting_of a z q) (sym s) (λ e'. r.waits q (λ x. not_read (subst (Reads program i) x e'))) e)
-        (λ (s : j ≡ i → ⊥). r.others_wait j q s)
-        (cases_eq j i)
+        is_or (λ z. Reads program z q → waiting_of b z q ≡ waiting_of a z q) i j
+        (λ e'. r.waits q (λ x. not_read (subst (Reads program i) x e')))
+        (λ s _. r.others_wait j q s) e

@@ -25,6 +25,7 @@ use Rattle.net_core.proofs.Moves.{get_set_same, get_set_other}
 use Rattle.net_core.proofs.Chunk.{plus, plus_same, plus_other, total_plus}
 use Rattle.net_core.proofs.Stepped.{plus_above}
 use Rattle.net_core.proofs.Lasting.{decide_fuel}
+use Rattle.tapa_base.proofs.Tests.{bool_cases as decide_detached}
 
 pub decide_in : (x : ℕ) (xs : List ℕ) → IsIn x xs ⊎ (IsIn x xs → ⊥)
 decide_in x [] = inr (λ h. let e = h.1 in cc)
@@ -43,15 +44,11 @@ decide_in x (y ∷ xs) =
     no d n (suc m) e = n (m, e)
 
 -- what is left after more ticks
-less_by : (room room' ticks ticks' made : ℕ) → room' ≡ room → ticks' ≡ ticks + made → room' - ticks' ≤ room - ticks
+pub less_by : (room room' ticks ticks' made : ℕ) → room' ≡ room → ticks' ≡ ticks + made → room' - ticks' ≤ room - ticks
 less_by room room' ticks ticks' made e f = omega arith
 
-fewer_by : (room room' ticks ticks' made : ℕ) → room' ≡ room → ticks' ≡ ticks + made → 0 < made → ticks' ≤ room' → room' - ticks' < room - ticks
+pub fewer_by : (room room' ticks ticks' made : ℕ) → room' ≡ room → ticks' ≡ ticks + made → 0 < made → ticks' ≤ room' → room' - ticks' < room - ticks
 fewer_by room room' ticks ticks' made e f some few = omega arith
-
-pub decide_detached : (b : Bool) → (b ≡ true) ⊎ (b ≡ false)
-decide_detached true = inl refl
-decide_detached false = inr refl
 
 -- an instance that may go on within the budget is on the list; who is not told so and answered so is a detached one that has made as many
 -- ticks as the budget
@@ -60,27 +57,26 @@ listed_again new i pause budget true later h there = inl (there refl)
 listed_again new i pause budget false later h there = inr h
 
 -- the ticks of the joined instances after ticks of one of them, or of a detached one
-module _ (net : Network) (k : ℕ → ℕ) (i m : ℕ) where
-  part_plus : IsJoined net i → (j : ℕ) → joined_part net (plus i m k) j ≡ plus i m (joined_part net k) j
+module _ (net : Network) (k m : ℕ → ℕ) (i made : ℕ) (own : m i ≡ k i + made) (others : (j : ℕ) → (j ≡ i → ⊥) → m j ≡ k j) where
+  part_plus : IsJoined net i → (j : ℕ) → joined_part net m j ≡ plus i made (joined_part net k) j
   part_plus joined j =
       ⊎_elim
       (λ (e : j ≡ i).
-      let x = part_is net (plus i m k) i joined in
+      let x = part_is net m i joined in
       let y = part_is net k i joined in
-      let z = plus_same i m k in
-      let w = plus_same i m (joined_part net k) in
-      subst (λ (n : ℕ). joined_part net (plus i m k) n ≡ plus i m (joined_part net k) n) (sym e) (omega arith))
-      (λ (d : j ≡ i → ⊥). ap (λ (n : ℕ). if net.detached j then 0 else n) (plus_other i m j k d) ∙ sym (plus_other i m j (joined_part net k) d))
+      let w = plus_same i made (joined_part net k) in
+      subst (λ (n : ℕ). joined_part net m n ≡ plus i made (joined_part net k) n) (sym e) (omega arith))
+      (λ (d : j ≡ i → ⊥). ap (λ (n : ℕ). if net.detached j then 0 else n) (others j d) ∙ sym (plus_other i made j (joined_part net k) d))
       (cases_eq j i)
 
-  joined_plus : IsJoined net i → i < net.size → joined_ticks net (plus i m k) ≡ joined_ticks net k + m
-  joined_plus joined l = ap (total net.size) (fun_ext (part_plus joined)) ∙ total_plus net.size i m (joined_part net k) l
+  pub joined_plus : IsJoined net i → i < net.size → joined_ticks net m ≡ joined_ticks net k + made
+  joined_plus joined l = ap (total net.size) (fun_ext (part_plus joined)) ∙ total_plus net.size i made (joined_part net k) l
 
   not_one : (j : ℕ) → net.detached i ≡ true → IsJoined net j → j ≡ i → ⊥
   not_one j d joined e = let both : net.detached i ≡ false = subst (IsJoined net) e joined in cc
 
-  detached_plus : net.detached i ≡ true → joined_ticks net (plus i m k) ≡ joined_ticks net k
-  detached_plus d = joined_same net (plus i m k) k (λ j l joined. plus_other i m j k (not_one j d joined))
+  pub detached_plus : net.detached i ≡ true → joined_ticks net m ≡ joined_ticks net k
+  detached_plus d = joined_same net m k (λ j l joined. others j (not_one j d joined))
 
 module _ (old new : NetState) (i budget left left' : ℕ) (pause : Pause) (made : ℕ) (r : HasResumedWithin old new i budget left left' pause made) (v : IsValid old) (inside : i < length old.program.instances.items) (within : IsWithin old budget left) where
   abbrev P : Program
@@ -140,8 +136,8 @@ module _ (old new : NetState) (i budget left left' : ℕ) (pause : Pause) (made 
       let sum = within.joined in
       let same : joined_total new ≡ joined_ticks N (plus i made (count old)) = ap (λ (net : Network). joined_ticks net (count new)) same_network ∙ ap (joined_ticks N) counted in
       ⊎_elim
-      (λ (d : N.detached i ≡ true). let e = (r.detached d).1 in let p = detached_plus N (count old) i made d in omega arith)
-      (λ (j : N.detached i ≡ false). let e = (r.joined j).1 in let p = joined_plus N (count old) i made j size_in in omega arith)
+      (λ (d : N.detached i ≡ true). let e = (r.detached d).1 in let p = detached_plus N (count old) (plus i made (count old)) i made (plus_same i made (count old)) (λ j o. plus_other i made j (count old) o) d in omega arith)
+      (λ (j : N.detached i ≡ false). let e = (r.joined j).1 in let p = joined_plus N (count old) (plus i made (count old)) i made (plus_same i made (count old)) (λ n o. plus_other i made n (count old) o) j size_in in omega arith)
       (decide_detached (N.detached i))
 
   pub within_after : IsWithin new budget left'

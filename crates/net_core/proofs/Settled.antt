@@ -1,5 +1,5 @@
 -- How driving a net ends.
-use Rattle.std.proofs.Common.{◌≡◌, ℕ, ◌-◌, ◌<◌, ◌≤◌, ◌⊎◌, length, Some, inl, inr, sym, ap, ◌∙◌, subst, ⊎_elim, arith}
+use Rattle.std.proofs.Common.{◌≡◌, ℕ, ◌-◌, ◌<◌, ◌≤◌, ◌⊎◌, length, Some, inl, inr, sym, ap, ◌∙◌, ⊎_elim, arith}
 use Rattle.std.proofs.lemmas.Bool.{cases_lt}
 use Rattle.std.proofs.lemmas.Option.{slice_get_within}
 use Rattle.kahn_model.specs.Network.{Network}
@@ -16,7 +16,6 @@ use Rattle.net_core.specs.declared.body.Pause.TheVariants.{Ended, Fuel}
 use Rattle.net_core.specs.declared.outcome.Outcome.TheVariants.{Done, Stopped, Limit}
 use Rattle.net_core.specs.declared.net_state.NetState.{NetState}
 use Rattle.net_core.specs.Bindings.{stream_at}
-use Rattle.net_core.specs.Waits.{IsToldBy}
 use Rattle.net_core.specs.State.{network, count, joined_total, IsValid, IsWithin}
 use Rattle.net_core.specs.Settle.{IsQuiet, IsSpent, IsAtRest, IsLimited, EndsAs, HasOutcome, AreTold, AreJoinedTold, AreJoinedEnded, IsSomeJoinedLeft, IsSomeWithFuel, AreNoneWithFuel}
 use Rattle.net_core.proofs.Ends.{stopped, told, not_ended}

@@ -28,22 +28,16 @@ use Rattle.net_core.specs.Ports.{waiting, room_at}
 use Rattle.net_core.specs.Resume.{lists_at, Agrees, HasRoomAt, StopsAt, GoesOnBy, PausesBy, Resumed}
 use Rattle.net_core.specs.Waits.{StopsIn, IsFullFor, HoldsPause}
 use Rattle.net_core.specs.Placement.{tick_at, trace_end_at, TickAt, AreAt, IsPlaced, IsStanding, PortsAre}
-use Rattle.net_core.proofs.Placed.{placed_ticks, placed_trace_end, asks_ticks, asks_trace_end, ticks_at, at_asks, are_prefix, takes_same, puts_same, put_found, take_found, map_prefix, map_get, at_get}
+use Rattle.net_core.proofs.Placed.{placed_ticks, placed_trace_end, asks_ticks, asks_trace_end, ticks_at, at_asks, are_prefix, takes_same, puts_same, put_found, take_found, map_prefix, at_get}
 use Rattle.net_core.proofs.Chunk.{plus, plus_same, plus_other, HasRoomFor, Chunk, chunk, written_after, is_step}
 use Rattle.net_core.proofs.Stuck.{stays_stopped}
+use Rattle.net_core.proofs.Follow.{prefix_unappend}
+use Rattle.tapa_base.proofs.Got.{got_map as map_get}
 
 pub prefix_rest : {A : Type 0} (xs ys : List A) → IsPrefixOf xs ys → xs ++ drop (length xs) ys ≡ ys
 prefix_rest [] ys p = refl
 prefix_rest (x ∷ xs) [] p = absurd p
 prefix_rest (x ∷ xs) (y ∷ ys) (e, p) = ap (λ l. x ∷ l) (prefix_rest xs ys p) ∙ ap (λ z. z ∷ ys) e
-
-pub prefix_of_append : {A : Type 0} (xs ys : List A) → IsPrefixOf xs (xs ++ ys)
-prefix_of_append [] ys = tt
-prefix_of_append (x ∷ xs) ys = (refl, prefix_of_append xs ys)
-
-pub prefix_unappend : {A : Type 0} (xs ys zs : List A) → IsPrefixOf (xs ++ ys) (xs ++ zs) → IsPrefixOf ys zs
-prefix_unappend [] ys zs p = p
-prefix_unappend (x ∷ xs) ys zs (e, p) = prefix_unappend xs ys zs p
 
 pub plus_above : (i m : ℕ) (k : ℕ → ℕ) → IsBelow k (plus i m k)
 plus_above i m k j = grind (arith, nat_tests)
@@ -54,7 +48,7 @@ extends_same OutOfTurns = tt
 extends_same (Act a rest) = (rest, refl, extends_same rest)
 extends_same (Await s how rest) = (rest, refl, λ v. extends_same (rest v))
 
-none_of : {A : Type 0} (xs : List A) → (0 < length xs → ⊥) → xs ≡ []
+pub none_of : {A : Type 0} (xs : List A) → (0 < length xs → ⊥) → xs ≡ []
 none_of [] d = refl
 none_of (x ∷ xs) d = absurd (d (omega arith))
 

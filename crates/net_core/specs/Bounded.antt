@@ -73,30 +73,45 @@ abbrev pub IsBodyAt : (Job → List Tick → Type 0) → Program → Input → L
 IsBodyAt Stands program input counts i =
     IsStanding (Stands (instance_job program input i)) (network_on program input) (count_of counts) i (instance_job program input i).behavior (stream_at program i)
 
--- a net is at its count
-pub record IsNetAt {B : Type 0} (Stands : B → Job → List Tick → Type 0) (program : Program) (input : Input) (bodies : List B) (ports : List Ports)
-    (writers offered taken_list : List ℕ) (fed_by_self : List Bool) (counts : List ℕ) (pauses : List (Option Pause)) : Type 0 where
+-- a program on an input, whose streams connect its instances
+pub record IsGiven (program : Program) (input : Input) : Type 0 where
   pub connected : IsConnected program
   pub network : IsNetworkOf program input
   pub well_formed : IsWellFormed program
   pub fits : FitsInput program (scalars_of input) (memories_of input)
-  pub reachable : IsReachable (network_on program input) (count_of counts)
-  pub bodies_len : length bodies ≡ length program.instances.items
-  pub ports_len : length ports ≡ length program.instances.items
-  pub counts_len : length counts ≡ length program.instances.items
-  pub pauses_len : length pauses ≡ length program.instances.items
+
+-- for each stream the position of its producer's port, and for each instance whether it reads a stream that it writes
+pub record AreBound (program : Program) (writers : List ℕ) (fed_by_self : List Bool) : Type 0 where
   pub writers_len : length writers ≡ length program.streams.items
-  pub offered_len : length offered ≡ length program.streams.items
-  pub taken_len : length taken_list ≡ length program.streams.items
-  pub queued : AreQueued program ports (written (network_on program input) (count_of counts)) offered taken_list
+  pub writer_is : (s : ℕ) → s < length program.streams.items → IsWriter program s (producer_of program s) (slice_index writers s)
   pub fed_len : length fed_by_self ≡ length program.instances.items
   pub fed : (i : ℕ) (b : Bool) → slice_get fed_by_self i ≡ Some b → TellsFedBySelf program i b
+
+-- the ticks of each instance, and what it answered last
+pub record HaveAnswered (program : Program) (input : Input) (counts : List ℕ) (pauses : List (Option Pause)) : Type 0 where
+  pub counts_len : length counts ≡ length program.instances.items
+  pub pauses_len : length pauses ≡ length program.instances.items
   -- what an instance answered last was true once
   pub paused : (i : ℕ) (x : Pause) → slice_get pauses i ≡ Some (Some x) → HasHeld (network_on program input) (count_of counts) i (stream_at program i) x
   -- no tick was made before the first resume
   pub unresumed : (i : ℕ) → slice_get pauses i ≡ Some None → count_of counts i ≡ 0
+
+-- a net is at its count
+pub record IsNetAt {B : Type 0} (Stands : B → Job → List Tick → Type 0) (program : Program) (input : Input) (bodies : List B) (ports : List Ports)
+    (writers offered taken_list : List ℕ) (fed_by_self : List Bool) (counts : List ℕ) (pauses : List (Option Pause)) : Type 0 where
+  pub given : IsGiven program input
+  pub open given use *
+  pub bound : AreBound program writers fed_by_self
+  pub open bound use *
+  pub answered : HaveAnswered program input counts pauses
+  pub open answered use *
+  pub reachable : IsReachable (network_on program input) (count_of counts)
+  pub bodies_len : length bodies ≡ length program.instances.items
+  pub ports_len : length ports ≡ length program.instances.items
+  pub offered_len : length offered ≡ length program.streams.items
+  pub taken_len : length taken_list ≡ length program.streams.items
+  pub queued : AreQueued program ports (written (network_on program input) (count_of counts)) offered taken_list
   pub standing : (i : ℕ) (b : B) → slice_get bodies i ≡ Some b → IsBodyAt (Stands b) program input counts i
   pub ends : (i : ℕ) → i < length program.instances.items → ends_in ports i ≡ ends_at program i
   pub carries : (i p : ℕ) → i < length program.instances.items → Writes program i p → carried_of ports i p ≡ written (network_on program input) (count_of counts) (stream_at program i p)
   pub took : (s : ℕ) → s < length program.streams.items → slice_index taken_list s ≡ length (taken (network_on program input) (count_of counts) s)
-  pub writer_is : (s : ℕ) → s < length program.streams.items → IsWriter program s (producer_of program s) (slice_index writers s)

@@ -52,8 +52,7 @@ pub record IsNew (net : NetState) : Type 0 where
   pub none_made : (i : ℕ) → count net i ≡ 0
   pub none_resumed : (i : ℕ) → i < length net.program.instances.items → slice_get net.pauses i ≡ Some None
 
--- what is kept of the answer of a call that made `made` ticks: the answer, or that it may go on, where its ticks may
--- have changed what it waits for
+-- the part that is kept of the answer of a call that made `made` ticks: the answer, or that the instance can continue, if its ticks may have changed what it waits for
 pub record IsToldFor (program : Program) (i made : ℕ) (pause told : Pause) : Type 0 where
   pub cases : (told ≡ pause) ⊎ (IsFedBySelf program i × (0 < made) × (told ≡ Fuel))
   pub fed : IsFedBySelf program i → 0 < made → told ≡ Fuel

@@ -61,9 +61,8 @@ impl<B: Body> Net<B> {
         &self.carried(stream)[..self.taken[s]]
     }
 
-    /// What the last resume of an instance answered, and `None` before its first: an answer that was true at some count on the
-    /// way here, and that is true now where it is an end or a bad token. An instance that reads what it writes, and made ticks
-    /// in that resume, is reported as one that may go on.
+    /// Returns the answer of the last resume of an instance, or `None` before its first. The answer was true at some count of this run, and it is true now if it
+    /// is an end or a bad token. An instance that reads a stream of its own and made ticks in that resume is reported as able to continue.
     pub fn pause(&self, instance: u32) -> Option<Pause>
         requires { instance < length self.now.program.instances.items }
         ensures last { slice_get self.now.pauses instance ≡ Some result }

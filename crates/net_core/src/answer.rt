@@ -10,7 +10,7 @@ use crate::ties::Ties;
 use std::alloc::Global;
 use tapa_base::OutOfMemory;
 
-/// Asks each instance whether it may go on, by a resume that makes no tick: then the last answer of each is true.
+/// Asks each instance whether it can continue, by a resume that makes no tick. Then the last answer of each instance is true.
 pub fn answer_all<B: Body>(
     alloc: Global,
     net: &mut Net<B>,

@@ -1,5 +1,5 @@
 // How the instances of a program are bound to its streams.
-ghost use Rattle.std.specs.Prelude.{◌≡◌, ◌<◌, length, MatchBool};
+ghost use Rattle.std.specs.Prelude.{◌≡◌, ◌<◌, ◌^◌, length, MatchBool};
 ghost use Rattle.net_core.specs.Bindings.{IsConnected, detached_at, arity, ends_at, stream_at, Reads, Writes, producer_of, consumer_of, depth_of};
 
 use tapa_syntax::{End, Program};
@@ -77,7 +77,8 @@ pub fn consumer(program: &Program, s: usize) -> usize
 pub fn depth(program: &Program, s: usize) -> usize
     requires connected { IsConnected program.now }
     requires stream { s < length program.now.streams.items }
-    ensures { result ≡ depth_of program.now s }
+    ensures is { result ≡ depth_of program.now s }
+    ensures few { result < 2 ^ 32 }
 {
     program.streams[s].depth as usize
 }

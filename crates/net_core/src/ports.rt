@@ -1,5 +1,6 @@
 // The ports of an instance: the queue of tokens and the room at each, and how tokens are taken, put, offered and dropped.
-ghost use Rattle.std.specs.Prelude.{ℕ, ◌≡◌, ◌+◌, ◌*◌, ◌<◌, ◌≤◌, ◌↔◌, [], ◌∷◌, length, drop, slice_get, MatchOption, Some, IsTrue, IsOk, IfOk, MatchBool, ◌++◌, is_ok, if◌then◌else◌};
+ghost use Rattle.std.specs.Prelude.{◌≡◌, ◌+◌, ◌*◌, ◌<◌, ◌≤◌, ◌↔◌, ◌∷◌, ◌++◌, if◌then◌else◌};
+ghost use Rattle.std.specs.Prelude.{ℕ, [], length, drop, slice_get, MatchOption, Some, IsTrue, IsOk, IfOk, MatchBool, is_ok};
 ghost use Rattle.kahn_model.specs.declared.tick.Tick.TheVariants.{Did, Take};
 ghost use Rattle.kahn_model.specs.declared.tick.Action.TheVariants.{Put};
 ghost use Rattle.kahn_model.specs.Fits.{IsTokenOf};

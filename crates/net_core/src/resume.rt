@@ -16,6 +16,7 @@ use crate::ports::Ports;
 use crate::ties::Tie;
 use std::alloc::Global;
 use tapa_base::OutOfMemory;
+use tapa_syntax::Program;
 
 /// Resumes a body, and counts the ticks that it makes.
 pub fn resume_body<B: Body>(body: &mut B, ports: &mut Ports, fuel: u64) -> (Pause, u64)
@@ -29,7 +30,7 @@ pub fn resume_body<B: Body>(body: &mut B, ports: &mut Ports, fuel: u64) -> (Paus
     (pause, made)
 }
 
-// What is kept of an answer. An instance that made ticks and reads what it writes may go on, whatever it answered.
+// The part of an answer that is kept. An instance that made ticks and reads a stream of its own is recorded as able to continue, whatever it answered.
 fn told(fed_by_self: bool, made: u64, pause: Pause) -> Pause
     ensures { result ≡ (if fed_by_self && nat_lt 0 made then Fuel else pause) }
 {
@@ -55,9 +56,10 @@ pub fn resume_instance<B: Body>(
     ensures failed { OnErr result (net.new ≡ net.old) }
     ensures resumed { IfOk result (λ r. HasResumed net.old net.new i fuel r.0 r.1) }
 {
+    let program: &Program = &net.program;
     load_ports(
         alloc,
-        &net.program,
+        program,
         &mut net.ports,
         &net.writers,
         &mut net.offered,
@@ -66,14 +68,7 @@ pub fn resume_instance<B: Body>(
         i,
     )?;
     let (pause, made) = resume_body(&mut net.bodies[i], &mut net.ports[i], fuel);
-    count_taken(
-        &net.program,
-        &net.ports,
-        &net.offered,
-        &mut net.taken,
-        ties,
-        i,
-    );
+    count_taken(program, &net.ports, &net.offered, &mut net.taken, ties, i);
     net.counts[i] += made;
     net.pauses[i] = Some(told(net.fed_by_self[i], made, pause));
     Ok((pause, made))

@@ -56,7 +56,7 @@ pub fn resume_within<B: Body>(
     Ok((pause, made))
 }
 
-/// Whether an instance that answered so is waited for and may go on, while no tick is left to those that are waited for.
+/// Returns whether an instance with this answer is waited for and can continue, while no tick is left to those that are waited for.
 pub fn goes_past<B: Body>(net: &Net<B>, i: usize, pause: Pause, left: u64) -> bool
     requires { i < length net.now.program.instances.items }
     ensures { MatchBool result ((pause ≡ Fuel) × IsJoined (network net.now) i × (left ≡ 0)) (pause ≡ Fuel → IsJoined (network net.now) i → 0 < left) }
@@ -67,7 +67,7 @@ pub fn goes_past<B: Body>(net: &Net<B>, i: usize, pause: Pause, left: u64) -> bo
     }
 }
 
-/// Whether an instance that answered so, and does not go past the budget, may go on within it.
+/// Returns whether an instance with this answer, which does not exceed the budget, can continue within it.
 pub fn goes_again<B: Body>(net: &Net<B>, i: usize, pause: Pause, budget: u64) -> bool
     requires { i < length net.now.program.instances.items }
     ensures { MatchBool result (pause ≡ Fuel) (pause ≡ Fuel → ((network net.now).detached i ≡ true) × (budget ≤ count net.now i)) }

@@ -10,8 +10,7 @@ use std::alloc::Global;
 use tapa_base::OutOfMemory;
 use tapa_syntax::Program;
 
-/// What a port is tied to: its stream with the depth, which end of it the port is, and the instance that writes it with the
-/// position of its port.
+/// The stream of a port with its depth, the end of the stream that the port is, and the instance that writes the stream with the position of its port.
 #[derive(Clone, Copy)]
 pub struct Tie {
     pub stream: usize,

@@ -134,7 +134,7 @@ from_one g from k w = elim w.1 [ inl e ↦ subst (λ n. Chain (Steps g) n k) (sy
 pub of_one : (g : Adjacency) (from k : ℕ) → Chain (Steps g) from k → IsReached g (from ∷ []) k
 of_one g from k c = (from, inl refl, c)
 
-differ : false ≡ true → ⊥
+pub differ : false ≡ true → ⊥
 differ e = cc
 
 pub skipped : (found : List ℕ) (i k : ℕ) → i < length found → k ≢ get_or found i 0 → Has (drop i found) k → Has (drop (i + 1) found) k

@@ -16,29 +16,21 @@ use Rattle.plan_device.specs.Json.{entries_of, each_resource, has_amounts, is_am
 use Rattle.plan_device.specs.declared.amounts.Asked.{Asked}
 use Rattle.plan_device.specs.declared.amounts.Asked.TheVariants.{Number, Amount}
 use Rattle.plan_device.proofs.Entries.{entry_of, entries_of_members}
-use Rattle.plan_device.proofs.Lists.{all_map}
-use Rattle.plan_device.proofs.Numbers.{true_or_false}
+use Rattle.tapa_base.proofs.Tests.{bool_cases as true_or_false, and_left as first_holds, and_right as second_holds, true_not_false}
+use Rattle.run_data.proofs.Lists.{all-map as all_map}
 
 abbrev pub Entry : Type 0
 Entry = String Global × Value
 
 -- ---- tests of all names
 
-no_and : (b : Bool) → (b && false) ≡ false
+pub no_and : (b : Bool) → (b && false) ≡ false
 no_and true = refl
 no_and false = refl
 
 yes_or : (b : Bool) → (b || true) ≡ true
 yes_or true = refl
 yes_or false = refl
-
-first_holds : (a b : Bool) → (a && b) ≡ true → a ≡ true
-first_holds true b e = refl
-first_holds false b e = cc
-
-second_holds : (a b : Bool) → (a && b) ≡ true → b ≡ true
-second_holds true b e = e
-second_holds false b e = cc
 
 or_second : (a b : Bool) → a ≡ true → (not a || b) ≡ true → b ≡ true
 or_second true b among e = e
@@ -47,9 +39,6 @@ or_second false b among e = cc
 or_fails : (a b : Bool) → (not a || b) ≡ false → (a ≡ true) × (b ≡ false)
 or_fails true b e = (refl, e)
 or_fails false b e = cc
-
-true_not_false : true ≡ false → ⊥
-true_not_false e = cc
 
 both_and : (a b x y : Bool) → ((a && b) && (x && y)) ≡ ((a && x) && ((not a || b) && y))
 both_and true true true y = refl

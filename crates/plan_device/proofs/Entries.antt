@@ -8,7 +8,7 @@ use Rattle.serde_json.specs.Find.{as_array}
 use Rattle.run_data.specs.Seen.{first}
 use Rattle.run_data.proofs.Views.{list_of-items_view}
 use Rattle.plan_device.specs.Json.{entries_of, is_list_of}
-use Rattle.plan_device.proofs.Lists.{all_map}
+use Rattle.run_data.proofs.Lists.{all-map as all_map}
 
 abbrev pub entry_of : String Global × Value → List ℕ × Json
 entry_of e = (string_bytes e.0, view e.1)

@@ -20,7 +20,7 @@ use Rattle.plan_device.specs.declared.grid.Grid.{Grid}
 use Rattle.plan_device.specs.declared.key.Format.{Format}
 use Rattle.plan_device.specs.declared.key.Key.{Key}
 use Rattle.plan_device.proofs.Lists.{nothing_first}
-use Rattle.plan_device.proofs.Numbers.{true_or_false}
+use Rattle.tapa_base.proofs.Tests.{bool_cases as true_or_false}
 
 -- ---- a key
 

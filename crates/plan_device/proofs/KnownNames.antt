@@ -10,12 +10,7 @@ use Rattle.tapa_syntax.specs.declared.program.Program.{Program}
 use Rattle.run_data.specs.Data.{is_among}
 use Rattle.run_data.specs.Seen.{has_name}
 use Rattle.plan_device.specs.Keys.{Names, names_of}
-
-some_or : {X : Type 0} (b : Bool) (w : X) (o : Option X) → is_some (cond b (Some w) o) ≡ (is_some o || b)
-some_or true w None = refl
-some_or true w (Some x) = refl
-some_or false w None = refl
-some_or false w (Some x) = refl
+use Rattle.run_data.proofs.Names.{some_or}
 
 abbrev pub of_lists : List (List ℕ) → List (List ℕ) → Names
 of_lists tasks labels = record { tasks = tasks; labels = labels }

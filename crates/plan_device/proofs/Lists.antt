@@ -3,7 +3,8 @@ use Rattle.std.proofs.Common.{◌≡◌, ℕ, zero, suc, ◌+◌, ◌<◌, ◌�
 use Rattle.std.proofs.lemmas.List.{drop_all}
 use Rattle.std.specs.List.{list_all, list_any, flat_map}
 use Rattle.run_data.specs.Seen.{first}
-use Rattle.run_data.proofs.Lists.{first-append, next_of}
+use Rattle.run_data.proofs.Lists.{first-append, all-map as all_map}
+use Rattle.tapa_base.proofs.Got.{next_of}
 
 pub nothing_first : {A : Type 0} (xs : List A) → None ≡ first xs → xs ≡ []
 nothing_first [] e = refl
@@ -16,10 +17,6 @@ nothing_before (x ∷ xs) ys e = cc
 pub nothing_behind : {A : Type 0} (xs ys : List A) → xs ++ ys ≡ [] → ys ≡ []
 nothing_behind [] ys e = e
 nothing_behind (x ∷ xs) ys e = cc
-
-pub all_map : {A B : Type 0} (p : B → Bool) (f : A → B) (xs : List A) → list_all p (map f xs) ≡ list_all (λ x. p (f x)) xs
-all_map p f [] = refl
-all_map p f (x ∷ xs) = rw (all_map p f xs)
 
 pub any_map : {A B : Type 0} (p : B → Bool) (f : A → B) (xs : List A) → list_any p (map f xs) ≡ list_any (λ x. p (f x)) xs
 any_map p f [] = refl

@@ -51,7 +51,3 @@ same_or_other (suc a) (suc b) = elim (same_or_other a b) [ inl e ↦ inl (ap suc
 
 pub is_same : (a b : ℕ) → (a == b) ≡ true → a ≡ b
 is_same a b h = grind (arith, nat_tests)
-
-pub true_or_false : (b : Bool) → (b ≡ true) ⊎ (b ≡ false)
-true_or_false true = inl refl
-true_or_false false = inr refl

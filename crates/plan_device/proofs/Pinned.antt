@@ -1,8 +1,7 @@
 -- A table of the pins of groups, after the first instances.
 use Rattle.std.proofs.Common.{◌≡◌, ℕ, zero, suc, ◌+◌, ◌<◌, ◌≤◌, ◌==◌, List, [], ◌∷◌, length, get_or, set, replicate, filter, map, All, IfSome, option_map, codes, Bool, true, false, ◌&&◌, Option, Some, None, slice_index, refl, sym, ap, subst, ◌∙◌, inl, inr, arith}
 use Rattle.std.proofs.lemmas.Bool.Decides.{nat_tests}
-use Rattle.std.proofs.lemmas.List.{get_or-set_same, get_or-set_other}
-use Rattle.std.proofs.lemmas.List.{length-map}
+use Rattle.std.proofs.lemmas.List.{get_or-set_same, get_or-set_other, length-map}
 use Rattle.serde_json.specs.Data.{Data as Json}
 use Rattle.tapa_syntax.specs.declared.program.Instance.{Instance}
 use Rattle.tapa_syntax.specs.declared.program.Program.{Program}
@@ -17,15 +16,12 @@ use Rattle.plan_device.proofs.Lists.{filter_same}
 use Rattle.plan_device.specs.GroupPins.{ArePins, first_elsewhere, IsFreeFor, IsTakenFrom}
 use Rattle.plan_device.specs.Pins.{pin_at, differ, is_elsewhere, numbers, is_place_of, is_pinned_at, pin_of, pins_of, label_at, elsewhere, is_forbidden, on_forbidden}
 use Rattle.plan_device.proofs.Numbers.{last_or_before, same_or_other, none_of_numbers, first_of_numbers, any_of_numbers, not_of_numbers}
+use Rattle.plan_device.proofs.Asked.{no_and as and_false}
 
 -- each group's pin is that of an instance before i, and each pin before i is its group's
 pub record IsTable (group : List ℕ) (pins : List (Option ℕ)) (slots : List (Option ℕ)) (i : ℕ) : Type 0 where
   pub from : (g s : ℕ) → get_or slots g None ≡ Some s → (j : ℕ) × (j < i) × (slice_index group j ≡ g) × (pin_at pins j ≡ Some s)
   pub agree : (j s : ℕ) → j < i → pin_at pins j ≡ Some s → get_or slots (slice_index group j) None ≡ Some s
-
-and_false : (b : Bool) → (b && false) ≡ false
-and_false true = refl
-and_false false = refl
 
 not_apart : (a b : ℕ) (x y : Option ℕ) → ((s t : ℕ) → a ≡ b → x ≡ Some s → y ≡ Some t → s ≡ t) → ((a == b) && differ x y) ≡ false
 not_apart a b None y h = and_false (a == b)

@@ -21,8 +21,9 @@ use Rattle.plan_device.specs.declared.key.Key.{Key}
 use Rattle.plan_device.specs.declared.key.Key.TheVariants as key
 use Rattle.plan_device.proofs.Faults.{passes_faultless}
 use Rattle.plan_device.specs.declared.grid.Grid.{Grid}
-use Rattle.plan_device.proofs.Numbers.{is_same, true_or_false}
+use Rattle.plan_device.proofs.Numbers.{is_same}
 use Rattle.plan_device.proofs.Lists.{nothing_first, nothing_before, nothing_behind}
+use Rattle.tapa_base.proofs.Tests.{bool_cases as true_or_false}
 
 -- each key passes
 pub each_passes : (check : Check) (names : Names) (file : Json) (keys : List Key) (i : ℕ) (key : Key) → flat_map (faulty_at check names file) keys ≡ [] → slice_get keys i ≡ Some key → passes check key (get (key_name key) file) ≡ true

@@ -1,6 +1,7 @@
 -- What the values of a device file are: numbers in a range, amounts of resources, and places of a grid. A text's JSON value
 -- (RFC 8259), its numbers and an object's members, each key once and in the order of its bytes, are those of `serde_json`.
-use Rattle.std.specs.Prelude.{ℕ, ◌+◌, ◌*◌, List, [], ◌∷◌, codes, Bool, false, ◌&&◌, nat_lt, nat_le, if◌then◌else◌, Option, Some, None, is_some, option_map, option_and_then, unwrap_or}
+use Rattle.std.specs.Prelude.{◌+◌, ◌*◌, ◌∷◌, ◌&&◌, if◌then◌else◌}
+use Rattle.std.specs.Prelude.{ℕ, List, [], codes, Bool, false, nat_lt, nat_le, Option, Some, None, is_some, option_map, option_and_then, unwrap_or}
 use Rattle.std.specs.List.{list_all}
 use Rattle.serde_json.specs.Data.{Data as Json, Members, no_members, member}
 use Rattle.serde_json.specs.Find.{get, as_number, as_array, as_integer, as_u64}

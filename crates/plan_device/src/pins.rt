@@ -1,5 +1,6 @@
 // The pins of a device file: the slots of instances and of groups, the forbidden slots, and the first instance in conflict with them.
-ghost use Rattle.std.specs.Prelude.{◌≡◌, ◌<◌, ◌≤◌, ◌*◌, ◌↔◌, ℕ, All, Some, None, map, filter, option_map, length, slice_get, slice_index, slice_set, get_or, false, IfOk, IfSome, IsTrue, IsFalse};
+ghost use Rattle.std.specs.Prelude.{◌≡◌, ◌<◌, ◌≤◌, ◌*◌, ◌↔◌};
+ghost use Rattle.std.specs.Prelude.{ℕ, All, Some, None, map, filter, option_map, length, slice_get, slice_index, slice_set, get_or, false, IfOk, IfSome, IsTrue, IsFalse};
 ghost use Rattle.serde_json.specs.View.{view};
 ghost use Rattle.tapa_syntax.specs.declared.program.Instance.{Instance};
 ghost use Rattle.run_data.specs.Data.{members_at};

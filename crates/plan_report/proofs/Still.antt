@@ -5,6 +5,7 @@ use Rattle.std.proofs.lemmas.Bool.Decides.{nat_tests}
 use Rattle.task_graph.specs.Arcs.{total}
 use Rattle.plan_device.specs.declared.device.Device.{Device}
 use Rattle.plan_report.specs.Borders.{crossed, border_latency}
+use Rattle.plan_device.proofs.Numbers.{is_same as same_number}
 
 not_between : (low high n : ℕ) → high ≤ low → (nat_le low n && nat_lt n high) ≡ false
 not_between low high n h = grind (arith, nat_tests)
@@ -31,9 +32,6 @@ still d s =
     let rows : crossed d.levels_rows.items (s / d.cols) (s / d.cols) ≡ 0 = crossed_none d.levels_rows.items (s / d.cols) in
     let cols : crossed d.levels_cols.items (s % d.cols) (s % d.cols) ≡ 0 = crossed_none d.levels_cols.items (s % d.cols) in
     omega (arith, rows, cols)
-
-same_number : (a b : ℕ) → (a == b) ≡ true → a ≡ b
-same_number a b h = grind (arith, nat_tests)
 
 -- two groups that are one stand in one slot
 pub still_within : (d : Device) (slots : List ℕ) (a b : ℕ) → (a == b) ≡ true → border_latency d (slice_index slots a) (slice_index slots b) ≡ 0

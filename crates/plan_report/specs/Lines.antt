@@ -1,5 +1,6 @@
 -- The lines of a plan: each slot with what is in it, each task with its slot, each stream with its registers, and the sums.
-use Rattle.std.specs.Prelude.{ℕ, zero, suc, ◌+◌, ◌-◌, ◌/◌, ◌%◌, List, [], ◌∷◌, ◌++◌, codes, decimal, length, map, slice_index, slice_index_or, slice_get, unwrap_or, option_map, Vec}
+use Rattle.std.specs.Prelude.{◌+◌, ◌-◌, ◌/◌, ◌%◌, ◌∷◌, ◌++◌}
+use Rattle.std.specs.Prelude.{ℕ, zero, suc, List, [], codes, decimal, length, map, slice_index, slice_index_or, slice_get, unwrap_or, option_map, Vec}
 use Rattle.std.specs.declared.alloc.Global.{Global}
 use Rattle.task_graph.specs.declared.Edge.{Edge}
 use Rattle.task_graph.specs.declared.Graph.{Graph}

@@ -11,8 +11,8 @@ use Rattle.run_data.specs.Answer.{bits_of_ports}
 use Rattle.run_data.specs.Data.{bits_of_whole, bits_of, bits_or_zero, items_at, value_in, scalars_of, memories_of, waits_of}
 use Rattle.run_data.specs.declared.data.Data.{Data}
 use Rattle.run_data.specs.declared.group.Group.TheVariants.{Scalars, Memories}
-use Rattle.run_data.proofs.Lists.{length_map}
 use Rattle.run_data.proofs.Numbers.{whole_below}
+use Rattle.tapa_base.proofs.Got.{length_map}
 
 below_or_zero : (bits : ℕ) (found : Option ℕ) → ((n : ℕ) → found ≡ Some n → n < 2 ^ bits) → unwrap_or found 0 < 2 ^ bits
 below_or_zero bits None h = pow_pos bits

@@ -3,6 +3,7 @@ use Rattle.std.proofs.Common.{◌≡◌, ℕ, suc, ◌+◌, ◌<◌, ◌≤◌, 
 use Rattle.std.proofs.lemmas.List.{take_more, drop_all}
 use Rattle.std.specs.List.{list_all, list_any}
 use Rattle.run_data.specs.Seen.{first}
+use Rattle.tapa_base.proofs.Got.{next_of, length_map, map_append}
 
 -- the second, where there is no first
 abbrev pub or_else : {A : Type 0} → Option A → Option A → Option A
@@ -20,14 +21,6 @@ first-map f (x ∷ xs) = refl
 pub map_map : {A B C : Type 0} (g : B → C) (f : A → B) (xs : List A) → map g (map f xs) ≡ map (λ x. g (f x)) xs
 map_map g f [] = refl
 map_map g f (x ∷ xs) = ap (λ ys. g (f x) ∷ ys) (map_map g f xs)
-
-pub map_append : {A B : Type 0} (f : A → B) (xs ys : List A) → map f (xs ++ ys) ≡ map f xs ++ map f ys
-map_append f [] ys = refl
-map_append f (x ∷ xs) ys = ap (λ zs. f x ∷ zs) (map_append f xs ys)
-
--- the element at i, and what is behind it
-pub next_of : {A : Type 0} (xs : List A) (i : ℕ) (x : A) → i < length xs → x ≡ get_or xs i x → drop i xs ≡ x ∷ drop (i + 1) xs
-next_of xs i x h is = drop-cons xs i x h ∙ rw (← is, add-one)
 
 -- one more element
 pub map_more : {A B : Type 0} (f : A → B) (xs : List A) (i : ℕ) (x : A) → i < length xs → x ≡ get_or xs i x → map f (take (i + 1) xs) ≡ map f (take i xs) ++ f x ∷ []
@@ -63,7 +56,3 @@ any_over p xs i h = rw (drop_all i xs h)
 pub all-map : {A B : Type 0} (p : B → Bool) (f : A → B) (xs : List A) → list_all p (map f xs) ≡ list_all (λ x. p (f x)) xs
 all-map p f [] = refl
 all-map p f (x ∷ xs) = rw (all-map p f xs)
-
-pub length_map : {A B : Type 0} (f : A → B) (xs : List A) → length (map f xs) ≡ length xs
-length_map f [] = refl
-length_map f (x ∷ xs) = ap suc (length_map f xs)

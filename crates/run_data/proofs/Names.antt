@@ -9,7 +9,7 @@ use Rattle.tapa_base.specs.declared.shape.Port.{Port}
 use Rattle.run_data.specs.Data.{is_name_of}
 use Rattle.run_data.specs.Seen.{has_name}
 
-some_or : {X : Type 0} (b : Bool) (w : X) (o : Option X) → is_some (cond b (Some w) o) ≡ (is_some o || b)
+pub some_or : {X : Type 0} (b : Bool) (w : X) (o : Option X) → is_some (cond b (Some w) o) ≡ (is_some o || b)
 some_or true w None = refl
 some_or true w (Some x) = refl
 some_or false w None = refl

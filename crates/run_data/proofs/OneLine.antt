@@ -9,14 +9,10 @@ use Rattle.tapa_base.specs.declared.token.Token.TheVariants.{Datum, Eot}
 use Rattle.run_data.specs.declared.lines.Last.{Last}
 use Rattle.run_data.specs.declared.lines.Last.TheVariants.{Done, Stopped, Running}
 use Rattle.run_data.specs.Report.{number_text, token_text, tokens_text, numbers_text, last_line, HasNoLf, IsOneLine}
+use Rattle.tapa_base.proofs.Tests.{both_true}
 
 abbrev NotLf : ℕ → Type 0
 NotLf b = b ≢ 10
-
--- a text that is written out
-both_true : (a b : Bool) → (a && b) ≡ true → (a ≡ true) × (b ≡ true)
-both_true true b h = (refl, h)
-both_true false b h = absurd (cc)
 
 differs : (x : ℕ) → not (x == 10) ≡ true → NotLf x
 differs x h = λ e. let g : not (10 == 10) ≡ true = subst (λ y. not (y == 10) ≡ true) e h in absurd (cc)

@@ -1,7 +1,8 @@
 -- A data file: a JSON object (RFC 8259) whose groups `scalars`, `memories` and `waits` give the inputs that a design asks
 -- for. Here are its faults, in the order in which they are reported, and what a file without faults gives. A text's JSON
 -- value, its numbers and an object's members, each key once and in the order of its bytes, are those of `serde_json`.
-use Rattle.std.specs.Prelude.{◌≡◌, ℕ, ◌+◌, ◌-◌, ◌^◌, ◌==◌, ℤ, pos, negsuc, List, [], ◌∷◌, ◌++◌, map, filter, length, codes, Bool, true, false, not, ◌&&◌, nat_lt}
+use Rattle.std.specs.Prelude.{◌≡◌, ◌+◌, ◌-◌, ◌^◌, ◌==◌, ◌∷◌, ◌++◌, ◌&&◌}
+use Rattle.std.specs.Prelude.{ℕ, ℤ, pos, negsuc, List, [], map, filter, length, codes, Bool, true, false, not, nat_lt}
 use Rattle.std.specs.Prelude.{if◌then◌else◌, Option, Some, None, is_some, option_map, option_and_then, unwrap_or, bytes_eq, IsUtf8}
 use Rattle.std.specs.List.{list_all, list_any}
 use Rattle.serde_json.specs.Data.{Data as Json, Items, no_items, item, Members, no_members, member}

@@ -40,7 +40,7 @@ is_the_memory : (o : Option ℕ) (m : ℕ) → o ≡ Some m → is_memory o m �
 is_the_memory None m e = absurd cc
 is_the_memory (Some r) m e = same_number m r cc
 
-not_the_memory : (o : Option ℕ) (m : ℕ) → (o ≡ Some m → ⊥) → is_memory o m ≡ false
+pub not_the_memory : (o : Option ℕ) (m : ℕ) → (o ≡ Some m → ⊥) → is_memory o m ≡ false
 not_the_memory None m d = refl
 not_the_memory (Some r) m d = other_number m r (λ e. d (ap Some e))
 

@@ -7,8 +7,8 @@ use Rattle.task_fsm.specs.contracts.machine.State as State
 use Rattle.task_fsm.specs.contracts.machine.Fsm as Fsm
 use Rattle.tapa_base.specs.contracts.kind.Kind as Kind
 use Rattle.tapa_base.specs.contracts.op.Op as Op
-use Rattle.flat_code.specs.contracts.width.Width as Width
-use Rattle.flat_code.specs.contracts.width.Conversion as Conversion
+use Rattle.flat_arithmetic.specs.contracts.width.Width as Width
+use Rattle.flat_arithmetic.specs.contracts.width.Conversion as Conversion
 use Rattle.flat_code.specs.contracts.code.Operand as Operand
 use Rattle.flat_code.specs.contracts.code.Other as Other
 use Rattle.flat_code.specs.contracts.code.Computation as Computation

@@ -6,8 +6,8 @@ use Rattle.tapa_syntax.specs.declared.program.Instance.{Instance}
 use Rattle.tapa_syntax.specs.declared.program.Leaf.{Leaf}
 use Rattle.tapa_syntax.specs.declared.program.Program.{Program}
 use Rattle.tapa_syntax.specs.WellFormed.{IsLeaf, IsInstance}
-use Rattle.kahn_model.specs.Fits.{FitsInput}
-use Rattle.kahn_model.specs.Start.{bound_value, instance_state, leaf_state}
+use Rattle.kahn_model.specs.Fits.{FitsInput, ScalarsFit}
+use Rattle.kahn_model.specs.Start.{bound_value, instance_state, leaf_state, kinds_in}
 use Rattle.kahn_model.specs.Trace.{State, job_of}
 use Rattle.kahn_model.proofs.FitsNetwork.{first_fits}
 use Rattle.net_core.specs.declared.input.Input.{Input}
@@ -20,9 +20,8 @@ use Rattle.std.specs.declared.sync.Arc.{Arc}
 use Rattle.coro_machine.specs.declared.coro.Coro.{Coro}
 use Rattle.coro_machine.specs.declared.machine.Machine.{Machine}
 use Rattle.coro_machine.specs.Coro.{job_with, FitsLeaf, IsMachineOf, IsCoroOf}
-use Rattle.kahn_model.specs.Fits.{ScalarsFit}
-use Rattle.kahn_model.specs.Start.{kinds_in}
 use Rattle.run_program.specs.Started.{AreLowered, AreStarted}
+use Rattle.tapa_base.proofs.Got.{clash as not_both}
 
 abbrev job_in_leaf : Program → List ℕ → List (List ℕ) → Instance → Option Leaf → Job
 job_in_leaf program scalars memories x o = record {
@@ -41,9 +40,6 @@ job_in program scalars memories o = record {
 -- the job of a leaf from a state
 abbrev job_at : Leaf → State → Job
 job_at leaf σ = record { ends = leaf.streams.items; cells = σ.cells; behavior = λ n. job_of (kinds_of leaf) leaf.code.items σ n }
-
-not_both : {A : Type 0} (o : Option A) (a : A) → o ≡ None → o ≡ Some a → ⊥
-not_both o a n s = let e : None ≡ Some a = sym n ∙ s in cc
 
 job_is_in : (program : Program) (input : Input) (i : ℕ) → instance_job program input i ≡ job_in program (scalars_of input) (memories_of input) (slice_get program.instances.items i)
 unfolding instance_job ends_at

@@ -19,7 +19,6 @@ use Rattle.vlog_tree.specs.Environment.{shape_of, memory_label}
 use Rattle.tapa_base.proofs.Lists.{of_map, has_map, has_flat, got_has}
 use Rattle.vlog_scope.proofs.Found.{missing}
 use Rattle.vlog_scope.specs.NameTable.{places_from}
-use Rattle.vlog_run_laws.proofs.runs.Sound.{both_true, true_not_false}
 use Rattle.vlog_run_laws.proofs.runs.Parts.{part_answer}
 use Rattle.vlog_run_laws.proofs.runs.Sizes.{found_name}
 use Rattle.vlog_run_laws.proofs.runs.Cycles.{port_stands}
@@ -39,6 +38,7 @@ use Rattle.sim_flat.proofs.Linked.{input_port_is}
 use Rattle.sim_design.specs.States.{HasNumbersOf, PartsPlaced}
 use Rattle.sim_design.specs.Lines.{IsLabelAt}
 use Rattle.sim_design.proofs.Parts.{numbered, declared_here}
+use Rattle.tapa_base.proofs.Tests.{both_true, true_not_false}
 
 -- the label of a net at which a memory is asked
 addr_label : (l : Name) → 0 < length l → addr_of (m_addr l) ≡ Some l

@@ -3,7 +3,6 @@ use Rattle.std.proofs.Common.{◌≡◌, ℕ, ◌+◌, ◌<◌, ◌≤◌, true,
 use Rattle.std.specs.Prelude.{IsSome, IsTrue}
 use Rattle.vlog_tree.specs.declared.tree.Value.{Value}
 use Rattle.vlog_tree.specs.declared.tree.Value.TheVariants.{Plain, Invert, Binary, Choose, Concat, Repeat, Cell}
-use Rattle.vlog_tree.specs.declared.table.NetKind.{NetKind}
 use Rattle.vlog_tree.specs.declared.table.NetKind.TheVariants.{Unknown, Input, Output, WireNet, Register, MemoryArray, ChildInstance}
 use Rattle.vlog_tree.specs.Loops.{value_nets}
 use Rattle.vlog_tree.specs.declared.tree.Item.TheVariants.{Assign}
@@ -14,8 +13,8 @@ use Rattle.vlog_tree.specs.Table.{Name, declared, bits_of, net_kind_of, net_kind
 use Rattle.vlog_tree.specs.V3.{value_fits}
 use Rattle.vlog_tree.specs.Cycle.{Cycle, Sizes, Path, Holds, driven, module_at}
 use Rattle.tapa_base.proofs.Lists.{has_got}
-use Rattle.vlog_run_laws.proofs.runs.Sizes.{all_at, width_held}
-use Rattle.vlog_run_laws.proofs.runs.Sound.{assign_driven, assign_reads, assign_cell}
+use Rattle.vlog_run_laws.proofs.runs.Sizes.{width_held}
+use Rattle.vlog_run_laws.proofs.runs.Sound.{assign_driven, assign_reads, assign_cell, driven_is_read as driven_read}
 use Rattle.vlog_run_laws.proofs.runs.Settled.{module_in}
 use Rattle.vlog_run_laws.proofs.widths.Ruled.{assign_width, net_width}
 use Rattle.sim_tape.specs.declared.gates.Pair.{Pair}
@@ -31,15 +30,7 @@ use Rattle.sim_flat.proofs.Standing.{module_of}
 use Rattle.sim_design.specs.Valuations.{IsLawful}
 use Rattle.sim_design.specs.States.{AreRead, AreMemories, MemoriesPlaced, PartsPlaced, HasNumbersOf}
 use Rattle.sim_design.proofs.Parts.{base, part, there, shows_nets, shows_memories}
-
-driven_read : (s : NetKind) → net_kind_is_driven s ≡ true → net_kind_is_read s ≡ true
-driven_read Input h = refl
-driven_read Output h = refl
-driven_read WireNet h = refl
-driven_read Unknown h = cc
-driven_read Register h = cc
-driven_read MemoryArray h = cc
-driven_read ChildInstance h = cc
+use Rattle.tapa_base.proofs.Got.{all_at}
 
 module _ (ms : List ModuleTree) (top : ModuleTree) (f : Flat) (flat : IsFlat ms top f) (k : ℕ) (low : k < length f.instances.items) (path : Path) (stands : StandsAt ms f.instances.items k path) (m : ModuleTree) (is : IsModuleOf ms f.instances.items k m)
     (x : Name) (e : Value) (has : Has m.items (Assign x e)) where

@@ -10,7 +10,7 @@ use Rattle.vlog_tree.specs.Flattened.{FlatNet}
 use Rattle.vlog_tree.specs.Table.{declared, net_kind_of, net_kind_is_register}
 use Rattle.vlog_tree.specs.Cycle.{Cycle, Sizes, Path, Holds, module_at, run_items}
 use Rattle.tapa_base.proofs.Lists.{has_got, has_left, has_right, has_split, some_of}
-use Rattle.vlog_run_laws.proofs.runs.Sizes.{all_at, declared_net_kind}
+use Rattle.vlog_run_laws.proofs.runs.Sizes.{declared_net_kind}
 use Rattle.sim_tape.specs.declared.gates.Pair.{Pair}
 use Rattle.sim_tape.specs.Operators.{Cells}
 use Rattle.sim_tape.specs.Tape.{TapeTree, Extends}
@@ -38,6 +38,7 @@ use Rattle.sim_design.proofs.Ready.{conditions}
 use Rattle.sim_design.proofs.Registers.{committed, committed_by, is_for, once_both, once_index, has_below, of_below, IsOf, is_of, once_below}
 use Rattle.sim_design.proofs.Cells.{cells_both, cells_missed}
 use Rattle.sim_design.proofs.Within.{pair_found, own_at, in_ms, same_instance, register_kind, registers_apart, net_here, apart, slot_here, not_before, alone}
+use Rattle.tapa_base.proofs.Got.{all_at}
 
 -- none yet
 pub none_below : (ms : List ModuleTree) (top : ModuleTree) (f : Flat) (pairs memories : List (Option Pair)) (t : TapeTree) (commits : List Commit) (stores : List Store) → commits ≡ [] → stores ≡ [] → AreNextBelow ms top f pairs memories t commits stores 0

@@ -7,7 +7,6 @@ use Rattle.vlog_tree.specs.declared.tree.Item.TheVariants.{Instance}
 use Rattle.vlog_tree.specs.Form.{ModuleTree}
 use Rattle.vlog_tree.specs.Flattened.{FlatNet}
 use Rattle.vlog_tree.specs.Cycle.{Cycle, Path, Connected}
-use Rattle.vlog_run_laws.proofs.runs.Sizes.{all_at}
 use Rattle.sim_tape.specs.declared.gates.Pair.{Pair}
 use Rattle.sim_tape.specs.Tape.{pair_value}
 use Rattle.sim_gates.proofs.AtomSlots.{each_is}
@@ -15,6 +14,7 @@ use Rattle.sim_flat.specs.declared.flat.Flat.{Flat}
 use Rattle.sim_flat.specs.Flat.{AreJoined, IsLink}
 use Rattle.sim_design.specs.Valuations.{IsValuation}
 use Rattle.sim_design.specs.States.{ShowsPlaced, PartsPlaced}
+use Rattle.tapa_base.proofs.Got.{all_at}
 
 module _ (ms : List ModuleTree) (top : ModuleTree) where
   pub same_number : (port net : FlatNet) → AreJoined ms top port net → (c : Path → Cycle) → IsValuation ms top c → (c port.0).net port.1 ≡ (c net.0).net net.1

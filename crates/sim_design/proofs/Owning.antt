@@ -15,7 +15,6 @@ use Rattle.vlog_tree.specs.Labels.{rdata_of, m_rdata}
 use Rattle.vlog_tree.specs.V6.{has_all_five}
 use Rattle.vlog_tree.specs.Table.{Name, is_clk, declared, port_declared, net_kind_of, net_kind_is_read, bits_of}
 use Rattle.vlog_run_laws.proofs.runs.Sizes.{declared_bits, declared_net_kind}
-use Rattle.vlog_run_laws.proofs.runs.Sound.{true_not_false}
 use Rattle.vlog_run_laws.proofs.runs.Settled.{module_in, top_tree}
 use Rattle.vlog_run_laws.proofs.runs.Labelled.{rdata_label}
 use Rattle.vlog_run_laws.proofs.runs.TopPorts.{input_port, all_five}
@@ -38,6 +37,7 @@ use Rattle.sim_design.specs.States.{IsFree}
 use Rattle.sim_design.specs.Given.{IsGivenPair, IsFreeSource, IsGivenNet}
 use Rattle.sim_tape.specs.Tape.{TapeTree}
 use Rattle.sim_tape.specs.declared.gates.Pair.{Pair}
+use Rattle.tapa_base.proofs.Tests.{true_not_false}
 
 register_no_input : kind.Register ≡ kind.Input → ⊥
 register_no_input e = cc

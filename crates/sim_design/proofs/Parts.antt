@@ -17,7 +17,7 @@ use Rattle.vlog_tree.specs.Cycle.{Cycle, Sizes, Path, Holds, and_then, module_at
 use Rattle.vlog_scope.specs.NameTable.{places_from}
 use Rattle.vlog_scope.proofs.Found.{found, missing, within}
 use Rattle.vlog_run_laws.proofs.runs.Alone.{stands_for}
-use Rattle.vlog_run_laws.proofs.runs.Sizes.{all_at, memory_item, has_line, width_held}
+use Rattle.vlog_run_laws.proofs.runs.Sizes.{memory_item, has_line, width_held}
 use Rattle.sim_tape.specs.declared.gates.Pair.{Pair}
 use Rattle.sim_tape.specs.Operators.{Cells}
 use Rattle.sim_gates.specs.Nets.{pair_in, ShowsNets, ShowsMemories}
@@ -28,6 +28,7 @@ use Rattle.sim_flat.specs.Places.{DeclaredAt}
 use Rattle.sim_flat.specs.Flat.{HasNumber}
 use Rattle.sim_design.specs.Valuations.{IsLawful, IsValuation}
 use Rattle.sim_design.specs.States.{ShowsPlaced, HasCellsOf, AreRead, AreMemories}
+use Rattle.tapa_base.proofs.Got.{all_at}
 
 none_past : (pairs : List (Option Pair)) (base count j : ℕ) → count ≤ j → get_or (take count (drop base pairs)) j None ≡ None
 none_past pairs base count j h =

@@ -2,7 +2,7 @@
 use Rattle.std.proofs.Common.{◌≡◌, Bool, true, false, ◌&&◌, List, [], ◌∷◌, Option, length, inl, inr, refl, sym, ap, ◌∙◌}
 use Rattle.std.specs.Prelude.{◌==◌, nat_le, not, IsSome}
 use Rattle.std.specs.List.{list_all, flat_map, AllByRecursion}
-use Rattle.std.proofs.lemmas.Bool.{and_parts}
+use Rattle.std.proofs.lemmas.Bool.{and_parts, or_parts as both_false}
 use Rattle.vlog_tree.specs.declared.tree.Step.{Step}
 use Rattle.vlog_tree.specs.declared.tree.Step.TheVariants.{If, Else, End, NonblockingAssign, MemoryAssign}
 use Rattle.vlog_tree.specs.declared.tree.Item.{Item}
@@ -17,12 +17,15 @@ use Rattle.vlog_tree.specs.Table.{Name, NameUse, is_clk, declared, net_kind_of, 
 use Rattle.vlog_tree.specs.V2.{read_use, register_use, memory_use, inner_use, step_uses, item_uses}
 use Rattle.vlog_tree.specs.V3.{v3_uses, module_widths, item_widths, port_widths, step_widths, net_fits, memory_fits, has_bits, atom_bits, atom_fits}
 use Rattle.tapa_base.proofs.Lists.{has_flat, has_right}
-use Rattle.vlog_run_laws.proofs.runs.Sound.{right, both_false, not_no, item_right, atom_read}
-use Rattle.vlog_run_laws.proofs.runs.Sizes.{all_from, register_item}
+use Rattle.vlog_run_laws.proofs.runs.Sound.{right, item_right, atom_read}
+use Rattle.vlog_run_laws.proofs.runs.Sizes.{register_item}
 use Rattle.sim_tape.specs.declared.gates.Pair.{Pair}
 use Rattle.sim_gates.specs.Nets.{pair_in}
 use Rattle.sim_gates.specs.Parts.{is_condition, has_conditions}
 use Rattle.sim_gates.specs.Ready.{IsStepReady, IsReady}
+use Rattle.tapa_base.proofs.Tests.{not_no}
+use Rattle.tapa_base.proofs.Got.{all_from}
+use Rattle.vlog_run_laws.proofs.loops.Plain.{list_has as each_of}
 
 pub register_is : (s : NetKind) → net_kind_is_register s ≡ true → s ≡ kind.Register
 register_is kind.Unknown h = cc
@@ -32,11 +35,6 @@ register_is kind.WireNet h = cc
 register_is kind.Register h = refl
 register_is kind.MemoryArray h = cc
 register_is kind.ChildInstance h = cc
-
-each_of : {A : Type 0} (p : A → Bool) (xs : List A) (x : A) → list_all p xs ≡ true → Has xs x → p x ≡ true
-each_of p [] x h has = absurd has
-each_of p (y ∷ ys) x h (inl e) = ap p (sym e) ∙ (and_parts (p y) (list_all p ys) h).0
-each_of p (y ∷ ys) x h (inr has) = each_of p ys x (and_parts (p y) (list_all p ys) h).1 has
 
 all_of : {A : Type 0} (p : A → Bool) (xs : List A) → ((x : A) → Has xs x → p x ≡ true) → list_all p xs ≡ true
 all_of p [] f = refl

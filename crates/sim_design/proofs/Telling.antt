@@ -17,8 +17,8 @@ use Rattle.sim_flat.specs.declared.flat.Flat.{Flat}
 use Rattle.sim_flat.specs.Flat.{HasNumber}
 use Rattle.sim_design.specs.States.{HasNumbersOf, AreRead, TellsNumbers}
 use Rattle.sim_design.specs.Placed.{AreFree, AllFree, AreKept, ArePlacedMore}
-use Rattle.vlog_run_laws.proofs.runs.Sound.{true_not_false}
 use Rattle.tapa_base.proofs.Lists.{some_of}
+use Rattle.tapa_base.proofs.Tests.{true_not_false}
 
 none_of : {A : Type 0} (o : Option A) → is_some o ≡ false → o ≡ None
 none_of None e = refl

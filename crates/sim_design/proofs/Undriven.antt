@@ -10,8 +10,9 @@ use Rattle.tapa_base.specs.Lists.{Has}
 use Rattle.vlog_tree.specs.Table.{Name, declared, port_declared, net_kind_of, net_kind_is_driven, net_kind_is_input, ports_of, first_violation}
 use Rattle.vlog_tree.specs.V2.{v2_uses}
 use Rattle.vlog_tree.specs.V4.{v4_uses}
-use Rattle.vlog_run_laws.proofs.runs.Sound.{true_not_false, assign_driven, connection_driven}
+use Rattle.vlog_run_laws.proofs.runs.Sound.{assign_driven, connection_driven}
 use Rattle.vlog_run_laws.proofs.runs.Drivers.{Source, value, output, sources, source_is, assign_source, connection_has_source, few_sources, input_undriven}
+use Rattle.tapa_base.proofs.Tests.{true_not_false}
 
 module _ (ms : List ModuleTree) (names : first_violation (v2_uses ms) ≡ None) (drivers : first_violation (v4_uses ms) ≡ None) (m : ModuleTree) (in_ms : Has ms m) where
   abbrev pub IsHeld : Name → Type 0

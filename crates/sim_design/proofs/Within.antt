@@ -15,7 +15,7 @@ use Rattle.vlog_tree.specs.Cycle.{Path, and_then, module_at}
 use Rattle.tapa_base.proofs.Lists.{has_got}
 use Rattle.vlog_scope.specs.NameTable.{places_from}
 use Rattle.vlog_run_laws.proofs.runs.Alike.{memory_is}
-use Rattle.vlog_run_laws.proofs.runs.Sizes.{all_at, memory_item, register_item, declared_net_kind, has_line}
+use Rattle.vlog_run_laws.proofs.runs.Sizes.{memory_item, register_item, declared_net_kind, has_line}
 use Rattle.vlog_run_laws.proofs.runs.Settled.{module_in}
 use Rattle.sim_tape.specs.declared.gates.Pair.{Pair}
 use Rattle.sim_tape.specs.Tape.{TapeTree}
@@ -36,6 +36,7 @@ use Rattle.sim_design.specs.Left.{own_pairs}
 use Rattle.sim_design.specs.Below.{HasPlaces, IsRegisterSlot}
 use Rattle.sim_design.proofs.Ready.{register_is, all_ready}
 use Rattle.sim_design.proofs.Registers.{IsSlot, IsOf}
+use Rattle.tapa_base.proofs.Got.{all_at}
 
 pair_by : (pairs : List (Option Pair)) (j : ℕ) (p : Pair) (o : Option (ℕ × Bool)) → option_map (λ (q : ℕ × Bool). q.0) o ≡ Some j → get_or pairs j None ≡ Some p → and_then o (λ (q : ℕ × Bool). get_or pairs q.0 None) ≡ Some p
 pair_by pairs j p None e got = cc

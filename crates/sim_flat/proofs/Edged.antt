@@ -34,6 +34,7 @@ use Rattle.sim_flat.proofs.Names.{of_both, is_both, of_edge, has_edge}
 use Rattle.sim_flat.proofs.Ports.{direction_same}
 use Rattle.sim_flat.proofs.Standing.{v2, number_is, net_is, table_of, lines_are, module_of, top_low, top_is, IsInner, inner_of, joins_are}
 use Rattle.sim_flat.proofs.Edging.{of_net_edges, has_net_edges, of_below, has_below}
+use Rattle.vlog_run_laws.proofs.runs.NetsRead.{by_input as asked_test}
 
 -- an edge leads from a net to one that it has its number from
 pub record IsPartEdge (ms : List ModuleTree) (top : ModuleTree) (f : Flat) (p q : ℕ) : Type 0 where
@@ -42,10 +43,6 @@ pub record IsPartEdge (ms : List ModuleTree) (top : ModuleTree) (f : Flat) (p q 
   pub from : HasNumber ms f p net
   pub to : HasNumber ms f q part_net
   pub part : Has (parts ms top true net) part_net
-
-asked_test : (b : Bool) (ys : List Name) (y : Name) → Has (cond b ys []) y → b ≡ true
-asked_test true ys y h = refl
-asked_test false ys y h = absurd h
 
 module _ (ms : List ModuleTree) (top : ModuleTree) (f : Flat) (flat : IsFlat ms top f) where
   abbrev ports : List Declaration

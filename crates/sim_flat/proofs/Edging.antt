@@ -9,7 +9,6 @@ use Rattle.vlog_tree.specs.declared.table.Declaration.{Declaration}
 use Rattle.vlog_tree.specs.Form.{ModuleTree}
 use Rattle.tapa_base.specs.Lists.{Has}
 use Rattle.vlog_tree.specs.Table.{Name}
-use Rattle.vlog_net_graph.proofs.Growing.{flat_map-append}
 use Rattle.vlog_tree.proofs.Walks.{grows}
 use Rattle.tapa_base.proofs.Lists.{has_left, has_right, has_split, has_flat, of_flat}
 use Rattle.sim_flat.specs.Places.{number_in, both}
@@ -17,6 +16,7 @@ use Rattle.sim_flat.specs.declared.instances.Instance as row
 use Rattle.sim_flat.specs.declared.flat.Flat.{Flat}
 use Rattle.sim_flat.specs.Edges.{net_edge, net_edges, edges_below, joins_in, join_edges}
 use Rattle.sim_flat.proofs.Names.{of_both, is_both, of_edge, has_edge}
+use Rattle.std.proofs.lemmas.Grind.{flat_map-append}
 
 -- what two calls add
 pub added_both : {A B : Type 0} (f : A → List B) (xs ys : List A) (old mid new : List B) → mid ≡ old ++ flat_map f xs → new ≡ mid ++ flat_map f ys → new ≡ old ++ flat_map f (xs ++ ys)

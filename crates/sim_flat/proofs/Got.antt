@@ -3,7 +3,6 @@ use Rattle.std.proofs.Common.{◌≡◌, ℕ, zero, suc, ◌+◌, ◌<◌, List,
 use Rattle.std.specs.Prelude.{◌⊎◌, slice_get, replicate, unwrap_or, option_to_list, option_map}
 use Rattle.std.specs.List.{flat_map}
 use Rattle.std.proofs.lemmas.List.{length-append}
-use Rattle.std.proofs.lemmas.Option.{slice_get-map}
 use Rattle.vlog_tree.specs.declared.tree.Connection.{Connection}
 use Rattle.vlog_tree.specs.declared.tree.Item.{Item}
 use Rattle.vlog_tree.specs.declared.tree.Item.TheVariants.{Instance}
@@ -37,19 +36,6 @@ pub of_replicate : {A : Type 0} (c : ℕ) (x : A) (j : ℕ) (y : A) → slice_ge
 of_replicate zero x j y e = cc
 of_replicate (suc c) x zero y e = (omega arith, cc)
 of_replicate (suc c) x (suc j) y e = let r = of_replicate c x j y e in let low : j < c = r.0 in let z : suc j < suc c = omega arith in (z, r.1)
-
-pub map_got : {A B : Type 0} (f : A → B) (xs : List A) (n : ℕ) (x : A) → slice_get xs n ≡ Some x → slice_get (map f xs) n ≡ Some (f x)
-map_got f xs n x e = slice_get-map f xs n ∙ ap (λ o. option_map f o) e
-
-pub of_map_got : {A B : Type 0} (f : A → B) (xs : List A) (n : ℕ) (y : B) → slice_get (map f xs) n ≡ Some y → (x : A) × (slice_get xs n ≡ Some x) × (f x ≡ y)
-of_map_got f [] n y e = cc
-of_map_got f (x ∷ xs) zero y e = (x, refl, cc)
-of_map_got f (x ∷ xs) (suc n) y e = of_map_got f xs n y e
-
-pub there : {A : Type 0} (xs : List A) (n : ℕ) → n < length xs → (x : A) × (slice_get xs n ≡ Some x)
-there [] n h = absurd (omega arith)
-there (x ∷ xs) zero h = (x, refl)
-there (x ∷ xs) (suc n) h = there xs n (omega arith)
 
 -- the parts of two pairs that are one
 pub pair_parts : {A B : Type 0} (a c : A) (b d : B) → ◌≡◌ {A = Option (A × B)} (Some (a, b)) (Some (c, d)) → (a ≡ c) × (b ≡ d)

@@ -9,9 +9,9 @@ use Rattle.vlog_tree.specs.Table.{Name, declared, declaration_name, first_violat
 use Rattle.vlog_tree.specs.V2.{v2_uses}
 use Rattle.tapa_base.proofs.Lists.{has_got, of_map}
 use Rattle.vlog_scope.specs.NameTable.{places_from}
-use Rattle.vlog_run_laws.proofs.runs.Sound.{true_not_false}
 use Rattle.sim_flat.proofs.Once.{declared_at_once}
 use Rattle.sim_flat.specs.Places.{place_in, number_in, both, DeclaredAt}
+use Rattle.tapa_base.proofs.Tests.{true_not_false}
 
 abbrev names : List Declaration → List Name
 names ds = map declaration_name ds

@@ -30,11 +30,10 @@ use Rattle.sim_flat.specs.Places.{number_in, DeclaredAt}
 use Rattle.sim_flat.specs.Tables.{IsChild, IsTable}
 use Rattle.sim_flat.specs.Flat.{IsOwner, IsFlat, HasNumber}
 use Rattle.sim_flat.specs.Edges.{table_at, lines_at, base_at, connections_of, connections_in, connection_edge, joins_in, join_edges, NumbersFit}
-use Rattle.sim_flat.proofs.Got.{there, pair_parts}
+use Rattle.sim_flat.proofs.Got.{pair_parts}
 use Rattle.sim_flat.proofs.Names.{place_declared, place_is, of_number, number_of}
-
-above_zero : (n : ℕ) → 0 < n → (n == 0) ≡ false
-above_zero n pos = grind (arith, nat_tests)
+use Rattle.tapa_base.proofs.Tests.{above_zero}
+use Rattle.tapa_base.proofs.Got.{some_at as there}
 
 -- the way to an instance is one
 pub path_single : (ms : List ModuleTree) (rows : List row.Instance) (path way : Path) (k : ℕ) → StandsAt ms rows k path → StandsAt ms rows k way → path ≡ way

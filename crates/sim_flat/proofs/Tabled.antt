@@ -34,10 +34,12 @@ use Rattle.sim_flat.specs.declared.tables.Table.{Table}
 use Rattle.sim_flat.specs.Places.{place_in, both, DeclaredAt}
 use Rattle.sim_flat.specs.Tables.{IsInstanceAt, IsConnected, IsSource, IsChild, IsTable}
 use Rattle.sim_flat.specs.Written.{written, source_by, first_source, AreScopes, inner_names, join_of, output_of, some_join, some_output, some_line, join_writes, output_writes, joined_of, line_writes, lines_writes, line_children, lines_children, child_row, child_rows}
-use Rattle.sim_flat.proofs.Got.{map_got, of_map_got, of_option, has_option, instance_got}
+use Rattle.sim_flat.proofs.Got.{of_option, has_option, instance_got}
 use Rattle.sim_flat.proofs.Names.{place_declared, place_found, place_is, of_both, is_both}
 use Rattle.sim_flat.proofs.Ports.{inner_named, port_same, direction_same}
 use Rattle.sim_flat.proofs.Writes.{written_length, written_at, WrittenAt}
+use Rattle.vlog_run_laws.proofs.runs.Solved.{count_one as count_some, some_counted as one_of_count, some_step as one_step}
+use Rattle.tapa_base.proofs.Got.{got_map as map_got, of_map_got}
 
 -- a write of lines is that of one of them
 record IsLineWrite (s : Scopes) (ds : List Declaration) (line c : ℕ) (items : List Item) (w : ℕ × Source) : Type 0 where
@@ -139,19 +141,8 @@ of_output : (inner ds : List Declaration) (l : Connection) (b : Bool) → net_ki
 of_output inner ds l true e p q h = cc
 of_output inner ds l false e p q h = let r = of_both (place_in inner l.port) (place_in ds l.net) p q h in (refl, r.0, r.1)
 
-one_step : {A : Type 0} (p : A → Bool) (x : A) (xs : List A) (b : Bool) → p x ≡ b → 1 ≤ one_if b + count_by p xs → (1 ≤ count_by p xs → (y : A) × Has xs y × (p y ≡ true)) → (y : A) × Has (x ∷ xs) y × (p y ≡ true)
-one_step p x xs true e h f = (x, inl refl, e)
-one_step p x xs false e h f = let r = f (omega arith) in (r.0, inr r.1, r.2)
-
-one_of_count : {A : Type 0} (p : A → Bool) (xs : List A) → 1 ≤ count_by p xs → (x : A) × Has xs x × (p x ≡ true)
-one_of_count p [] h = absurd (omega arith)
-one_of_count p (x ∷ xs) h = one_step p x xs (p x) refl (subst (λ n. 1 ≤ n) (count_cons p x xs) h) (one_of_count p xs)
-
 abbrev no_place : Option ℕ
 no_place = None
-
-count_some : (n : ℕ) → (n == 1) ≡ true → 1 ≤ n
-count_some n e = grind (arith, nat_tests)
 
 module _ (ms : List ModuleTree) (sound : IsSound ms) (m : ModuleTree) (in_ms : Has ms m) (s : Scopes) (are : AreScopes ms s) where
   abbrev ds : List Declaration

@@ -1,5 +1,6 @@
 -- From each net of a flattened design to the nets that it has its number from, as edges between numbers.
-use Rattle.std.specs.Prelude.{◌≡◌, ℕ, zero, suc, ◌+◌, ◌==◌, ◌<◌, ◌^◌, List, [], ◌++◌, Option, Some, None, length, get_or, map, slice_get, option_to_list, option_and_then, if◌then◌else◌}
+use Rattle.std.specs.Prelude.{◌≡◌, ◌+◌, ◌==◌, ◌<◌, ◌^◌, ◌++◌, if◌then◌else◌}
+use Rattle.std.specs.Prelude.{ℕ, zero, suc, List, [], Option, Some, None, length, get_or, map, slice_get, option_to_list, option_and_then}
 use Rattle.std.specs.List.{flat_map}
 use Rattle.std.specs.Option.{option_map_or}
 use Rattle.vlog_tree.specs.declared.tree.Connection.{Connection}

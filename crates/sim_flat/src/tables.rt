@@ -28,8 +28,8 @@ pub struct Child {
     pub joined: Vec<Option<usize>>,
 }
 
-/// What a name of a module has its number from: nothing, where it is the clock, a memory or an instance; itself, where it is a
-/// register; the outside, where it is an input; the driver of a line; or a port of an instance.
+/// The source of the number of a name in a module: nothing if the name is the clock, a memory or an instance; the name itself if it is a register; the outside
+/// if it is an input; the driver of a line; or a port of an instance.
 #[derive(Clone, Copy)]
 pub enum Source {
     Nothing,

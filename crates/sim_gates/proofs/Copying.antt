@@ -15,9 +15,9 @@ use Rattle.sim_tape.specs.Tape.{pair_value}
 use Rattle.sim_gates.specs.Nets.{IsAtom}
 use Rattle.sim_gates.proofs.AtomSlots.{atom_range}
 use Rattle.sim_gates.proofs.Pairs.{fits_word}
-use Rattle.sim_gates.proofs.ReadParts.{join_fits}
 use Rattle.sim_gates.proofs.Operands.{copy_fits, narrow_is}
 use Rattle.sim_gates.proofs.Operated.{word_below}
+use Rattle.tapa_base.proofs.Tests.{join_fits}
 
 one_more : (a k p : ℕ) → (a * k) * p + a ≡ a * (k * p + 1)
 one_more a k p = grind arith

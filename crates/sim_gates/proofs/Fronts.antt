@@ -20,9 +20,9 @@ use Rattle.sim_tape.specs.Tape.{TapeTree, IsTape, Extends, PairBefore, pair_valu
 use Rattle.sim_tape.proofs.Growing.{extends_refl, extends_twice, solved_on}
 use Rattle.sim_gates.specs.Nets.{HavePairs, IsAtom, Told}
 use Rattle.sim_gates.proofs.Pairs.{nothing}
-use Rattle.sim_gates.proofs.ReadParts.{join_fits}
 use Rattle.sim_gates.specs.declared.joining.Front.{Front}
 use Rattle.sim_gates.specs.Drivers.{IsDriven}
+use Rattle.tapa_base.proofs.Tests.{join_fits}
 
 -- a number with an atom's below it
 pub put_told : (ds : List Declaration) (s : Sizes) (c : Cycle) (ns : List ℕ) (a : Atom) (k n : ℕ) (above below r : Pair) → atom_fits ds a ≡ true → IsAtom ds a s c ns below → n ≡ atom_bits ds a

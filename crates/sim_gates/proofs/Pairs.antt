@@ -14,7 +14,8 @@ use Rattle.sim_tape.specs.Solved.{IsSolved}
 use Rattle.sim_tape.proofs.Growing.{zero_says}
 use Rattle.sim_gates.specs.Operands.{narrow_of, IsBitwise}
 use Rattle.sim_gates.proofs.Operating.{one_gate, two_gates}
-use Rattle.sim_gates.proofs.ReadParts.{part_gate, low_part, high_part, high_is_none, low_alone, join_gate, join_wide, join_fits, complement_gate}
+use Rattle.sim_gates.proofs.ReadParts.{part_gate, low_part, high_part, high_is_none, low_alone, join_gate, join_wide, complement_gate}
+use Rattle.tapa_base.proofs.Tests.{join_fits}
 
 -- a slot with nothing above it
 pub single : (t : TapeTree) → IsTape t → (cells : Cells) (ns : List ℕ) → IsSolved t cells ns → (s : ℕ) → pair_value ns (record { low = s; high = 0 }) ≡ number_at ns s

@@ -56,12 +56,6 @@ join_wide a b n w h =
     let e : x % 2 ^ w ≡ x = mod-eq_of_lt low in
     ap (λ k. (k + n) % 2 ^ w) e ∙ mod-eq_of_lt h
 
--- both together fit the bits of both
-pub join_fits : (a n j k : ℕ) → a < 2 ^ j → n < 2 ^ k → a * 2 ^ k + n < 2 ^ (j + k)
-join_fits a n j k h l = joined_fits a n (2 ^ j) (2 ^ k) h l (pow-add 2 j k) where
-  joined_fits : (a n p q : ℕ) {w : ℕ} → a < p → n < q → w ≡ p * q → a * q + n < w
-  joined_fits a n p q h l e = let b : a * q + q ≤ p * q = row_fits a q p q h (omega arith) in omega arith
-
 -- the complement of 64 bits or fewer
 pub complement_gate : (n w : ℕ) → w ≤ 64 → n < 2 ^ w → bit_and ((2 ^ w - 1 + 2 ^ 64 - n) % 2 ^ 64) (2 ^ w - 1) ≡ 2 ^ w - 1 - n
 complement_gate n w h low =

@@ -17,7 +17,7 @@ use Rattle.vlog_tree.specs.Names.{is_name, IsName}
 use Rattle.vlog_tree.specs.Refused.{IsDesign}
 use Rattle.vlog_tree.specs.Table.{Name, declared, items_declared, port_declared, bits_of}
 use Rattle.vlog_run_laws.proofs.runs.Alone.{same_name, count_cons, below_two, declared_once}
-use Rattle.vlog_run_laws.proofs.runs.Sizes.{all_at, declared_bits}
+use Rattle.vlog_run_laws.proofs.runs.Sizes.{declared_bits}
 use Rattle.vlog_run_laws.proofs.widths.Fitting.{run_fits}
 use Rattle.vlog_run_laws.proofs.widths.Ruled.{net_width}
 use Rattle.vlog_design.specs.Designs.{DesignTree}
@@ -32,13 +32,10 @@ use Rattle.vcd_text.proofs.OneDump.{one_dump}
 use Rattle.sim_output.specs.Dumped.{net_of, nets_of, values_in, IsDumped}
 use Rattle.sim_output.specs.DumpLaws.{FitsDesign, DumpsAreDumps, DumpsShowTheRun}
 use Rattle.sim_output.proofs.Turning.{net_here, name_here}
+use Rattle.tapa_base.proofs.Got.{all_at}
+use Rattle.vlog_run_laws.proofs.loops.Plain.{list_has as all_here}
 
 -- ---- what a module declares has a name
-
-all_here : {A : Type 0} (p : A → Bool) (xs : List A) (x : A) → list_all p xs ≡ true → Has xs x → p x ≡ true
-all_here p [] x h k = absurd k
-all_here p (y ∷ ys) x h (inl e) = ap p (sym e) ∙ (and_parts (p y) (list_all p ys) h).0
-all_here p (y ∷ ys) x h (inr k) = all_here p ys x (and_parts (p y) (list_all p ys) h).1 k
 
 items_named : (items : List Item) → list_all is_item items ≡ true → (d : Declaration) → Has (items_declared items) d → IsName d.name
 items_named [] h d k = absurd k
@@ -173,7 +170,7 @@ dumps_are_dumps design is env fits limit at text h = is_dump design is env fits 
 abbrev later : ℕ → ℕ → ℕ → List ℕ
 later n x y = if not (x == y) then value_line (suc n) x else []
 
-value_lines_same : (f g : ℕ → ℕ) (last : ℕ) → ((n : ℕ) → n ≤ last → f n ≡ g n) → value_lines f last ≡ value_lines g last
+pub value_lines_same : (f g : ℕ → ℕ) (last : ℕ) → ((n : ℕ) → n ≤ last → f n ≡ g n) → value_lines f last ≡ value_lines g last
 value_lines_same f g zero h = ap (value_line 0) (h 0 (omega arith))
 value_lines_same f g (suc n) h =
     ap (λ (l : List ℕ). l ++ later n (f (suc n)) (f n)) (value_lines_same f g n (λ k le. h k (omega arith)))

@@ -5,13 +5,11 @@ use Rattle.std.proofs.lemmas.Bool.{cases_eq}
 use Rattle.std.proofs.lemmas.Bool.Decides.{nat_tests}
 use Rattle.std.proofs.lemmas.Option.{slice_get_within, same_Some}
 use Rattle.tapa_base.specs.Gaps.{Bytes}
-use Rattle.vlog_tree.specs.declared.table.Declaration.{Declaration}
 use Rattle.vlog_tree.specs.Form.{ModuleTree}
 use Rattle.vlog_tree.specs.Refused.{IsDesign}
 use Rattle.vlog_tree.specs.Cycle.{Cycle, Path}
 use Rattle.vlog_tree.specs.Environment.{Environment, FitsShape, RunsIn, shape_of}
 use Rattle.vlog_design.specs.Designs.{DesignTree, TopOf}
-use Rattle.cycle_sim.specs.ShownNets.{shown_nets}
 use Rattle.cycle_sim.specs.Told.{IsToldOf}
 use Rattle.cycle_sim.specs.Sims.{SimTree}
 use Rattle.cycle_sim.proofs.Showing.{told_value, told_fits}
@@ -21,6 +19,7 @@ use Rattle.sim_output.specs.Dumped.{net_of, nets_of, name_at, values_in, dump_of
 use Rattle.sim_output.specs.Turns.{told_at, Fit, turn_line, turn_lines}
 use Rattle.sim_output.proofs.Listing.{lines_alike}
 use Rattle.sim_output.proofs.Turning.{net_here, name_here}
+use Rattle.vlog_run_laws.proofs.runs.Surround.{later as not_first}
 
 -- ---- dumps of more and more cycles
 
@@ -42,9 +41,6 @@ dump_front m run n (suc k) low = elim (cases_eq n (suc k)) [
 ]
 
 -- ---- one cycle of a run
-
-not_first : (n : ℕ) → (suc n == 0) ≡ false
-not_first n = grind (arith, nat_tests)
 
 module _ (design : DesignTree) (is_design : IsDesign design.modules design.top) (m : ModuleTree) (at : TopOf design m) (env : Environment) (env_fits : FitsShape env (shape_of m)) (nets : ℕ → Path → Cycle) (r : RunsIn design.modules m env nets)
     (s : SimTree) (told : IsToldOf design.modules m env nets s.told) where

@@ -20,12 +20,12 @@ use Rattle.vlog_design.specs.Designs.{DesignTree, TopOf}
 use Rattle.vlog_run_laws.specs.runs.Filled.{IsFilled, HoldsFill, filled}
 use Rattle.vlog_run_laws.specs.runs.OneRun.{SameHeld, BeginsWith, IsRunFrom, IsOnly, IsSameRun}
 use Rattle.vlog_run_laws.proofs.runs.Filled as fill
-use Rattle.vlog_run_laws.proofs.runs.Sizes.{all_at, all_from}
 use Rattle.vlog_run_laws.proofs.runs.Surround.{one_run_from}
 use Rattle.cycle_sim.specs.Sims.{IsDoneAt, last_cycle}
 use Rattle.cycle_sim.proofs.TopNets.{done_read, done_clock, ack_net, we_net, addr_net, wdata_net, wr_net, rdy_net, din_net}
 use Rattle.sim_output.specs.Reports.{streams_to, memories_at, report_to, last_of, IsSimulated}
 use Rattle.sim_output.proofs.Simulating.{first_same}
+use Rattle.tapa_base.proofs.Got.{all_at, all_from}
 
 -- ---- what is read off two runs that agree
 

@@ -12,8 +12,8 @@ use std::alloc::Global;
 use tapa_base::OutOfMemory;
 use vlog_design::{Design, Env};
 
-/// Runs a design in an environment that fits it, from power-up with 0 in every register and every cell, until it is done and
-/// for at most `limit` cycles, and returns the cycle in which it is done, or `None` where it is done in none of them.
+/// Runs a design in an environment that fits it until the design is done, for at most `limit` cycles. Power-up puts 0 in every register and every cell.
+/// Returns the cycle in which the design is done, or `None` if there is none.
 pub fn done_cycle(
     alloc: Global,
     design: Design,

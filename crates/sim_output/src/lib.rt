@@ -1,5 +1,4 @@
-//! What is shown of a design that is simulated on its data: the report of what its streams carried and what the memories
-//! around it hold, the cycle in which it is done, or the value change dump of the nets of its top.
+//! Outputs of a design that is simulated on its data: the report of its streams and memories, the cycle in which it is done, and the value change dump of the nets of its top.
 #![tactic(auto)]
 
 mod done;

@@ -2,8 +2,8 @@
 
 ghost use Rattle.sim_output.specs.ReportLaws.{DesignsHaveOneReport, DesignsHaveAReport};
 
-/// In an environment and up to a limit a design has exactly one report: from power-up with 0 in every register and every cell it is
-/// done first in one cycle, or in none up to the limit, and what its streams carried and its memories hold there is one.
+/// In an environment and up to a limit a design has exactly one report. From power-up with 0 in every register and every cell, the first cycle in which it is
+/// done is determined, or there is none up to the limit; so are the tokens of its streams and the cells of its memories.
 pub fn law_one_report()
     ensures once { DesignsHaveOneReport }
     ensures some { DesignsHaveAReport }

@@ -12,8 +12,9 @@ use Rattle.slot_plan.specs.Least.{NotAfter}
 use Rattle.slot_plan.specs.Plan.{load}
 use Rattle.slot_plan.specs.Search.{Begins, IsBelowRest}
 use Rattle.slot_plan.specs.Tables.{items, alone_at, joint_at, distance_at, beside, step_cost, cost_of, IsLayout}
-use Rattle.flow_cert.proofs.Sums.{total_same, total_le}
+use Rattle.flow_cert.proofs.Sums.{total_same}
 use Rattle.slot_plan.proofs.Sums.{total_more, total_split}
+use Rattle.task_graph.proofs.Sizes.{total_le}
 
 pub not_after_refl : (p : List ℕ) → NotAfter p p
 not_after_refl [] = tt

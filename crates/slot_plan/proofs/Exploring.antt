@@ -12,10 +12,11 @@ use Rattle.slot_plan.specs.Least.{NotAfter}
 use Rattle.slot_plan.specs.Plan.{load}
 use Rattle.slot_plan.specs.Search.{IsAnswer, Begins, IsSound, Covers, IsEarlier, IsFrom, Explored, ExploredBelow, IsBelowRest, IsAt, IsAtPlace}
 use Rattle.slot_plan.specs.Tables.{items, places, joint_at, distance_at, beside, cost_of, Suits, IsLayout, AreTables}
-use Rattle.flow_cert.proofs.Sums.{total_le, total_const}
+use Rattle.flow_cert.proofs.Sums.{total_const}
 use Rattle.slot_plan.proofs.Sums.{pick_same, pick_other}
 use Rattle.slot_plan.proofs.Uses.{amount_set}
 use Rattle.slot_plan.proofs.Beginnings.{goes_on, begins_all, cost_push, load_push, load_at_most, low_at_most, none_below, not_after_fork, not_after_refl, place_of_begin, begins_push, push_long}
+use Rattle.task_graph.proofs.Sizes.{total_le}
 
 -- all layouts that begin so cost at least a number, and the best no more than that
 pub explored_prune : (t : Tables) (p : List ℕ) (bound : ℕ) (b : Best) → IsSound t (Some b) → ((q : List ℕ) → Begins p q → IsEarlier (Some b) q) → ((q : List ℕ) → IsLayout t q → Begins p q → bound ≤ cost_of t q) → b.cost ≤ bound → Explored t p (Some b) (Some b)

@@ -26,7 +26,8 @@ use Rattle.slot_plan.proofs.Tabled.{AreParts}
 use Rattle.slot_plan.proofs.Merging.{pinned_may}
 use Rattle.flow_cert.proofs.Duality.{heads_inside, tails_inside}
 use Rattle.slot_plan.proofs.Parts.{one_same, one_other}
-use Rattle.flow_cert.proofs.Sums.{total_le, total_const}
+use Rattle.flow_cert.proofs.Sums.{total_const}
+use Rattle.task_graph.proofs.Sizes.{total_le}
 
 -- ---- row by row
 

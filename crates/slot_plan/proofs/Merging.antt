@@ -23,10 +23,11 @@ use Rattle.slot_plan.specs.Search.{IsAnswer}
 use Rattle.slot_plan.specs.Tables.{IsLayout}
 use Rattle.slot_plan.proofs.Parts.{one_same, one_other, reached}
 use Rattle.slot_plan.proofs.Placings.{not_self}
-use Rattle.flow_cert.proofs.Sums.{total_same, total_le, total_add, total_one, total_zero}
+use Rattle.flow_cert.proofs.Sums.{total_same, total_add, total_one, total_zero}
 use Rattle.slot_plan.proofs.Sums.{total_scale, pick_same, pick_other}
 use Rattle.slot_plan.proofs.Those.{those_apart, Agree, Differ, order_cases, agree_order, differ_order}
 use Rattle.slot_plan.proofs.Tabled.{AreParts, reached_one, home_is, region_is, cost_merged}
+use Rattle.task_graph.proofs.Sizes.{total_le}
 
 -- ---- what slots hold
 

@@ -1,5 +1,6 @@
 -- Plans: a slot for each group.
-use Rattle.std.specs.Prelude.{◌≡◌, ℕ, ◌+◌, ◌-◌, ◌*◌, ◌/◌, ◌%◌, ◌^◌, ◌<◌, ◌≤◌, ◌==◌, false, List, length, if◌then◌else◌, Some, slice_get, slice_index, slice_index_or}
+use Rattle.std.specs.Prelude.{◌≡◌, ◌+◌, ◌-◌, ◌*◌, ◌/◌, ◌%◌, ◌^◌, ◌<◌, ◌≤◌, ◌==◌, if◌then◌else◌}
+use Rattle.std.specs.Prelude.{ℕ, false, List, length, Some, slice_get, slice_index, slice_index_or}
 use Rattle.task_graph.specs.declared.Graph.{Graph}
 use Rattle.task_graph.specs.declared.Use.{Use}
 use Rattle.task_graph.specs.Streams.{amount_at}

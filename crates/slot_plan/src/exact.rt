@@ -78,8 +78,7 @@ fn least_beside(
     }
 }
 
-/// Finds the slots of the least of the plans in which each free group stays in a slot whose region is the one where the group is
-/// at home, and of several the first in order. Returns `None` if there is no such plan.
+/// Finds the slots of the least plan in which each free group stays in a slot of its home region; of several such plans, the first in order. Returns `None` if there is no such plan.
 pub fn least_at_home(
     alloc: Global,
     graph: &Graph,

@@ -113,7 +113,7 @@ same_needs g d r needs e h = record {
   small = h.small;
 }
 
-within_as : (used used' has has' percent percent' : ℕ) → used ≡ used' → has ≡ has' → percent ≡ percent' → used * 100 ≤ has * percent → used' * 100 ≤ has' * percent'
+pub within_as : (used used' has has' percent percent' : ℕ) → used ≡ used' → has ≡ has' → percent ≡ percent' → used * 100 ≤ has * percent → used' * 100 ≤ has' * percent'
 within_as used used' has has' percent percent' a b c h =
     subst (λ (n : ℕ). used' * 100 ≤ has' * n) c (subst (λ (n : ℕ). used' * 100 ≤ n * percent) b (subst (λ (n : ℕ). n * 100 ≤ has * percent) a h))
 

@@ -1,6 +1,7 @@
 -- Halving: a plan level by level. At each level the regions of the one before are cut in two, rows first and then columns, and
 -- the groups of each region are divided among its parts (AutoBridge's partitioning, level by level).
-use Rattle.std.specs.Prelude.{◌≡◌, ◌≢◌, ℕ, zero, suc, ◌+◌, ◌-◌, ◌*◌, ◌/◌, ◌%◌, ◌<◌, ◌≤◌, ◌==◌, ◌&&◌, nat_lt, nat_le, true, List, length, if◌then◌else◌, Some, slice_get, slice_index}
+use Rattle.std.specs.Prelude.{◌≡◌, ◌≢◌, ◌+◌, ◌-◌, ◌*◌, ◌/◌, ◌%◌, ◌<◌, ◌≤◌, ◌==◌, ◌&&◌, if◌then◌else◌}
+use Rattle.std.specs.Prelude.{ℕ, zero, suc, nat_lt, nat_le, true, List, length, Some, slice_get, slice_index}
 use Rattle.task_graph.specs.declared.Graph.{Graph}
 use Rattle.task_graph.specs.Streams.{amount_at}
 use Rattle.task_graph.specs.Arcs.{total}

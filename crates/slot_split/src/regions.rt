@@ -1,5 +1,6 @@
 //! The regions of a level as a grid of their own: the first slot of each region has what the region has.
-ghost use Rattle.std.specs.Prelude.{◌≡◌, ◌<◌, ◌≤◌, ◌+◌, ◌*◌, ◌^◌, ◌==◌, ◌&&◌, ℕ, true, false, map, IfOk, IfSome, length, slice_get, slice_index, slice_index_or, if◌then◌else◌};
+ghost use Rattle.std.specs.Prelude.{◌≡◌, ◌<◌, ◌≤◌, ◌+◌, ◌*◌, ◌^◌, ◌==◌, ◌&&◌, if◌then◌else◌};
+ghost use Rattle.std.specs.Prelude.{ℕ, true, false, map, IfOk, IfSome, length, slice_get, slice_index, slice_index_or};
 ghost use Rattle.std.specs.Option.{option_map};
 ghost use Rattle.task_graph.specs.Streams.{amount_at};
 ghost use Rattle.plan_device.specs.Devices.{IsDevice};

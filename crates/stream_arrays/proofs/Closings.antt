@@ -11,6 +11,7 @@ use Rattle.tapa_syntax.specs.declared.terminal.Terminal.TheVariants as terminal
 use Rattle.stream_arrays.specs.Standing.{is}
 use Rattle.stream_arrays.specs.Forms.{inside_size, open_behind}
 use Rattle.stream_arrays.specs.Reading.{AreClosings}
+use Rattle.tapa_base.proofs.Tests.{above_zero as nonzero}
 
 -- behind a parenthesis that closes, where more are open, another one closes
 abbrev pub behind : Bytes → ℕ → List Lexeme → Option ℕ → Option ℕ
@@ -23,9 +24,6 @@ one_behind text o l ls (Some k) = by (inside_size text o (drop (suc k) ls))
     by : (r : Option ℕ) → option_map suc (option_map (λ m. suc (k + m)) r) ≡ option_map (λ m. suc (suc k + m)) r
     by None = refl
     by (Some m) = let e : suc (suc (k + m)) ≡ suc (suc k + m) = omega arith in ap (λ n. Some n) e
-
-nonzero : (n : ℕ) → 0 < n → (n == 0) ≡ false
-nonzero n h = grind (arith, nat_tests)
 
 -- what one lexeme does, by whether it closes and whether it opens
 abbrev step : Bytes → List Lexeme → Bool → Bool → ℕ → Option ℕ

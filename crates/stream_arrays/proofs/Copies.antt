@@ -23,22 +23,8 @@ use Rattle.stream_arrays.specs.Written.{Scope, Step, Outcome, and_then, faulty, 
 use Rattle.stream_arrays.specs.Written.{declaration_step, invocation_step, element_step, other_step, constants_behind, depth_behind, opened_behind, scope_behind, step, written_from}
 use Rattle.stream_arrays.specs.Written.{most, within_most, written_out}
 use Rattle.stream_arrays.specs.declared.fault.ArrayCode.TheVariants.{A3, A4}
-
-pub and_left : (a b : Bool) → (a && b) ≡ true → a ≡ true
-and_left true b e = refl
-and_left false b e = e
-
-pub and_right : (a b : Bool) → (a && b) ≡ true → b ≡ true
-and_right true b e = e
-and_right false b e = absurd (cc)
-
-not_true : (a : Bool) → not a ≡ true → a ≡ false
-not_true true e = absurd (cc)
-not_true false e = refl
-
-and_false : (a b : Bool) → b ≡ false → (a && b) ≡ false
-and_false true b e = e
-and_false false b e = refl
+use Rattle.std.proofs.lemmas.Bool.{false_from_ne_true as false_if, and_right as and_false}
+use Rattle.tapa_base.proofs.Tests.{not_so as not_true, and_left, and_right}
 
 -- each tail of a plain text is plain
 plain_behind : (text : Bytes) (n : ℕ) (ls : List Lexeme) → is_plain text ls ≡ true → is_plain text (drop n ls) ≡ true
@@ -84,10 +70,6 @@ plain_forms text (l ∷ ls) h = ((no_declaration text (l ∷ ls) h, no_invocatio
 is_terminal : (text : Bytes) (m : Terminal) (l : Lexeme) → is text m l ≡ true → terminal_at text l ≡ m
 unfolding same
 is_terminal text m l e = same_true the_type (search rules) _ _ e
-
-false_if : (t : Bool) → (t ≡ true → ⊥) → t ≡ false
-false_if true h = absurd (h refl)
-false_if false h = refl
 
 never_head : (text : Bytes) (ls : List Lexeme) → Unformed (symbols_of text ls) → stand text (terminal.Tapa ∷ terminal.Scope ∷ terminal.Name ∷ terminal.Less ∷ []) ls ≡ true → ⊥
 never_head text [] u h = absurd (cc)

@@ -11,7 +11,6 @@ use Rattle.stream_arrays.specs.declared.fault.ArrayCode.TheVariants.{A2, A3}
 use Rattle.stream_arrays.specs.declared.piece.Piece.{Piece}
 use Rattle.stream_arrays.specs.declared.piece.Piece.TheVariants.{Word, Comma, Instance, Element}
 use Rattle.stream_arrays.specs.Standing.{is, is_named, type_size}
-use Rattle.stream_arrays.specs.Numbers.{may_count}
 use Rattle.stream_arrays.specs.Forms.{Declaration, label_size, names_behind, names_from, declared_as, with_names, with_depth, behind_count, behind_type, with_type, begins_declaration, declaration, Invocation, begins_invocation, invoked, inside_size, invocation, argument_size}
 use Rattle.stream_arrays.specs.Words.{start_of, end_of, form_text, element_name, below, more_elements, elements, more_names, name_words, depth_words, words_of, piece_word, invoke_words}
 use Rattle.stream_arrays.specs.Written.{Scope, Step, Outcome, and_then, faulty, count_in, array_at, without_arrays, without_array, with_arrays, element_in, index_in, first_place, declaration_words, declaration_step, whole_array, instances, element_pieces, plain_pieces, by_element, by_array, argument_pieces, pieces_from, head_size, invocation_pieces, invocation_step, element_step, argument_element, other_step, step}
@@ -19,7 +18,7 @@ use Rattle.stream_arrays.proofs.Feeds.{feeds, Clean, element_clean, text_is, lex
 
 -- ---- what holds of all of a list, where a value is there, where a reading succeeds
 
-all_both : {A : Type 0} (P : A → Type 0) (xs ys : List A) → AllByRecursion P xs → AllByRecursion P ys → AllByRecursion P (xs ++ ys)
+pub all_both : {A : Type 0} (P : A → Type 0) (xs ys : List A) → AllByRecursion P xs → AllByRecursion P ys → AllByRecursion P (xs ++ ys)
 all_both P [] ys h k = k
 all_both P (x ∷ xs) ys h k = (h.0, all_both P xs ys h.1 k)
 
@@ -33,11 +32,11 @@ all_drop P zero xs h = h
 all_drop P (suc n) [] h = tt
 all_drop P (suc n) (x ∷ xs) h = all_drop P n xs h.1
 
-all_map : {A B : Type 0} (P : B → Type 0) (Q : A → Type 0) (f : A → B) → ((x : A) → Q x → P (f x)) → (xs : List A) → AllByRecursion Q xs → AllByRecursion P (map f xs)
+pub all_map : {A B : Type 0} (P : B → Type 0) (Q : A → Type 0) (f : A → B) → ((x : A) → Q x → P (f x)) → (xs : List A) → AllByRecursion Q xs → AllByRecursion P (map f xs)
 all_map P Q f each [] h = tt
 all_map P Q f each (x ∷ xs) h = (each x h.0, all_map P Q f each xs h.1)
 
-all_flat : {A B : Type 0} (P : B → Type 0) (Q : A → Type 0) (f : A → List B) → ((x : A) → Q x → AllByRecursion P (f x)) → (xs : List A) → AllByRecursion Q xs → AllByRecursion P (flat_map f xs)
+pub all_flat : {A B : Type 0} (P : B → Type 0) (Q : A → Type 0) (f : A → List B) → ((x : A) → Q x → AllByRecursion P (f x)) → (xs : List A) → AllByRecursion Q xs → AllByRecursion P (flat_map f xs)
 all_flat P Q f each [] h = tt
 all_flat P Q f each (x ∷ xs) h = all_both P (f x) (flat_map f xs) (each x h.0) (all_flat P Q f each xs h.1)
 

@@ -13,12 +13,6 @@ use Rattle.stream_arrays.specs.Answers.{IsArrayCause}
 use Rattle.stream_arrays.proofs.Steps.{cause_then}
 use Rattle.stream_arrays.proofs.Writers.{more_more}
 
-pub one_more : {X : Type 0} {x : X} (f : ℕ → X) (n at : ℕ) → at < n → x ≡ f (n - at) → x ≡ f (suc (n - (at + 1)))
-one_more f n at below e = let turn : n - at ≡ suc (n - (at + 1)) = omega arith in e ∙ ap f turn
-
-pub no_more : {X : Type 0} {x : X} (f : ℕ → X) (n at : ℕ) → n ≤ at → x ≡ f (n - at) → x ≡ f 0
-no_more f n at done e = let none : n - at ≡ 0 = omega arith in e ∙ ap f none
-
 take_min : {A : Type 0} (n : ℕ) (xs : List A) → take (min n (length xs)) xs ≡ take n xs
 take_min zero xs = ap (λ k. take k xs) (let e : min 0 (length xs) ≡ 0 = omega arith in e)
 take_min (suc n) [] = ap (λ k. take k []) (let e : min (suc n) 0 ≡ 0 = omega arith in e)
@@ -93,10 +87,6 @@ all_done text n s before end rest w e = ap (λ z. ending w (written_from text n 
     by : (n : ℕ) → ending w (written_from text n s before end []) ≡ Ok (more w (drop end text))
     by zero = refl
     by (suc n) = refl
-
-pub nil_of : {A : Type 0} (xs : List A) → length xs ≡ 0 → xs ≡ []
-nil_of [] h = refl
-nil_of (x ∷ xs) h = absurd (omega arith)
 
 pub split_of : {A : Type 0} (xs : List A) → 0 < length xs → (x : A) × (xs ≡ x ∷ drop 1 xs)
 split_of [] h = absurd (omega arith)

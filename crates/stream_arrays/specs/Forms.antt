@@ -1,5 +1,6 @@
 -- The form at the start of a list of lexemes (TAPA documentation, `tapa::streams` and `invoke<mode, n>`).
-use Rattle.std.specs.Prelude.{ℕ, zero, suc, ◌-◌, Bool, false, ◌&&◌, ◌||◌, ◌==◌, if◌then◌else◌, List, [], ◌∷◌, ◌++◌, length, take, drop, slice_get, codes, bytes_eq, Option, Some, None, option_map}
+use Rattle.std.specs.Prelude.{◌-◌, ◌&&◌, ◌||◌, ◌==◌, if◌then◌else◌, ◌∷◌, ◌++◌}
+use Rattle.std.specs.Prelude.{ℕ, zero, suc, Bool, false, List, [], length, take, drop, slice_get, codes, bytes_eq, Option, Some, None, option_map}
 use Rattle.tapa_base.specs.Gaps.{Bytes}
 use Rattle.tapa_syntax.specs.declared.lexeme.Lexeme.{Lexeme}
 use Rattle.tapa_syntax.specs.declared.terminal.Terminal.TheVariants as terminal

@@ -1,5 +1,6 @@
 -- Names that denote numbers, and counts.
-use Rattle.std.specs.Prelude.{ℕ, Bool, not, ◌&&◌, ◌||◌, ◌==◌, nat_le, if◌then◌else◌, List, [], ◌∷◌, length, map, slice_index, Option, Some, None, option_and_then, bytes_eq, Vec}
+use Rattle.std.specs.Prelude.{◌&&◌, ◌||◌, ◌==◌, if◌then◌else◌, ◌∷◌}
+use Rattle.std.specs.Prelude.{ℕ, Bool, not, nat_le, List, [], length, map, slice_index, Option, Some, None, option_and_then, bytes_eq, Vec}
 use Rattle.std.specs.List.{list_all}
 use Rattle.std.specs.declared.alloc.Global.{Global}
 use Rattle.tapa_base.specs.Gaps.{Bytes}

@@ -1,5 +1,6 @@
 -- The text in which stream arrays and counted invokes are written out, and where a text has none.
-use Rattle.std.specs.Prelude.{ℕ, zero, suc, ◌+◌, ◌-◌, Bool, true, false, ◌&&◌, ◌||◌, ◌==◌, nat_le, nat_lt, if◌then◌else◌, List, [], ◌∷◌, ◌++◌, length, map, take, drop}
+use Rattle.std.specs.Prelude.{◌+◌, ◌-◌, ◌&&◌, ◌||◌, ◌==◌, if◌then◌else◌, ◌∷◌, ◌++◌}
+use Rattle.std.specs.Prelude.{ℕ, zero, suc, Bool, true, false, nat_le, nat_lt, List, [], length, map, take, drop}
 use Rattle.std.specs.Prelude.{slice_get, slice_range, codes, Option, Some, None, is_some, option_map, unwrap_or, Result, Ok, Err}
 use Rattle.tapa_base.specs.Gaps.{Bytes}
 use Rattle.tapa_base.specs.declared.text.Place.{Place}

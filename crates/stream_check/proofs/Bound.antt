@@ -6,13 +6,13 @@ use Rattle.tapa_syntax.specs.declared.program.Instance.{Instance}
 use Rattle.tapa_syntax.specs.declared.tree.Parameter.{Parameter}
 use Rattle.tapa_syntax.specs.declared.tree.Parameter.TheVariants as parameter
 use Rattle.tapa_syntax.specs.Flat.{FlatInstance, flat_instance}
-use Rattle.check_scope.proofs.Order.{begins}
 use Rattle.check_upper.specs.Tasks.{Task}
 use Rattle.check_scope.specs.declared.users.Users.{Users}
 use Rattle.check_scope.specs.declared.users.Users.TheVariants.{Nobody, One, Several}
 use Rattle.check_scope.specs.Users.{with_user, with_users, users_of}
 use Rattle.check_scope.proofs.Only.{one_only}
 use Rattle.stream_check.specs.Programs.{ends_of, bound_ends, bound_memories, instances_at, instances_with, memory_of, is_detached, is_of_detached}
+use Rattle.tapa_base.proofs.Got.{next_of as begins}
 
 -- ---- whether what is bound to one instance is bound to one that is not waited for
 

@@ -1,13 +1,14 @@
 -- The bodies of a program are the leaves of its instances.
 use Rattle.std.proofs.Common.{◌≡◌, ◌<◌, ◌+◌, ℕ, zero, suc, List, [], ◌∷◌, ◌++◌, Bool, true, false, ◌||◌, Some, refl, sym, ap, subst, ◌∙◌, arith}
 use Rattle.std.specs.Prelude.{slice_get, ◌==◌, if◌then◌else◌}
-use Rattle.std.proofs.lemmas.Bool.{eqb-true, eq-eqb}
+use Rattle.std.proofs.lemmas.Bool.{eqb-true, eq-eqb, or_right as or_true}
 use Rattle.tapa_syntax.specs.Flat.{FlatInstance, FlatLeaf}
 use Rattle.check_upper.specs.Tasks.{Body, leaf_body, upper_body, Task}
 use Rattle.stream_check.specs.Programs.{is_used, body_numbers, leaf_in, is_among, bodies_of, position_among}
-use Rattle.stream_check.proofs.WellLists.{nothing, the_same, Each, each_append}
+use Rattle.stream_check.proofs.WellLists.{nothing, Each, each_append}
 use Rattle.stream_check.proofs.WellPorts.{Ports, ports_of, LeafFits}
 use Rattle.stream_check.proofs.WellTasks.{BodyFits, TaskFits}
+use Rattle.tapa_base.proofs.Got.{the_same}
 
 same_number : (n : ℕ) → (n == n) ≡ true
 same_number n = eq-eqb n n refl
@@ -18,10 +19,6 @@ differ_by m n false e h = refl
 
 differ : (m n : ℕ) → (m ≡ n → ⊥) → (m == n) ≡ false
 differ m n h = differ_by m n (m == n) refl h
-
-or_true : (a b : Bool) → b ≡ true → (a || b) ≡ true
-or_true true b h = refl
-or_true false b h = h
 
 pub is_used_by : (xs : List FlatInstance) (i : ℕ) (x : FlatInstance) → slice_get xs i ≡ Some x → is_used xs x.body ≡ true
 is_used_by [] i x h = absurd (nothing x h)

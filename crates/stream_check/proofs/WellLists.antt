@@ -3,20 +3,10 @@ use Rattle.std.proofs.Common.{◌≡◌, ◌+◌, ℕ, zero, suc, List, [], ◌�
 use Rattle.std.specs.Prelude.{slice_get}
 use Rattle.check_scope.specs.declared.fault.Broken.{Broken}
 use Rattle.check_scope.specs.Faults.{where_so}
+use Rattle.tapa_base.proofs.Got.{got_left as get_left, get_right, the_same, got_map as get_map, of_map_got as get_unmap, length_map}
 
 pub nothing : {A : Type 0} (x : A) → None ≡ Some x → ⊥
 nothing x h = cc
-
-pub the_same : {A : Type 0} (x y : A) → Some x ≡ Some y → x ≡ y
-the_same x y h = cc
-
-pub both : (a b : Bool) → (a && b) ≡ true → (a ≡ true) × (b ≡ true)
-both true b h = (refl, h)
-both false b h = absurd (cc)
-
-pub not_so : (b : Bool) → not b ≡ true → b ≡ false
-not_so true h = absurd (cc)
-not_so false h = refl
 
 -- two lists of faults that are none together
 pub no_faults : (xs ys : List Broken) → xs ++ ys ≡ [] → (xs ≡ []) × (ys ≡ [])
@@ -48,29 +38,6 @@ pub each_get : {A : Type 0} (P : A → Type 0) (xs : List A) (i : ℕ) (x : A) �
 each_get P [] i x a h = absurd (nothing x h)
 each_get P (y ∷ xs) zero x (p, a) h = subst P (the_same y x h) p
 each_get P (y ∷ xs) (suc i) x (p, a) h = each_get P xs i x a h
-
-pub get_map : {A B : Type 0} (f : A → B) (xs : List A) (i : ℕ) (x : A) → slice_get xs i ≡ Some x → slice_get (map f xs) i ≡ Some (f x)
-get_map f [] i x h = absurd (nothing x h)
-get_map f (y ∷ xs) zero x h = ap (λ z. Some (f z)) (the_same y x h)
-get_map f (y ∷ xs) (suc i) x h = get_map f xs i x h
-
-pub get_unmap : {A B : Type 0} (f : A → B) (xs : List A) (i : ℕ) (y : B) → slice_get (map f xs) i ≡ Some y → (x : A) × (slice_get xs i ≡ Some x) × (f x ≡ y)
-get_unmap f [] i y h = absurd (nothing y h)
-get_unmap f (x ∷ xs) zero y h = (x, refl, the_same (f x) y h)
-get_unmap f (x ∷ xs) (suc i) y h = get_unmap f xs i y h
-
-pub length_map : {A B : Type 0} (f : A → B) (xs : List A) → length (map f xs) ≡ length xs
-length_map f [] = refl
-length_map f (x ∷ xs) = ap suc (length_map f xs)
-
-pub get_left : {A : Type 0} (xs ys : List A) (i : ℕ) (x : A) → slice_get xs i ≡ Some x → slice_get (xs ++ ys) i ≡ Some x
-get_left [] ys i x h = absurd (nothing x h)
-get_left (y ∷ xs) ys zero x h = h
-get_left (y ∷ xs) ys (suc i) x h = get_left xs ys i x h
-
-pub get_right : {A : Type 0} (xs ys : List A) (i : ℕ) (x : A) → slice_get ys i ≡ Some x → slice_get (xs ++ ys) (length xs + i) ≡ Some x
-get_right {A} [] ys i x h = let z : i ≡ 0 + i = omega arith in subst (λ n. slice_get ys n ≡ Some x) z h
-get_right {A} (y ∷ xs) ys i x h = let z : suc (length xs + i) ≡ suc (length xs) + i = omega arith in subst (λ n. slice_get (y ∷ xs ++ ys) n ≡ Some x) z (get_right xs ys i x h)
 
 pub get_last : {A : Type 0} (xs : List A) (x : A) (n : ℕ) → n ≡ length xs → slice_get (xs ++ x ∷ []) n ≡ Some x
 get_last xs x n e = let z : length xs + 0 ≡ n = omega arith in subst (λ m. slice_get (xs ++ x ∷ []) m ≡ Some x) z (get_right xs (x ∷ []) 0 x refl)

@@ -18,11 +18,12 @@ use Rattle.check_upper.specs.declared.task.Binding.TheVariants.{OwnStream, Strea
 use Rattle.check_upper.specs.Tasks.{Invocation, Body, leaf_body, upper_body, Task}
 use Rattle.stream_check.specs.Parts as part
 use Rattle.stream_check.specs.Parts.{Part, own, instance, too_deep, streams_in, instances_in, below, instance_name, name_of, passed, bound_or_zero, bind, bind_all, unbound, invoked, labelled, own_parts, Expands, chain_parts, body_of, body_parts, deepest_parts, parts_of}
-use Rattle.stream_check.proofs.WellLists.{Each, each_append, each_get, get_map, Contains, contains_left, contains_right, Pairs, pairs_left, pairs_push}
-use Rattle.stream_check.proofs.WellValues.{kinds_same}
+use Rattle.stream_check.proofs.WellLists.{Each, each_append, each_get, Contains, contains_left, contains_right, Pairs, pairs_left, pairs_push}
 use Rattle.stream_check.proofs.WellPorts.{Ports, no_ports, end_of, with_stream, with_memory, with_scalar, with_port, with_ports, ports_of}
 use Rattle.stream_check.proofs.WellUppers.{HasDepth, StreamBinding, MemoryBinding, ScalarBinding, BindingFits, InvocationFits}
 use Rattle.stream_check.proofs.WellTasks.{BodyFits, TaskFits}
+use Rattle.check_leaf.proofs.Conversions.{same_kinds as kinds_same}
+use Rattle.tapa_base.proofs.Got.{got_map as get_map}
 
 -- what is there to be bound
 pub record Known : Type 0 where

@@ -17,9 +17,10 @@ use Rattle.check_leaf.specs.Leaves as leaf
 use Rattle.check_leaf.specs.Leaves.{Head, leaf_of, leaf_faults}
 use Rattle.check_upper.specs.declared.task.Channel.{Channel}
 use Rattle.check_upper.specs.Tasks.{Task}
-use Rattle.stream_check.proofs.WellLists.{nothing, the_same, Each, each_append, each_more, get_left, get_last, Pairs, pairs_push, pairs_more}
+use Rattle.stream_check.proofs.WellLists.{nothing, Each, each_append, each_more, get_last, Pairs, pairs_push, pairs_more}
 use Rattle.stream_check.proofs.WellValues.{Sound}
 use Rattle.stream_check.proofs.WellVariables.{HasVariable, after_statements}
+use Rattle.tapa_base.proofs.Got.{got_left as get_left, the_same}
 
 pub record Ports : Type 0 where
   pub streams : List End

@@ -29,7 +29,7 @@ use Rattle.stream_check.specs.Items.{no_items, items_faults, tasks_of}
 use Rattle.check_upper.specs.Tasks.{leaf_body, Task, task_position}
 use Rattle.stream_check.specs.Parts.{streams_in, instances_in}
 use Rattle.stream_check.specs.Programs.{is_stream_parameter, is_upper, top_faults, top_instance, all_levels, top_parts, parts_faults, top_task_faults, top_program, limit_faults, ends_in, ends_of, instances_at, instances_with, stream_of, streams_faults, streams_of, memories_faults, memories_of, writers_faults, scalars_of, is_used, body_numbers, bodies_of, with_body, bindings_faults, whole_faults, program_faults, program_made, program_of}
-use Rattle.stream_check.proofs.WellLists.{the_same, both, not_so, no_faults, holds, Each, each_get, get_map, get_unmap, length_map, Pairs, pairs_length, pairs_get, pairs_right}
+use Rattle.stream_check.proofs.WellLists.{no_faults, holds, Each, each_get, Pairs, pairs_length, pairs_get, pairs_right}
 use Rattle.stream_check.proofs.WellSpots.{TheSpot, ends_at, the_end, end_there, there_end, memory_at, the_owner, memory_there, there_memory}
 use Rattle.stream_check.proofs.WellPorts.{Ports, ports_of, LeafFits}
 use Rattle.stream_check.proofs.WellUppers.{HasDepth}
@@ -37,6 +37,8 @@ use Rattle.stream_check.proofs.WellTasks.{BodyFits, TaskFits, tasks_fit}
 use Rattle.stream_check.proofs.WellParts.{Known, IsStream, IsMemory, IsScalar, InstanceIs, parts_fit, parts_depths}
 use Rattle.stream_check.proofs.WellBodies.{is_used_by, body_there, IsLegal, bodies_legal}
 use Rattle.stream_check.proofs.WellTops.{memories_are, scalars_are, top_fits, limits, streams_one, streams_from, memories_one}
+use Rattle.tapa_base.proofs.Tests.{not_so, zero_left, both_true as both}
+use Rattle.tapa_base.proofs.Got.{the_same, got_map as get_map, of_map_got as get_unmap, length_map}
 
 abbrev known : List Parameter → List Channel → Known
 known ps cs = record { streams = cs; memories = (ports_of ps).memories; scalars = (ports_of ps).scalars }
@@ -60,9 +62,6 @@ used_by w tasks j u x false c e m h f k = f k
 used_leaf : (w : Known) (tasks : List Task) (is : List FlatInstance) → Each (InstanceIs w tasks) is → (j : ℕ) (u : Task) → slice_get tasks j ≡ Some u → is_used is j ≡ true → (l : FlatLeaf) × (u.body ≡ leaf_body l)
 used_leaf w tasks [] a j u h k = absurd (cc)
 used_leaf w tasks (x ∷ is) (m, a) j u h k = used_by w tasks j u x (x.body == j) (is_used is j) refl m h (used_leaf w tasks is a j u h) k
-
-zero_left : (n : ℕ) → 0 + n ≡ n
-zero_left n = omega arith
 
 module _ (tasks : List Task) (top : TaskTree) (is : List FlatInstance) (cs : List Channel) (f : Facts tasks top.parameters is cs) (p : Program) (same : flat_program p ≡ program_made tasks top is cs) where
   abbrev ps : List Parameter

@@ -1,14 +1,16 @@
 -- What is bound to one instance alone is bound at one place of it.
 use Rattle.std.proofs.Common.{◌≡◌, ◌+◌, ◌⊎◌, inl, inr, ℕ, zero, suc, List, [], ◌∷◌, ◌++◌, map, Bool, true, false, not, ◌&&◌, Some, refl, sym, ap, subst, ◌∙◌, arith}
 use Rattle.std.specs.Prelude.{slice_get, ◌==◌, if◌then◌else◌}
-use Rattle.std.proofs.lemmas.Bool.{eqb-true, eq-eqb}
+use Rattle.std.proofs.lemmas.Bool.{eqb-true, eq-eqb, and_from as and_true}
 use Rattle.tapa_syntax.specs.declared.program.End.{End}
 use Rattle.tapa_syntax.specs.LeafKinds.{writes_of}
 use Rattle.tapa_syntax.specs.Flat.{FlatInstance}
 use Rattle.check_upper.specs.Tasks.{Task}
 use Rattle.check_scope.specs.One.{is_one, the_one}
 use Rattle.stream_check.specs.Programs.{is_end, bound_ends, ends_of, instances_at, bound_memories, instances_with}
-use Rattle.stream_check.proofs.WellLists.{nothing, the_same, both, not_so}
+use Rattle.stream_check.proofs.WellLists.{nothing}
+use Rattle.tapa_base.proofs.Tests.{not_so, both_true as both}
+use Rattle.tapa_base.proofs.Got.{the_same, map_append}
 
 -- a place that is bound: the number of an instance, and the position in it
 pub record Spot : Type 0 where
@@ -47,10 +49,6 @@ spots_from f i (x ∷ rest) = spots_in i 0 (f x) ++ spots_from f (i + 1) rest
 
 abbrev number_of : Spot → ℕ
 number_of s = s.instance
-
-map_append : {A B : Type 0} (f : A → B) (xs ys : List A) → map f (xs ++ ys) ≡ map f xs ++ map f ys
-map_append f [] ys = refl
-map_append f (x ∷ xs) ys = ap (λ zs. f x ∷ zs) (map_append f xs ys)
 
 shifted : (k p : ℕ) → k + 1 + p ≡ k + suc p
 shifted k p = omega arith
@@ -183,9 +181,6 @@ ends_from_spots tasks s w i (x ∷ rest) =
 
 pub the_end : (tasks : List Task) (s : ℕ) (w : Bool) (xs : List FlatInstance) → is_one (instances_at tasks s w 0 xs) ≡ true → TheSpot (ends_at tasks s w) xs (the_one (instances_at tasks s w 0 xs))
 the_end tasks s w xs h = the_spot (ends_at tasks s w) xs (instances_at tasks s w 0 xs) (ends_from_spots tasks s w 0 xs) h
-
-and_true : (a b : Bool) → a ≡ true → b ≡ true → (a && b) ≡ true
-and_true a b e h = rw e h
 
 end_so : (s : ℕ) (w : Bool) (r : ℕ) (e : End) → r ≡ s → e.writes ≡ w → is_end s w r e ≡ true
 end_so s true r e a b = and_true (r == s) e.writes (eq-eqb r s a) b

@@ -9,10 +9,11 @@ use Rattle.check_scope.specs.Faults.{doubled}
 use Rattle.check_upper.specs.Tasks.{Invocation, Body, leaf_body, upper_body, Task}
 use Rattle.check_upper.specs.declared.task.Channel.{Channel}
 use Rattle.stream_check.specs.Items.{Items, no_items, with_task, body_of, body_faults, after_task, after_item, item_faults, after_items, items_faults, tasks_of}
-use Rattle.stream_check.proofs.WellLists.{no_faults, Each, each_append, each_more, get_left, get_last}
+use Rattle.stream_check.proofs.WellLists.{no_faults, Each, each_append, each_more, get_last}
 use Rattle.stream_check.proofs.WellValues.{wanted_fits}
 use Rattle.stream_check.proofs.WellPorts.{Ports, no_ports, ports_of, LeafFits, leaf_fits, IsTask, Means, MeansInFile, Declares, declares_more, in_task, scope_sound, file_global}
 use Rattle.stream_check.proofs.WellUppers.{InvocationFits, UpperFits, upper_fits}
+use Rattle.tapa_base.proofs.Got.{got_left as get_left}
 
 abbrev pub BodyFits : List Task → Ports → Body → Type 0
 BodyFits tasks q (leaf_body l) = LeafFits q l

@@ -21,9 +21,11 @@ use Rattle.check_upper.specs.Tasks.{Task}
 use Rattle.check_scope.specs.One.{is_one, the_one, one_faults}
 use Rattle.stream_check.specs.Parts.{Part, own, instance, too_deep, streams_in, instances_in}
 use Rattle.stream_check.specs.Programs.{is_stream_parameter, top_scalars, top_memories, top_instance, limit_faults, instances_at, instances_with, stream_faults, stream_of, streams_faults, streams_of, memories_faults, memories_of, scalars_of}
-use Rattle.stream_check.proofs.WellLists.{nothing, the_same, no_faults, holds, get_left, get_last, Pairs, pairs_push}
+use Rattle.stream_check.proofs.WellLists.{nothing, no_faults, holds, get_last, Pairs, pairs_push}
 use Rattle.stream_check.proofs.WellPorts.{Ports, no_ports, with_stream, with_memory, with_scalar, with_ports, ports_of}
 use Rattle.stream_check.proofs.WellParts.{Known, IsStream, IsMemory, IsScalar, Fits}
+use Rattle.stream_check.proofs.WellUppers.{one_more as one_longer}
+use Rattle.tapa_base.proofs.Got.{got_left as get_left, the_same}
 
 -- ---- the ports of the top task
 
@@ -33,7 +35,7 @@ kind_of_memory m = m.kind
 abbrev kind_of_scalar : Scalar → Kind
 kind_of_scalar s = s.kind
 
-joined : {A : Type 0} (xs : List A) (x : A) (ys : List A) → (xs ++ x ∷ []) ++ ys ≡ xs ++ x ∷ ys
+pub joined : {A : Type 0} (xs : List A) (x : A) (ys : List A) → (xs ++ x ∷ []) ++ ys ≡ xs ++ x ∷ ys
 joined [] x ys = refl
 joined (y ∷ xs) x ys = ap (λ zs. y ∷ zs) (joined xs x ys)
 
@@ -72,10 +74,7 @@ kept_scalar q (parameter.OutputStream j x ∷ ps) n k h = kept_scalar (with_stre
 kept_scalar q (parameter.Memory constant j x ∷ ps) n k h = kept_scalar (with_memory j q) ps n k h
 kept_scalar q (parameter.Scalar constant j x ∷ ps) n k h = kept_scalar (with_scalar j q) ps n k (get_left q.scalars (j ∷ []) n k h)
 
-one_longer : {A : Type 0} (xs : List A) (x : A) (n : ℕ) → n ≡ length xs → n + 1 ≡ length (xs ++ x ∷ [])
-one_longer xs x n e = let l = length-append xs (x ∷ []) in omega arith
-
-none_longer : (n m : ℕ) → n ≡ m → n + 0 ≡ m
+pub none_longer : (n m : ℕ) → n ≡ m → n + 0 ≡ m
 none_longer n m e = omega arith
 
 module _ (w : Known) where

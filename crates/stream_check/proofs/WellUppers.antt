@@ -29,9 +29,13 @@ use Rattle.check_upper.specs.declared.task.Binding.TheVariants.{OwnStream, Strea
 use Rattle.check_upper.specs.Tasks.{Invocation, Task, parameters_of}
 use Rattle.check_upper.specs.Uppers as upper
 use Rattle.check_upper.specs.Uppers.{Signature, Channels, parameter_kind, is_bound_to, is_task}
-use Rattle.stream_check.proofs.WellLists.{both, no_faults, holds, holds_not, Each, each_append, get_left, get_last, Pairs}
-use Rattle.stream_check.proofs.WellValues.{kinds_same, as_kind_fits, wanted_fits, constant_so}
+use Rattle.stream_check.proofs.WellLists.{no_faults, holds, holds_not, Each, each_append, get_last, Pairs}
+use Rattle.stream_check.proofs.WellValues.{as_kind_fits, wanted_fits}
 use Rattle.stream_check.proofs.WellPorts.{Ports, no_ports, end_of, with_stream, with_memory, with_scalar, with_port, with_ports, ports_of, IsTask, Means, DeclareAll, found, declare, declare_all_more, scope_sound, means_more}
+use Rattle.check_expression.proofs.Constants.{all_constant as constant_so}
+use Rattle.check_leaf.proofs.Conversions.{same_kinds as kinds_same}
+use Rattle.tapa_base.proofs.Tests.{both_true as both}
+use Rattle.tapa_base.proofs.Got.{got_left as get_left}
 
 abbrev the_broken : CheckCode → Place → Option ℕ → Broken
 the_broken code place limit = record { code = code; place = place; limit = limit }
@@ -44,7 +48,7 @@ pub record SignatureFits (tasks : List Task) (self : List ℕ) (h : Signature) (
   pub memories : h.memories ≡ length q.memories
   pub scalars : h.scalars ≡ length q.scalars
 
-one_more : {A : Type 0} (xs : List A) (x : A) (n : ℕ) → n ≡ length xs → n + 1 ≡ length (xs ++ x ∷ [])
+pub one_more : {A : Type 0} (xs : List A) (x : A) (n : ℕ) → n ≡ length xs → n + 1 ≡ length (xs ++ x ∷ [])
 one_more xs x n e = let l = length-append xs (x ∷ []) in omega arith
 
 stream_step : (tasks : List Task) (self : List ℕ) (h : Signature) (q : Ports) (w : Bool) (k : Kind) (x : Name) → SignatureFits tasks self h q → SignatureFits tasks self (upper.with_stream w k x h) (with_stream w k q)

@@ -1,8 +1,6 @@
 -- The value of a constant expression is one of its kind.
 use Rattle.std.proofs.Common.{◌≡◌, ◌<◌, ◌-◌, ◌*◌, ◌%◌, ℕ, zero, suc, List, [], ◌∷◌, ◌++◌, get_or, Bool, true, false, ◌&&◌, Some, None, refl, sym, ap, subst, ◌∙◌, arith}
 use Rattle.std.specs.Prelude.{Option, ◌==◌, if◌then◌else◌}
-use Rattle.std.proofs.lemmas.Bool.{eqb-true}
-use Rattle.std.proofs.lemmas.Nat.{pow_pos}
 use Rattle.tapa_base.specs.declared.kind.Kind.{Kind}
 use Rattle.tapa_base.specs.declared.kind.Kind.TheVariants as kind
 use Rattle.tapa_base.specs.declared.op.Op.{Op}
@@ -20,14 +18,13 @@ use Rattle.tapa_syntax.specs.Trees.{ExpressionTree}
 use Rattle.check_expression.specs.Expressions.{as_kind, operated, operated_kind, is_comparison, prefix_kind, prefix_value, binary_kind, binary_value, arm_kind, constant_value, constant_faults, is_constant, is_constant_name, kind_of, value_of, wanted, cell_value, named_value, called_value, Method, divides, divisor_faults}
 use Rattle.check_expression.specs.Expressions as meaning
 use Rattle.check_expression.specs.Kinds.{rank, same_kind}
-use Rattle.tapa_base.specs.declared.text.Place.{Place}
 use Rattle.check_scope.specs.declared.entity.Entity.{Entity}
 use Rattle.check_scope.specs.declared.entity.Entity.TheVariants as entity
-use Rattle.check_scope.specs.Faults.{wrong_entity}
 use Rattle.check_scope.specs.Scopes.{Scope, entity_of, kind_of_entity, IsSound}
 use Rattle.check_scope.specs.Scopes as scope
-use Rattle.tapa_syntax.proofs.Values.{converted_fits, applied_fits, bit_fits}
-use Rattle.stream_check.proofs.WellLists.{no_faults}
+use Rattle.tapa_syntax.proofs.Values.{converted_fits, applied_fits, bit_fits, if_below as choice_below}
+use Rattle.tapa_base.proofs.Tests.{some_values, not_below as one_minus, both_below as product_below}
+use Rattle.check_leaf.proofs.Conversions.{same_kinds as kinds_same}
 
 abbrev kind_at : ℕ → Kind
 kind_at n = get_or (kind.Bool ∷ kind.I8 ∷ kind.U8 ∷ kind.I16 ∷ kind.U16 ∷ kind.I32 ∷ kind.U32 ∷ kind.I64 ∷ kind.U64 ∷ []) n kind.U64
@@ -42,12 +39,6 @@ at_rank kind.I32 = refl
 at_rank kind.U32 = refl
 at_rank kind.I64 = refl
 at_rank kind.U64 = refl
-
-pub kinds_same : (j k : Kind) → same_kind j k ≡ true → j ≡ k
-kinds_same j k h = sym (at_rank j) ∙ ap kind_at (eqb-true (rank j) (rank k) h) ∙ at_rank k
-
-some_values : (k : Kind) → 0 < values_of k
-some_values k = pow_pos (bits_of k)
 
 as_kind_by : (j k : Kind) (e : FlatExpression) (b : Bool) → same_kind j k ≡ b → constant_value e < values_of j → constant_value (if b then e else convert j k e) < values_of k
 as_kind_by j k e true h l = subst (λ i. constant_value e < values_of i) (kinds_same j k h) l
@@ -83,9 +74,6 @@ cell_is None e = refl
 zero_below : (k : Kind) (n : ℕ) → n ≡ 0 → n < values_of k
 zero_below k n h = let p = some_values k in subst (λ m. m < values_of k) (sym h) p
 
-one_minus : (n : ℕ) → 1 - n < 2
-one_minus n = omega arith
-
 complement_below : (n m : ℕ) → 0 < m → m - 1 - n < m
 complement_below n m h = omega arith
 
@@ -116,19 +104,10 @@ operated_fits op.Le j k a b p q = both_fit op.Le j k (joined j k) a b refl p q
 operated_fits op.Gt j k a b p q = both_fit op.Gt j k (joined j k) a b refl p q
 operated_fits op.Ge j k a b p q = both_fit op.Ge j k (joined j k) a b refl p q
 
-product_below : (m n : ℕ) → m < 2 → n < 2 → m * n < 2
-product_below zero n p q = omega arith
-product_below (suc zero) n p q = omega arith
-product_below (suc (suc m)) n p q = absurd (omega arith)
-
 binary_fits : (o : BinaryOperator) (j k : Kind) (a b : FlatExpression) → constant_value a < values_of j → constant_value b < values_of k → constant_value (binary_value o j k a b) < values_of (binary_kind o j k)
 binary_fits (Value o) j k a b p q = operated_fits o j k a b p q
 binary_fits LogicalAnd j k a b p q = product_below (constant_value (as_kind j kind.Bool a)) (constant_value (as_kind k kind.Bool b)) (as_kind_fits j kind.Bool a p) (as_kind_fits k kind.Bool b q)
 binary_fits LogicalOr j k a b p q = one_minus ((1 - constant_value (as_kind j kind.Bool a)) * (1 - constant_value (as_kind k kind.Bool b)))
-
-choice_below : (b : Bool) (x y m : ℕ) → x < m → y < m → (if b then x else y) < m
-choice_below true x y m p q = p
-choice_below false x y m p q = q
 
 called_is : (n : ℕ) (m : Option Method) → constant_value (called_value n m) ≡ 0
 called_is n None = refl
@@ -168,41 +147,3 @@ pub wanted_fits : (E : Scope) → Sound E → (k : Kind) (e : ExpressionTree) �
 wanted_fits E s k e = as_kind_fits (kind_of E e) k (value_of E e) (value_fits E s e)
 
 -- ---- what has no fault as a constant is one
-
-named_constant : (place : Place) (o : Option Entity) → wrong_entity scope.is_constant place o ≡ [] → is_constant_name o ≡ true
-named_constant place None h = absurd (cc)
-named_constant place (Some (entity.Constant k n)) h = refl
-named_constant place (Some (entity.Variable free k n)) h = absurd (cc)
-named_constant place (Some (entity.Array free k n)) h = absurd (cc)
-named_constant place (Some (entity.Memory free k n)) h = absurd (cc)
-named_constant place (Some (entity.Stream writes k n)) h = absurd (cc)
-named_constant place (Some (entity.Channel k n)) h = absurd (cc)
-named_constant place (Some (entity.Task task_number)) h = absurd (cc)
-
-none_fits : (place : Place) (o : Option Entity) → wrong_entity (λ s. false) place o ≡ [] → ⊥
-none_fits place None h = cc
-none_fits place (Some s) h = cc
-
-and_so : (a b : Bool) → a ≡ true → b ≡ true → (a && b) ≡ true
-and_so a b e h = rw e h
-
-pub constant_so : (E : Scope) (e : ExpressionTree) → constant_faults E e ≡ [] → is_constant E e ≡ true
-constant_so E (tree.literal k n) h = refl
-constant_so E (tree.boolean b) h = refl
-constant_so E (tree.variable x) h = named_constant x.place (entity_of x.text E) h
-constant_so E (tree.element x e) h = absurd (none_fits x.place (entity_of x.text E) h)
-constant_so E (tree.call x m es) h = absurd (none_fits x.place (entity_of x.text E) h)
-constant_so E tree.nullptr h = refl
-constant_so E (tree.construct k e) h = constant_so E e h
-constant_so E (tree.static_cast k e) h = constant_so E e h
-constant_so E (tree.cast k e) h = constant_so E e h
-constant_so E (tree.parenthesized e) h = constant_so E e h
-constant_so E (tree.prefix o at e) h = constant_so E e h
-constant_so E (tree.binary o at a b) h =
-    let p = no_faults (constant_faults E a ++ divisor_faults E (divides o) at b) (constant_faults E b) h in
-    let q = no_faults (constant_faults E a) (divisor_faults E (divides o) at b) p.0 in
-    and_so (is_constant E a) (is_constant E b) (constant_so E a q.0) (constant_so E b p.1)
-constant_so E (tree.conditional at c a b) h =
-    let p = no_faults (constant_faults E c ++ constant_faults E a) (constant_faults E b) h in
-    let q = no_faults (constant_faults E c) (constant_faults E a) p.0 in
-    and_so (is_constant E c && is_constant E a) (is_constant E b) (and_so (is_constant E c) (is_constant E a) (constant_so E c q.0) (constant_so E a q.1)) (constant_so E b p.1)

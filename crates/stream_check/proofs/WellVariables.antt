@@ -5,7 +5,7 @@ use Rattle.tapa_base.specs.declared.kind.Kind.{Kind}
 use Rattle.tapa_syntax.specs.Trees as tree
 use Rattle.tapa_syntax.specs.Trees.{StatementTree, Statements, DeclarationTree, DeclaratorTree, StartTree}
 use Rattle.check_leaf.specs.Statements.{Frame, opened, closed, after_declarator, after_declarators, after_declaration, after_start, in_head, after, after_all}
-use Rattle.stream_check.proofs.WellLists.{get_left}
+use Rattle.tapa_base.proofs.Got.{got_left as get_left}
 
 abbrev pub HasVariable : Frame → ℕ → Kind → Type 0
 HasVariable f v k = slice_get f.vars v ≡ Some k

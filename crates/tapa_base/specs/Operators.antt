@@ -1,5 +1,6 @@
 -- What the operators give, on the bits of two values of one kind.
-use Rattle.std.specs.Prelude.{ℕ, ◌+◌, ◌-◌, ◌*◌, ◌/◌, ◌%◌, ◌^◌, ◌<◌, ⊤, ℤ, pos, negsuc, nat_lt, Bool, true, false, if◌then◌else◌, ◌==◌, not, bit_and, bit_or, bit_xor}
+use Rattle.std.specs.Prelude.{◌+◌, ◌-◌, ◌*◌, ◌/◌, ◌%◌, ◌^◌, ◌<◌, if◌then◌else◌, ◌==◌}
+use Rattle.std.specs.Prelude.{ℕ, ⊤, ℤ, pos, negsuc, nat_lt, Bool, true, false, not, bit_and, bit_or, bit_xor}
 use Rattle.std.specs.Int.RustNames.{int_lt, int_le, int_div, int_rem}
 use Rattle.tapa_base.specs.declared.kind.Kind.{Kind}
 use Rattle.tapa_base.specs.declared.kind.Kind.TheVariants as kind

@@ -6,14 +6,11 @@ use Rattle.tapa_words.specs.Meaning.{IsRefusedBy, command}
 use Rattle.tapa_words.specs.declared.command.Command.{Command as CodeCommand}
 use Rattle.tapa_words.specs.declared.command.WordsFault.{WordsFault}
 use Rattle.tapa_words.specs.declared.command.WordsFault.TheVariants as fault
-use Rattle.command_answers.specs.Answer.{Answer}
 use Rattle.command_answers.specs.Ends.{End, Done, Refused, Unwritten, NoMemory, Usage, Ends, IsCarriedOut, ComesTo}
-use Rattle.command_answers.specs.Files.{Held}
 use Rattle.command_answers.specs.Outside.{Outside, Written}
 use Rattle.command_answers.specs.Refusal as why
 use Rattle.command_answers.specs.Refusal.{Refusal}
 use Rattle.command_answers.specs.Told.{IsToldAs, IsFixed, name_at, status_of}
-use Rattle.command_answers.specs.declared.file.File.{File}
 use Rattle.command_answers.specs.declared.status.Status.{Status}
 use Rattle.command_answers.specs.declared.status.Status.TheVariants.{Ok, Write}
 use Rattle.tapa_drive.specs.Answer.{IsReported, IsAnswer, words_end}

@@ -35,7 +35,8 @@ fn carry_out<R: Threads + Wait + Sync, S: Shelf, O: Sink, G: Gate>(
     gate: &G,
 ) -> Result<(), Refusal>
     requires { IsInRange (command_in command) }
-    ensures { IsCarriedOut (held_of (command_in command.entry)) (Means (command_in command.entry)) (outside S.Shelf O.Sink shelf.old out.old) (outside S.Shelf O.Sink shelf.new out.new) (end_of result) }
+    ensures { IsCarriedOut (held_of (command_in command.entry)) (Means (command_in command.entry))
+        (outside S.Shelf O.Sink shelf.old out.old) (outside S.Shelf O.Sink shelf.new out.new) (end_of result) }
 {
     match command {
         Command::Run {

@@ -4,3 +4,4 @@ pub mod Beside
 pub mod Fixed
 pub mod OneRun
 pub mod Circuits
+pub mod Given

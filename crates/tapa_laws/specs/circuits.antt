@@ -1,2 +1,3 @@
 pub mod Reactive
 pub mod Circuits
+pub mod Given

@@ -7,6 +7,7 @@ use Rattle.tapa_base.specs.Gaps.{is_blank, is_in_line}
 use Rattle.tapa_syntax.specs.Characters.{is_digit, is_letter, is_word_byte, is_among}
 use Rattle.tapa_syntax.specs.Lexemes.{is_inner_blank}
 use Rattle.tapa_lex.specs.Reading.{is_single, is_pair, is_triple, singles, doubled, before_equals, shifts}
+use Rattle.tapa_base.proofs.Tests.{not_so as not_false}
 
 pub letter_no_blank : (b : ℕ) → is_letter b ≡ true → is_blank b ≡ false
 letter_no_blank b h = grind (arith, nat_tests)
@@ -50,10 +51,6 @@ pub record IsApart (b : ℕ) : Type 0 where
   pub digit : is_digit b ≡ false
   pub quote : nat_eq b 34 ≡ false
   pub line : nat_eq b 35 ≡ false
-
-not_false : (t : Bool) → not t ≡ true → t ≡ false
-not_false true e = sym e
-not_false false e = refl
 
 pub single_apart : (b : ℕ) → is_single b ≡ true → IsApart b
 single_apart b h =

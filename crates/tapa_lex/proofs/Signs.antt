@@ -3,7 +3,7 @@ use Rattle.std.specs.List.{list_all, list_any}
 use Rattle.std.specs.Str.{bytes_eq}
 use Rattle.std.proofs.lemmas.Slice.Eq.{bytes_eq-Decides}
 use Rattle.std.proofs.Common.{⊎_elim, not, eqb-true, ◌≡◌, ℕ, ◌<◌, ◌≤◌, Bool, true, false, cond, ◌&&◌, ◌||◌, List, [], ◌∷◌, ◌++◌, length, take, drop, get_or, refl, sym, ap, subst, ◌∙◌, arith, nat_eq}
-use Rattle.std.proofs.lemmas.Bool.{or_cases, and_parts, and_right, false≢true, cases_Bool}
+use Rattle.std.proofs.lemmas.Bool.{or_cases, and_parts, and_right, false≢true, cases_Bool, or_parts}
 use Rattle.std.proofs.lemmas.List.{take-append-drop, length-take-le}
 use Rattle.tapa_base.specs.Gaps.{Bytes}
 use Rattle.tapa_syntax.specs.Characters.{is_among}
@@ -32,7 +32,7 @@ same_tests false true f g = g refl
 same_tests false false f g = refl
 
 -- what holds of each of a few texts holds of one of them
-one_text : (P : Bytes → Bool) (set : List Bytes) (s : Bytes) → list_all P set ≡ true → list_any (bytes_eq s) set ≡ true → P s ≡ true
+pub one_text : (P : Bytes → Bool) (set : List Bytes) (s : Bytes) → list_all P set ≡ true → list_any (bytes_eq s) set ≡ true → P s ≡ true
 one_text P [] s all h = absurd (false≢true h)
 one_text P (c ∷ set) s all h =
     ⊎_elim
@@ -201,10 +201,6 @@ short_stands b y n h k e some =
     or_from s t p q = rw (p, q) refl
 
 -- ---- punctuation is cut
-
-or_parts : (s t : Bool) → (s || t) ≡ false → (s ≡ false) × (t ≡ false)
-or_parts false t h = (refl, h)
-or_parts true t h = absurd (false≢true (sym h))
 
 -- what is known where punctuation stands
 pub record IsCutSign (z : Bytes) (n : ℕ) : Type 0 where

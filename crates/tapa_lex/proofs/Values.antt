@@ -9,6 +9,7 @@ use Rattle.tapa_base.specs.Kinds.{values_of}
 use Rattle.tapa_base.specs.Gaps.{Bytes}
 use Rattle.tapa_syntax.specs.Characters.{run}
 use Rattle.tapa_syntax.specs.Literals.{worth, is_digit_of, value_behind, holds, first_that_holds, kinds_for, with_kind, with_suffix, Suffix, literal_of, base_of, behind_mark, suffix_of}
+use Rattle.tapa_base.proofs.Got.{the_same as some_same}
 
 -- no digit makes a value less
 pub value_grows : (base n : ℕ) (z : Bytes) → 0 < base → n ≤ value_behind base n z
@@ -68,9 +69,6 @@ pub first_holds : (ks : List Kind) (n : ℕ) (k : Kind) → first_that_holds n k
 unfolding first_that_holds
 first_holds [] n k e = absurd cc
 first_holds (j ∷ ks) n k e = first_of j k n (holds j n) (first_that_holds n ks) refl e (first_holds ks n k)
-
-some_same : {X : Type 0} (x y : X) → Some x ≡ Some y → x ≡ y
-some_same x y e = cc
 
 kind_of_value : (n m : ℕ) (o : Option Kind) (k : Kind) → ((j : Kind) → o ≡ Some j → n < values_of j) → with_kind n o ≡ Some (k, m) → m < values_of k
 kind_of_value n m None k h e = absurd cc

@@ -209,7 +209,7 @@ not_both text told code place h k =
 
 -- ---- slices
 
-range_of : (before bytes rest : Bytes) → slice_range (before ++ (bytes ++ rest)) (length before) (length before + length bytes) ≡ bytes
+pub range_of : (before bytes rest : Bytes) → slice_range (before ++ (bytes ++ rest)) (length before) (length before + length bytes) ≡ bytes
 range_of before bytes rest =
     let size : length before + length bytes - length before ≡ length bytes = omega arith in
     ap (take (length before + length bytes - length before)) (drop_at before (bytes ++ rest) (length before) refl) ∙ take_at bytes rest _ (sym size)

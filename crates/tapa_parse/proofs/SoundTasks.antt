@@ -11,9 +11,8 @@ use Rattle.tapa_syntax.specs.Trees.{ExpressionTree, CountTree, AttributeTree, Ar
 use Rattle.tapa_syntax.specs.Grammar.{Part, Takes, TakesAt, IsName, IsExpression, expression_level, IsType, IsCount, StandsAt, IsAttribute, IsParameter, MayBeLabelled, IsStream, IsArgument, IsMode, IsInvocation, IsBody, IsItem, IsTreeOf}
 use Rattle.tapa_syntax.specs.Limits.{most, if_there, nesting, operators, form_nesting, form_operators, stream_nesting, stream_operators, invocation_nesting, invocation_operators, body_nesting, body_operators, item_nesting, item_operators, most_levels, most_operators, IsWithinLimits}
 use Rattle.tapa_parse_expression.specs.declared.fault.ParseCode.TheVariants.{P1}
-use Rattle.tapa_parse_expression.specs.Readers.{Outcome, ◌>>◌, skip, next, first_place, sees, expect, past, separated_until}
+use Rattle.tapa_parse_expression.specs.Readers.{Outcome, ◌>>◌, skip, next, first_place, sees, expect, past, separated_until, is_left, ended}
 use Rattle.tapa_parse_expression.specs.Reading.{Readers, below_levels, below}
-use Rattle.tapa_parse_expression.specs.Readers.{is_left, ended}
 use Rattle.tapa_parse.specs.Reading.{stream_kind, port_by, port, scalar, parameter, parameters, stream_name, mode, depth, stream, invocation_argument, invocation_arguments, invocation, chained, invocations, body, task_behind, constant_word, constant_behind, item, file}
 use Rattle.tapa_parse_expression.proofs.Parts.{Symbols, Yields, yields_pure, yields_none, yields_then, yields_if, weaker, takes, expect_yields, name_yields, plain_yields}
 use Rattle.tapa_parse_expression.proofs.Lists.{IsPart, AreParts, AreSome, AreListed, repeat_sound, repeat_behind_sound, behind_sound, separated_sound, separated_until_sound, some_of}

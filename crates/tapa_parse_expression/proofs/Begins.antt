@@ -14,6 +14,7 @@ use Rattle.tapa_parse_expression.specs.Readers.{next, same, sees}
 use Rattle.tapa_parse_expression.specs.Reading.{one_kind, begins_cast}
 use Rattle.tapa_parse_expression.proofs.Parts.{Symbols, if_true, if_false, differ_by, next_is, seen_is, dropped}
 use Rattle.tapa_parse_expression.proofs.CompleteTypes.{word_is_one, sized_is_one}
+use Rattle.std.proofs.lemmas.Bool.{or_left as or_first, or_right as or_second}
 
 -- ---- what an expression begins with
 
@@ -72,13 +73,6 @@ pub one_begins : (k : Kind) (i r : Symbols) → IsOne k i r → begins_type (nex
 one_begins k i r (inl (x, e, is)) = rw is (word_begins x.terminal k (word_is_one x.terminal k e))
 one_begins k i r (inr (inl (x, e, is))) = rw is (word_begins x.terminal k (sized_is_one x.terminal k e))
 one_begins k i r (inr (inr (j, std, rest))) = rw (next_is terminal.Std i j std) refl
-
-or_first : (a b : Bool) → a ≡ true → (a || b) ≡ true
-or_first a b e = rw e refl
-
-or_second : (a b : Bool) → b ≡ true → (a || b) ≡ true
-or_second true b e = refl
-or_second false b e = e
 
 type_begins_too : (m : Terminal) → begins_type m ≡ true → begins_expression m ≡ true
 type_begins_too m e = or_second (is_name m) (begins_type m || begins_other m) (or_first (begins_type m) (begins_other m) e)

@@ -5,10 +5,6 @@ use Rattle.tapa_syntax.specs.declared.tree.Name.{Name}
 use Rattle.tapa_syntax.specs.declared.tree.Expression.{Expression, Call, Call', Row_of-Expression, end_of-Expression, more_of-Expression, items-the_row-Expression, items_hidden-the_row-Expression-0}
 use Rattle.tapa_syntax.specs.Trees.{one, call, expression, expressions_in, expressions}
 
-pub map-push : {A B : Type 0} (f : A → B) (xs : List A) (x : A) → map f (xs ++ x ∷ []) ≡ map f xs ++ f x ∷ []
-map-push f [] x = refl
-map-push f (y ∷ xs) x = ap (λ ys. f y ∷ ys) (map-push f xs x)
-
 of_expressions : (n : _) (row : Row_of-Expression n) → expressions_in row ≡ expressions (map expression (items-the_row-Expression n row))
 of_expressions n end_of-Expression = refl
 of_expressions n (more_of-Expression e rest) = ap (one (expression e)) (of_expressions _ rest)

@@ -1,6 +1,7 @@
 -- Reading from left to right, with one symbol of look-ahead and three before a cast: what may be inside a level of nesting,
 -- from a type to a statement.
-use Rattle.std.specs.Prelude.{ℕ, zero, suc, Bool, true, false, not, ◌||◌, ◌&&◌, if◌then◌else◌, ◌==◌, List, [], ◌∷◌, ◌++◌, length, drop, Option, Some, None, is_some, Ok, Err}
+use Rattle.std.specs.Prelude.{◌||◌, ◌&&◌, if◌then◌else◌, ◌==◌, ◌∷◌, ◌++◌}
+use Rattle.std.specs.Prelude.{ℕ, zero, suc, Bool, true, false, not, List, [], length, drop, Option, Some, None, is_some, Ok, Err}
 use Rattle.tapa_base.specs.declared.kind.Kind.{Kind}
 use Rattle.tapa_base.specs.declared.kind.Kind.TheVariants as kind
 use Rattle.tapa_base.specs.declared.text.Place.{Place}
@@ -22,7 +23,8 @@ use Rattle.tapa_syntax.specs.Trees.{if_else, while, for, while_not_eot, break, c
 use Rattle.tapa_syntax.specs.Grammar.{is_name, sized_kind, word_kind, prefix_operator_of, binary_operator_of, step_operator_of, assignment_operator_of, binds_at, sum_level, or_level}
 use Rattle.tapa_syntax.specs.Limits.{most_operators}
 use Rattle.tapa_parse_expression.specs.declared.fault.ParseCode.TheVariants.{P1, P2}
-use Rattle.tapa_parse_expression.specs.Readers.{Reader, ◌>>=◌, ◌>>◌, pure, refuse, next, sees, skip, here, expect, eat, known, name, plain_name, literal_value, repeat, separated, separated_until}
+use Rattle.tapa_parse_expression.specs.Readers.{◌>>=◌, ◌>>◌}
+use Rattle.tapa_parse_expression.specs.Readers.{Reader, pure, refuse, next, sees, skip, here, expect, eat, known, name, plain_name, literal_value, repeat, separated, separated_until}
 
 -- ---- types
 

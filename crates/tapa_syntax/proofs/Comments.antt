@@ -2,7 +2,7 @@
 use Rattle.std.proofs.Common.{◌≡◌, ℕ, zero, suc, ◌+◌, ◌≤◌, Bool, true, false, ◌&&◌, ◌||◌, [], ◌∷◌, ◌++◌, length, take, drop, get_or, Option, Some, None, refl, sym, ap, subst, arith, nat_eq, add-one, eqb-true}
 use Rattle.std.specs.Prelude.{option_map}
 use Rattle.std.specs.List.{list_all}
-use Rattle.std.proofs.lemmas.Bool.{and_parts, false≢true}
+use Rattle.std.proofs.lemmas.Bool.{and_parts, false≢true, or_parts}
 use Rattle.tapa_base.specs.Gaps.{Bytes, is_in_line, IsLineComment, has_close, IsBlockComment}
 use Rattle.tapa_syntax.specs.Characters.{run}
 use Rattle.tapa_syntax.specs.Comments.{closing}
@@ -76,10 +76,6 @@ closing_stands (b ∷ z) n e =
 first_same : (body rest : Bytes) → get_or (body ++ 42 ∷ 47 ∷ rest) 0 0 ≡ get_or (body ++ 42 ∷ []) 0 0
 first_same [] rest = refl
 first_same (c ∷ body) rest = refl
-
-or_parts : (s t : Bool) → (s || t) ≡ false → (s ≡ false) × (t ≡ false)
-or_parts false t h = (refl, h)
-or_parts true t h = absurd (false≢true (sym h))
 
 pub closing_is : (body rest : Bytes) → has_close (body ++ 42 ∷ []) ≡ false → closing (body ++ 42 ∷ 47 ∷ rest) ≡ Some (length body + 2)
 unfolding closing has_close

@@ -23,7 +23,7 @@ line_after_feed before b e = last_line_append before b ∙ rw e refl
 pub line_after_byte : (before : Bytes) (b : ℕ) → nat_eq b 10 ≡ false → last_line (before ++ b ∷ []) ≡ last_line before ++ b ∷ []
 line_after_byte before b e = last_line_append before b ∙ rw e refl
 
-place_same : (l c m d : ℕ) → l ≡ m → c ≡ d → let p : Place = record { line = l; col = c } in let q : Place = record { line = m; col = d } in p ≡ q
+pub place_same : (l c m d : ℕ) → l ≡ m → c ≡ d → let p : Place = record { line = l; col = c } in let q : Place = record { line = m; col = d } in p ≡ q
 place_same l c m d e f = cc
 
 -- a line feed begins the next line

@@ -8,17 +8,7 @@ use Rattle.tapa_base.specs.declared.shape.Port.{Port}
 use Rattle.tapa_syntax.specs.declared.program.Memory.{Memory}
 use Rattle.tapa_syntax.specs.declared.program.Scalar.{Scalar}
 use Rattle.tapa_syntax.specs.Shapes.{port_of}
-
-few_bits : (k : Kind) → bits_of k ≤ 64
-few_bits kind.Bool = omega arith
-few_bits kind.I8 = omega arith
-few_bits kind.U8 = omega arith
-few_bits kind.I16 = omega arith
-few_bits kind.U16 = omega arith
-few_bits kind.I32 = omega arith
-few_bits kind.U32 = omega arith
-few_bits kind.I64 = omega arith
-few_bits kind.U64 = omega arith
+use Rattle.tapa_base.proofs.Tests.{few_bits}
 
 abbrev FewBits : Port → Type 0
 FewBits port = port.bits ≤ 64

@@ -10,7 +10,7 @@ drop-all f zero (x ∷ xs) h = absurd (omega arith)
 drop-all f (suc i) [] h = refl
 drop-all f (suc i) (x ∷ xs) h = drop-all f i xs (omega arith)
 
-kept : (p n : ℕ) → p ≤ 2 ^ 64 - 1 → n ≡ 0 → p ≡ capped (p + n)
+pub kept : (p n : ℕ) → p ≤ 2 ^ 64 - 1 → n ≡ 0 → p ≡ capped (p + n)
 kept p n h e = omega arith
 
 pub places_end : (i : ℕ) (xs : List Stmt) (p total : ℕ) → capped total ≡ capped (p + places_in (in_row (map flat_statement (drop i xs)))) → p ≤ 2 ^ 64 - 1 → length xs ≤ i → p ≡ capped total

@@ -24,7 +24,7 @@ left_fits n k = let h = pow_pos k in omega arith
 zero_fits : (k : ℕ) → 0 < 2 ^ k
 zero_fits k = pow_pos k
 
-if_below : (b : Bool) (x y m : ℕ) → x < m → y < m → (if b then x else y) < m
+pub if_below : (b : Bool) (x y m : ℕ) → x < m → y < m → (if b then x else y) < m
 if_below true x y m p q = p
 if_below false x y m p q = q
 

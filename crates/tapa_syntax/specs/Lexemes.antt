@@ -1,7 +1,8 @@
 -- The lexemes of a source (ISO C++ [lex.pptoken], [lex.comment], [lex.operators]; TAPA's sources are C++). A text is
 -- gaps and lexemes in turn, each judged by the text before it and after it. The definition doesn't say how they are
 -- computed.
-use Rattle.std.specs.Prelude.{◌≡◌, ℕ, ◌+◌, ◌<◌, ◌≤◌, ⊤, Bool, true, false, ◌&&◌, ◌||◌, ◌==◌, ◌⊎◌, List, [], ◌∷◌, ◌++◌, length, take, drop, slice_index, slice_range, Option, Some, None, codes}
+use Rattle.std.specs.Prelude.{◌≡◌, ◌+◌, ◌<◌, ◌≤◌, ◌&&◌, ◌||◌, ◌==◌, ◌⊎◌, ◌∷◌, ◌++◌}
+use Rattle.std.specs.Prelude.{ℕ, ⊤, Bool, true, false, List, [], length, take, drop, slice_index, slice_range, Option, Some, None, codes}
 use Rattle.std.specs.List.{list_all, list_any, AllByRecursion}
 use Rattle.std.specs.Str.{bytes_eq}
 use Rattle.tapa_base.specs.Kinds.{values_of}

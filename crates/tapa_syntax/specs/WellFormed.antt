@@ -1,6 +1,6 @@
--- What holds of the flat program of every legal source: each name is bound, each stream has its writer and its reader and
--- each memory its one instance, each value has its kind, and the instances, streams, variables and cells of an array are
--- within their limits. It says nothing of the sum of a leaf's cells, of its tick places, or of where a `break` is in an `if`.
+-- Properties of the flat program of every legal source. Each name is bound, each stream has its writer and its reader, each memory has its one instance, and
+-- each value has its kind. The numbers of instances, streams, variables and cells of an array are within their limits. Not among them: the sum of a leaf's
+-- cells, its tick places, and the place of a `break` in an `if`.
 use Rattle.std.specs.Prelude.{◌≡◌, ℕ, ◌<◌, ◌≤◌, List, [], ◌∷◌, length, map, Bool, true, false, Some, slice_get, slice_index_or}
 use Rattle.tapa_base.specs.declared.kind.Kind.{Kind}
 use Rattle.tapa_base.specs.declared.kind.Kind.TheVariants.{U64}

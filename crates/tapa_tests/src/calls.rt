@@ -72,10 +72,7 @@ fn verdict(graph: &Graph, lat: &[u32], s: &[u32], flow: &[u64]) -> Option<Verdic
 
 // The graph of the triangle.
 fn triangle(alloc: Global) -> Result<Graph, Fail> {
-    match read_program(alloc, short(TRIANGLE), "T") {
-        Ok(program) => Ok(Graph::of(alloc, &program)?),
-        Err(_) => Err(OutOfMemory.into()),
-    }
+    Ok(Graph::of(alloc, &read_program(alloc, short(TRIANGLE), "T")?)?)
 }
 
 // The balance of the triangle whose short way has two registers, with the flow that shows it.
@@ -97,23 +94,19 @@ fn the_longer_way_gets_the_registers(rt: HostRuntime) -> Result<(), Fail> {
 // All four verdicts on numbers and flows of the triangle.
 #[test]
 fn each_verdict_is_found(rt: HostRuntime) -> Result<(), Fail> {
-    let alloc = rt.alloc();
-    let graph = triangle(alloc)?;
-    let lat = [0, 0, 2];
-    let yes = verdict(&graph, &lat, &[0, 0, 2], &[24, 0, 42]);
-    assert!(rt; yes == Some(Verdict::Yes));
-    let stream = verdict(&graph, &lat, &[0, 0, 1], &[24, 0, 42]);
-    assert!(rt; stream == Some(Verdict::BadStream(2)));
-    let task = verdict(&graph, &lat, &[0, 0, 2], &[24, 0, 41]);
-    assert!(rt; task == Some(Verdict::BadTask(0)));
-    let value = verdict(&graph, &lat, &[0, 2, 2], &[24, 0, 42]);
-    assert!(rt;
-        value
-            == Some(Verdict::BadValue {
-                primal: 66,
-                dual: 18,
-            })
-    );
+    let graph = triangle(rt.alloc())?;
+    let value = Verdict::BadValue {
+        primal: 66,
+        dual: 18,
+    };
+    for (s, flow, wanted) in [
+        ([0, 0, 2], [24, 0, 42], Verdict::Yes),
+        ([0, 0, 1], [24, 0, 42], Verdict::BadStream(2)),
+        ([0, 0, 2], [24, 0, 41], Verdict::BadTask(0)),
+        ([0, 2, 2], [24, 0, 42], value),
+    ] {
+        assert!(rt; verdict(&graph, &[0, 0, 2], &s, &flow) == Some(wanted));
+    }
     Ok(())
 }
 
@@ -143,18 +136,18 @@ b11111111 \"
 // The value of a net in each cycle: the last one that was written up to it.
 #[test]
 fn a_net_keeps_its_value_until_it_changes(rt: HostRuntime) -> Result<(), Fail> {
-    let alloc = rt.alloc();
-    let Ok(dump) = read_vcd(alloc, DUMP) else {
+    let Ok(dump) = read_vcd(rt.alloc(), DUMP) else {
         return Err(OutOfMemory.into());
     };
-    assert_eq!(rt; dump.last, 2);
-    assert_eq!(rt; dump.nets.len(), 2);
+    assert_eq!(rt; (dump.last, dump.nets.len()), (2, 2));
     if dump.nets.len() == 2 && dump.last == 2 {
-        assert_eq!(rt; dump.value_at(0, 0), 1);
-        assert_eq!(rt; dump.value_at(0, 2), 0);
-        assert_eq!(rt; dump.value_at(1, 0), 5);
-        assert_eq!(rt; dump.value_at(1, 1), 5);
-        assert_eq!(rt; dump.value_at(1, 2), 255);
+        assert_eq!(rt; (dump.value_at(0, 0), dump.value_at(0, 2)), (1, 0));
+        let wide = (
+            dump.value_at(1, 0),
+            dump.value_at(1, 1),
+            dump.value_at(1, 2),
+        );
+        assert_eq!(rt; wide, (5, 5, 255));
     }
     Ok(())
 }

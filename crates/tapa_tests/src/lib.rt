@@ -5,8 +5,6 @@
 #[cfg(test)]
 mod calls;
 #[cfg(test)]
-mod faults;
+mod commands;
 #[cfg(test)]
 mod programs;
-#[cfg(test)]
-mod workers;

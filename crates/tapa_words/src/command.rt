@@ -51,8 +51,8 @@ pub enum PlanMode {
     Split,
 }
 
-/// What a plan is for: its lines are printed, or a circuit is built by it, whose streams get latency where they cross borders of
-/// slots and, where they are balanced, more latency, so that all paths between two tasks have equal latency.
+/// The purpose of a plan: to print its lines, or to build a circuit by it. In the circuit a stream has latency if it crosses borders of slots. In a balanced
+/// plan streams get more latency, so that all paths between two tasks have equal latency.
 #[derive(Clone, Copy)]
 pub enum PlanAim {
     Lines,

@@ -20,8 +20,7 @@ use Rattle.tapa_base.specs.Operators.{applied}
 use Rattle.task_fsm.specs.Follows.{Follows}
 use Rattle.task_fsm.specs.Machine.{Expression, Reg, CellOf, Converted, StateForm, SetAt, CellAt, TestAt, ReadAt, WriteAt, PeekAt, EotAt, OpenAt, CloseAt, LoadAt, StoreAt, ClearAt}
 use Rattle.task_fsm.specs.Run.{value, Performs, is_last, clear_step, also_if_last, step, ReadsOnly}
-use Rattle.tapa_syntax.specs.ArrayUse.{In}
-use Rattle.tapa_syntax.specs.ArrayUse.{FitsExpr, FitsStmt, FitsBlock, cleared_by}
+use Rattle.tapa_syntax.specs.ArrayUse.{In, FitsExpr, FitsStmt, FitsBlock, cleared_by}
 use Rattle.task_fsm.specs.Code.{Emitted, emit, emit_held, going_to, residual, operations, discarded, old_with, test_code, stmt_code, block_code}
 use Rattle.tapa_syntax.specs.TickPlaces.{operation_count, size_of_block}
 use Rattle.task_fsm.proofs.Grows.{IsTail, tail_trans, grows_hold, grows_ops, grows_test, grows_stmt, grows_block, regs_ops, first_test, stands}

@@ -14,9 +14,8 @@ use Rattle.tapa_base.specs.Kinds.{bits_of, converted}
 use Rattle.tapa_base.specs.Operators.{applied}
 use Rattle.task_fsm.specs.Machine.{StateForm, ReadAt, PeekAt, EotAt, LoadAt, TrapAt}
 use Rattle.task_fsm.specs.Run.{value, Performs, Awaits, step, cleared_after, ReadsOnly, UsesOnly}
-use Rattle.tapa_syntax.specs.ArrayUse.{In}
+use Rattle.tapa_syntax.specs.ArrayUse.{In, FitsExpr}
 use Rattle.task_fsm.specs.Follows.{Follows}
-use Rattle.tapa_syntax.specs.ArrayUse.{FitsExpr}
 use Rattle.task_fsm.specs.Code.{Emitted, emit_held, residual, operations}
 use Rattle.tapa_syntax.specs.TickPlaces.{operation_count}
 use Rattle.task_fsm.proofs.Grows.{IsTail, tail_trans, grows_hold, grows_ops, regs_ops, stands}

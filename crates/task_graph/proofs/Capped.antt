@@ -6,9 +6,7 @@ use Rattle.tapa_syntax.specs.Flat.{flat_statement, in_row}
 use Rattle.tapa_syntax.specs.LeafKinds.{Kinds}
 use Rattle.tapa_syntax.specs.TickPlaces.{capped}
 use Rattle.task_graph.specs.Estimate.{Rates, in_statements}
-
-kept : (p n : ℕ) → p ≤ 2 ^ 64 - 1 → n ≡ 0 → p ≡ capped (p + n)
-kept p n h e = omega arith
+use Rattle.tapa_syntax.proofs.Sums.{kept}
 
 -- the sum over all of a code
 pub code_end : (R : Rates) (K : Kinds) (i : ℕ) (xs : List Stmt) (p total : ℕ) → capped total ≡ capped (p + in_statements R K (in_row (map flat_statement (drop i xs)))) → p ≤ 2 ^ 64 - 1 → length xs ≤ i → p ≡ capped total

@@ -18,17 +18,7 @@ use Rattle.std.specs.List.{sum_by}
 use Rattle.task_graph.specs.Estimate.{at_most, estimate, luts, flip_flops, array_brams, in_code, dsp_rates}
 use Rattle.task_graph.specs.Edges.{edge_of, EndBelow}
 use Rattle.task_graph.specs.Uses.{nothing, use_of}
-
-pub few_bits : (k : Kind) → (1 ≤ bits_of k) × (bits_of k ≤ 64)
-few_bits kind.Bool = (omega arith, omega arith)
-few_bits kind.I8 = (omega arith, omega arith)
-few_bits kind.U8 = (omega arith, omega arith)
-few_bits kind.I16 = (omega arith, omega arith)
-few_bits kind.U16 = (omega arith, omega arith)
-few_bits kind.I32 = (omega arith, omega arith)
-few_bits kind.U32 = (omega arith, omega arith)
-few_bits kind.I64 = (omega arith, omega arith)
-few_bits kind.U64 = (omega arith, omega arith)
+use Rattle.tapa_base.proofs.Tests.{kind_bits as few_bits}
 
 -- ---- streams
 

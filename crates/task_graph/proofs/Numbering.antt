@@ -9,6 +9,7 @@ use Rattle.std.proofs.lemmas.List.Sums.{position_or_len_is}
 use Rattle.task_graph.specs.declared.Edge.{Edge}
 use Rattle.task_graph.specs.Streams.{AreGroups, AreNumbered, least_of}
 use Rattle.task_graph.specs.Reach.{mark, Marks, MarkEachOther, AreTransitive, MarkReached}
+use Rattle.number_graph.proofs.Visits.{before_push as at_former}
 
 -- a place is one of the former, or the last
 place_cases : (xs : List ℕ) (v i : ℕ) → i < length (xs ++ v ∷ []) → (i < length xs) ⊎ (i ≡ length xs)
@@ -17,9 +18,6 @@ place_cases xs v i l = by_order (cases_lt i (length xs))
     by_order : (i < length xs) ⊎ (length xs ≤ i) → (i < length xs) ⊎ (i ≡ length xs)
     by_order (inl h) = inl h
     by_order (inr h) = inr (let e = length_push xs v in omega arith)
-
-at_former : (xs : List ℕ) (v i : ℕ) → i < length xs → get_or (xs ++ v ∷ []) i 0 ≡ get_or xs i 0
-at_former xs v i l = get_or_append_left xs (v ∷ []) 0 i l
 
 at_last : (xs : List ℕ) (v i : ℕ) → i ≡ length xs → get_or (xs ++ v ∷ []) i 0 ≡ v
 at_last xs v i e = get_or_push xs v 0 i (sym e)

@@ -13,7 +13,7 @@ use Rattle.task_graph.specs.Streams.{from_of, to_of, Reaches, AreNumbered, HasRa
 use Rattle.task_graph.proofs.Numbering.{AreSame}
 use Rattle.task_graph.proofs.Sizes.{total_lt, total_small, counts_low, counts_more, counts_less}
 
-first_hits : (v : ℕ) (xs : List ℕ) → position_or_len (λ x. x == v) xs < length xs → get_or xs (position_or_len (λ x. x == v) xs) 0 ≡ v
+pub first_hits : (v : ℕ) (xs : List ℕ) → position_or_len (λ x. x == v) xs < length xs → get_or xs (position_or_len (λ x. x == v) xs) 0 ≡ v
 first_hits v xs h = let t = passes_at_first (λ x. x == v) xs 0 h in grind (arith, nat_tests)
 
 module _ {A : Type 0} (rows : List (Vec Bool A)) (numbers : List ℕ) (groups : ℕ) (edges : List Edge) (few : length rows ≤ 512) (len : length numbers ≡ length rows)

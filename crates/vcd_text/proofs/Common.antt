@@ -1,23 +1,23 @@
 -- How far a text goes along with words that are put together.
 use Rattle.std.proofs.Common.{◌≡◌, ◌≢◌, ◌⊎◌, ℕ, zero, suc, ◌+◌, ◌<◌, ◌≤◌, Bool, true, false, cond, [], ◌∷◌, ◌++◌, length, take, drop, inl, inr, refl, sym, ap, subst, ◌∙◌, arith, nat_eq, nat_lt}
 use Rattle.std.proofs.lemmas.Bool.Decides.{eqb_tells, leb_tells}
-use Rattle.std.specs.Prelude.{Result, Ok, Err, IfOk, IfErr}
+use Rattle.std.specs.Prelude.{Result, Ok, Err, IfErr}
 use Rattle.std.specs.Result.{IsErrAnd}
 use Rattle.std.proofs.lemmas.List.{drop_all}
 use Rattle.tapa_base.specs.Gaps.{Bytes}
-use Rattle.vcd_text.specs.Along.{common, Stops}
+use Rattle.vcd_text.specs.Along.{common, Stops, StopsBefore}
 
-cond_true : (t : Bool) (m : ℕ) → t ≡ true → cond t m 0 ≡ m
-cond_true t m e = rw e refl
+pub cond_yes : {A : Type 0} (t : Bool) (a b : A) → t ≡ true → cond t a b ≡ a
+cond_yes t a b e = rw e refl
 
-cond_false : (t : Bool) (m : ℕ) → t ≡ false → cond t m 0 ≡ 0
-cond_false t m e = rw e refl
+pub cond_no : {A : Type 0} (t : Bool) (a b : A) → t ≡ false → cond t a b ≡ b
+cond_no t a b e = rw e refl
 
 -- one byte more on both sides, or another byte
 pub common_next : (a b : ℕ) (w z : Bytes) → ((a ≡ b) × (common (a ∷ w) (b ∷ z) ≡ suc (common w z))) ⊎ ((a ≢ b) × (common (a ∷ w) (b ∷ z) ≡ 0))
 common_next a b w z = elim (eqb_tells a b) [
-  | inl t ↦ inl (t.1, cond_true (nat_eq a b) (suc (common w z)) t.0)
-  | inr f ↦ inr (f.1, cond_false (nat_eq a b) (suc (common w z)) f.0)
+  | inl t ↦ inl (t.1, cond_yes (nat_eq a b) (suc (common w z)) 0 t.0)
+  | inr f ↦ inr (f.1, cond_no (nat_eq a b) (suc (common w z)) 0 f.0)
 ]
 
 pub common_same : (a : ℕ) (w z : Bytes) → common (a ∷ w) (a ∷ z) ≡ suc (common w z)
@@ -126,25 +126,15 @@ short_text w z at n h e =
 pub less : (a b : ℕ) → ((nat_lt a b ≡ true) × (a < b)) ⊎ ((nat_lt a b ≡ false) × (b ≤ a))
 less a b = elim (leb_tells (suc a) b) [ inl t ↦ inl (t.0, omega (arith, t.1)) | inr f ↦ inr (f.0, omega (arith, f.1)) ]
 
-pub yes_or_no : (t : Bool) → (t ≡ true) ⊎ (t ≡ false)
-yes_or_no true = inl refl
-yes_or_no false = inr refl
-
-pub cond_yes : {A : Type 0} (t : Bool) (a b : A) → t ≡ true → cond t a b ≡ a
-cond_yes t a b e = rw e refl
-
-pub cond_no : {A : Type 0} (t : Bool) (a b : A) → t ≡ false → cond t a b ≡ b
-cond_no t a b e = rw e refl
-
 -- ---- answers
-
-pub then_ok : {A E : Type 0} (P Q : A → Type 0) (r : Result A E) → ((x : A) → P x → Q x) → IfOk r P → IfOk r Q
-then_ok P Q (Ok x) f h = f x h
-then_ok P Q (Err e) f h = tt
 
 pub then_err : {A E : Type 0} (P Q : E → Type 0) (r : Result A E) → ((e : E) → P e → Q e) → IfErr r P → IfErr r Q
 then_err P Q (Ok x) f h = tt
 then_err P Q (Err e) f h = f e h
+
+-- one byte more
+pub before_byte : (W V : Bytes → Type 0) (b : ℕ) (z text : Bytes) (left : ℕ) → text ≡ b ∷ z → ((n : ℕ) → Stops V z n → Stops W (b ∷ z) (suc n)) → StopsBefore V z left → StopsBefore W text left
+before_byte W V b z text left e next (n, is, s) = (suc n, omega (arith, is, ap (λ (l : Bytes). length l) e), subst (λ (l : Bytes). Stops W l (suc n)) (sym e) (next n s))
 
 -- no text at all
 pub stops_empty : (W : Bytes → Type 0) (w : Bytes) → W w → ((y : Bytes) → W y → 0 < length y) → Stops W [] 0

@@ -1,4 +1,5 @@
 -- Binary digits from the first on.
+use Rattle.std.proofs.lemmas.Bool.{lt-ltb, le-ltb}
 use Rattle.std.proofs.Common.{◌≡◌, ◌≢◌, ◌⊎◌, ℕ, zero, suc, ◌+◌, ◌-◌, ◌*◌, ◌/◌, ◌%◌, ◌^◌, ◌<◌, ◌≤◌, true, false, [], ◌∷◌, ◌++◌, length, inl, inr, refl, sym, ap, subst, ◌∙◌, append_assoc, arith, nat_lt}
 use Rattle.std.specs.Prelude.{Option, Some, None, not}
 use Rattle.std.proofs.lemmas.Bool.Decides.{eqb_tells}
@@ -9,21 +10,16 @@ use Rattle.vcd_text.specs.Along.{common, Stops}
 use Rattle.vcd_text.specs.Dump.{bits_from, binary}
 use Rattle.vcd_text.specs.Lines.{is_new, IsNewValue}
 use Rattle.vcd_text.specs.Digits.{IsEnd, IsDigits, AreDigits, IsOpen, IsMore, AreNewDigits}
-use Rattle.vcd_text.proofs.Common.{common_other, stops_here, stops_next, less, yes_or_no, cond_yes, cond_no}
+use Rattle.vcd_text.proofs.Common.{common_other, stops_empty, stops_here, stops_next, less, cond_yes, cond_no}
+use Rattle.tapa_base.proofs.Tests.{bool_cases as yes_or_no, true_not_false}
 
 -- ---- binary digits
 
 pub small_bits : (k v : ℕ) → v < 2 → bits_from (suc k) v ≡ (48 + v % 2) ∷ []
-small_bits k v h = elim (less v 2) [
-  | inl t ↦ ap (λ (l : Bytes). l ++ (48 + v % 2) ∷ []) (cond_yes (nat_lt v 2) [] (bits_from k (v / 2)) t.0)
-  | inr f ↦ absurd (omega (arith, f.1))
-]
+small_bits k v h = ap (λ (l : Bytes). l ++ (48 + v % 2) ∷ []) (cond_yes (nat_lt v 2) [] (bits_from k (v / 2)) (lt-ltb v 2 h))
 
 pub big_bits : (k v : ℕ) → 2 ≤ v → bits_from (suc k) v ≡ bits_from k (v / 2) ++ (48 + v % 2) ∷ []
-big_bits k v h = elim (less v 2) [
-  | inl t ↦ absurd (omega (arith, t.1))
-  | inr f ↦ ap (λ (l : Bytes). l ++ (48 + v % 2) ∷ []) (cond_no (nat_lt v 2) [] (bits_from k (v / 2)) f.0)
-]
+big_bits k v h = ap (λ (l : Bytes). l ++ (48 + v % 2) ∷ []) (cond_no (nat_lt v 2) [] (bits_from k (v / 2)) (le-ltb v 2 h))
 
 -- more digits than there are change nothing
 pub bits_same : (m n v : ℕ) → v ≤ m → v ≤ n → bits_from (suc m) v ≡ bits_from (suc n) v
@@ -60,37 +56,29 @@ pub room_more : (a d r n : ℕ) → d < 2 → (a + 1) * 2 ^ (suc r) ≤ n → (2
 room_more a d r n q h =
     let double : 2 ^ (suc r) ≡ 2 ^ r + 2 ^ r = two-pow-succ r in
     let p : ℕ = 2 ^ r in
-    let less_one : d * 2 ^ r ≤ 2 ^ r = elim (one_of d q) [ inl e ↦ subst (λ (k : ℕ). k * 2 ^ r ≤ 2 ^ r) (sym e) (omega arith) | inr e ↦ subst (λ (k : ℕ). k * 2 ^ r ≤ 2 ^ r) (sym e) (omega arith) ] in
-    omega (arith, subst (λ (k : ℕ). (a + 1) * k ≤ n) double h, less_one)
+    omega (arith, subst (λ (k : ℕ). (a + 1) * k ≤ n) double h, less_one d q)
   where
-    one_of : (d : ℕ) → d < 2 → (d ≡ 0) ⊎ (d ≡ 1)
-    one_of zero q = inl refl
-    one_of (suc zero) q = inr refl
-    one_of (suc (suc d)) q = absurd (omega arith)
+    less_one : (d : ℕ) → d < 2 → d * 2 ^ r ≤ 2 ^ r
+    less_one zero q = omega arith
+    less_one (suc zero) q = omega arith
+    less_one (suc (suc d)) q = absurd (omega arith)
 
 pub room_below : (a r n : ℕ) → (a + 1) * 2 ^ r ≤ n → a < n
-room_below a r n h = omega (arith, h, mul-le-mul_left (a + 1) (one_le r))
-  where
-    one_le : (r : ℕ) → 1 ≤ 2 ^ r
-    one_le r = omega (arith, pow_pos r)
+room_below a r n h = let one : 1 ≤ 2 ^ r = omega (arith, pow_pos r) in omega (arith, h, mul-le-mul_left (a + 1) one)
 
 -- ---- digits behind a number
 
--- digits behind a number are those of a value that has them all
-pub digits_sound : (before : Option ℕ) (a r v n : ℕ) (w : Bytes) → 0 < a → (a + 1) * 2 ^ r ≤ n → IsDigits before a r v w → (binary a ++ w ≡ binary v ++ 32 ∷ []) × (v < n) × (is_new before v ≡ true)
-digits_sound before a zero v n w p h is = ended before a zero v n w h is
-  where
-    ended : (before : Option ℕ) (a r v n : ℕ) (w : Bytes) → (a + 1) * 2 ^ r ≤ n → IsEnd before a v w → (binary a ++ w ≡ binary v ++ 32 ∷ []) × (v < n) × (is_new before v ≡ true)
-    ended before a r v n w h (e, same, new) = (
-      ap (λ (l : Bytes). binary a ++ l) e ∙ ap (λ (k : ℕ). binary k ++ 32 ∷ []) (sym same),
-      subst (λ (k : ℕ). k < n) (sym same) (room_below a r n h),
-      subst (λ (k : ℕ). is_new before k ≡ true) (sym same) new,
-    )
-digits_sound before a (suc r) v n w p h (inl (e, same, new)) = (
+ended : (before : Option ℕ) (a v n : ℕ) (w : Bytes) → a < n → IsEnd before a v w → (binary a ++ w ≡ binary v ++ 32 ∷ []) × (v < n) × (is_new before v ≡ true)
+ended before a v n w h (e, same, new) = (
   ap (λ (l : Bytes). binary a ++ l) e ∙ ap (λ (k : ℕ). binary k ++ 32 ∷ []) (sym same),
-  subst (λ (k : ℕ). k < n) (sym same) (room_below a (suc r) n h),
+  subst (λ (k : ℕ). k < n) (sym same) h,
   subst (λ (k : ℕ). is_new before k ≡ true) (sym same) new,
 )
+
+-- digits behind a number are those of a value that has them all
+pub digits_sound : (before : Option ℕ) (a r v n : ℕ) (w : Bytes) → 0 < a → (a + 1) * 2 ^ r ≤ n → IsDigits before a r v w → (binary a ++ w ≡ binary v ++ 32 ∷ []) × (v < n) × (is_new before v ≡ true)
+digits_sound before a zero v n w p h is = ended before a v n w (room_below a 0 n h) is
+digits_sound before a (suc r) v n w p h (inl is) = ended before a v n w (room_below a (suc r) n h) is
 digits_sound before a (suc r) v n w p h (inr (d, y, q, e, is)) =
     let ih : (binary (2 * a + d) ++ y ≡ binary v ++ 32 ∷ []) × (v < n) × (is_new before v ≡ true) = digits_sound before (2 * a + d) r v n y (omega arith) (room_more a d r n q h) is in (
       ap (λ (l : Bytes). binary a ++ l) e ∙ sym (append_assoc (binary a) ((48 + d) ∷ []) y) ∙ ap (λ (l : Bytes). l ++ y) (sym (binary_more a d p q)) ∙ ih.0,
@@ -147,17 +135,11 @@ more_new_digits bits before x h (v, is) =
 -- ---- some digits
 
 other_new : (before : Option ℕ) (a b : ℕ) → is_new before a ≡ false → a ≢ b → is_new before b ≡ true
-other_new None a b e ne = absurd (true_is_not e)
-  where
-    true_is_not : true ≡ false → ⊥
-    true_is_not e = cc
+other_new None a b e ne = absurd (true_not_false e)
 other_new (Some u) a b e ne = elim (eqb_tells a u) [
   | inl t ↦ elim (eqb_tells b u) [ inl s ↦ absurd (ne (t.1 ∙ sym s.1)) | inr s ↦ ap not s.0 ]
-  | inr t ↦ absurd (impossible (ap not (sym t.0) ∙ e))
+  | inr t ↦ absurd (true_not_false (ap not (sym t.0) ∙ e))
 ]
-  where
-    impossible : not false ≡ false → ⊥
-    impossible e = cc
 
 pub some_digits : (before : Option ℕ) (a r : ℕ) → 0 < a → IsOpen before a r → (w : Bytes) × AreDigits before a r w
 some_digits before a zero p (inl h) = absurd (omega (arith, h))
@@ -183,44 +165,29 @@ some_new bits before h = elim (yes_or_no (is_new before 0)) [
 
 -- ---- where digits stop
 
+digits_long : (before : Option ℕ) (a r v : ℕ) (w : Bytes) → IsDigits before a r v w → 0 < length w
+digits_long before a zero v w is = subst (λ (l : Bytes). 0 < length l) (sym is.0) (omega arith)
+digits_long before a (suc r) v w (inl is) = subst (λ (l : Bytes). 0 < length l) (sym is.0) (omega arith)
+digits_long before a (suc r) v w (inr (d, y, q, e, is)) = subst (λ (l : Bytes). 0 < length l) (sym e) (omega arith)
+
 -- a byte that is neither the blank nor one more digit
 pub digits_stop : (before : Option ℕ) (a r byte : ℕ) (z : Bytes) → 0 < a → IsOpen before a r → (byte ≡ 32 → is_new before a ≡ true → ⊥) → ((next : ℕ) → IsMore before a r byte next → ⊥) → Stops (AreDigits before a r) (byte ∷ z) 0
 digits_stop before a r byte z p opened no_end no_more =
     let some : (w : Bytes) × AreDigits before a r w = some_digits before a r p opened in
-    stops_here (AreDigits before a r) (byte ∷ z) some.0 some.1 (λ w is. other r w is.0 no_more is.1)
+    stops_here (AreDigits before a r) (byte ∷ z) some.0 some.1 (λ w is. (other r w is.0 no_more is.1, digits_long before a r is.0 w is.1))
   where
-    ended : (v : ℕ) (w : Bytes) → IsEnd before a v w → (common w (byte ∷ z) ≡ 0) × (0 < length w)
-    ended v w (e, same, new) = (
-      ap (λ (l : Bytes). common l (byte ∷ z)) e ∙ common_other 32 byte [] z (λ same_byte. no_end (sym same_byte) new),
-      subst (λ (l : Bytes). 0 < length l) (sym e) (omega arith),
-    )
-
-    other : (r : ℕ) (w : Bytes) (v : ℕ) → ((next : ℕ) → IsMore before a r byte next → ⊥) → IsDigits before a r v w → (common w (byte ∷ z) ≡ 0) × (0 < length w)
-    other zero w v never is = ended v w is
-    other (suc r) w v never (inl is) = ended v w is
-    other (suc r) w v never (inr (d, y, q, e, is)) = (
-      ap (λ (l : Bytes). common l (byte ∷ z)) e ∙ common_other (48 + d) byte y z (λ same. never (2 * a + d) (d, q, sym same, refl, omega arith, goes_on r (open_of before (2 * a + d) r v y is))),
-      subst (λ (l : Bytes). 0 < length l) (sym e) (omega arith),
-    )
-      where
-        goes_on : (r : ℕ) → IsOpen before (2 * a + d) r → (1 < suc r) ⊎ (is_new before (2 * a + d) ≡ true)
-        goes_on r (inl h) = inl (omega arith)
-        goes_on r (inr h) = inr h
+    other : (r : ℕ) (w : Bytes) (v : ℕ) → ((next : ℕ) → IsMore before a r byte next → ⊥) → IsDigits before a r v w → common w (byte ∷ z) ≡ 0
+    other zero w v never is = ap (λ (l : Bytes). common l (byte ∷ z)) is.0 ∙ common_other 32 byte [] z (λ same. no_end (sym same) is.2)
+    other (suc r) w v never (inl is) = ap (λ (l : Bytes). common l (byte ∷ z)) is.0 ∙ common_other 32 byte [] z (λ same. no_end (sym same) is.2)
+    other (suc r) w v never (inr (d, y, q, e, is)) =
+        ap (λ (l : Bytes). common l (byte ∷ z)) e
+        ∙ common_other (48 + d) byte y z (λ same. never (2 * a + d) (d, q, sym same, refl, omega arith, elim (open_of before (2 * a + d) r v y is) [ inl h ↦ inl (omega (arith, h)) | inr h ↦ inr h ]))
 
 -- no byte at all
 pub digits_none : (before : Option ℕ) (a r : ℕ) → 0 < a → IsOpen before a r → Stops (AreDigits before a r) [] 0
 digits_none before a r p opened =
     let some : (w : Bytes) × AreDigits before a r w = some_digits before a r p opened in
-    stops_here (AreDigits before a r) [] some.0 some.1 (λ w is. other r w is.0 is.1)
-  where
-    nothing : (w : Bytes) → 0 < length w → (common w [] ≡ 0) × (0 < length w)
-    nothing [] h = absurd (omega arith)
-    nothing (x ∷ w) h = (refl, h)
-
-    other : (r : ℕ) (w : Bytes) (v : ℕ) → IsDigits before a r v w → (common w [] ≡ 0) × (0 < length w)
-    other zero w v is = nothing w (subst (λ (l : Bytes). 0 < length l) (sym is.0) (omega arith))
-    other (suc r) w v (inl is) = nothing w (subst (λ (l : Bytes). 0 < length l) (sym is.0) (omega arith))
-    other (suc r) w v (inr (d, y, q, e, is)) = nothing w (subst (λ (l : Bytes). 0 < length l) (sym e) (omega arith))
+    stops_empty (AreDigits before a r) some.0 some.1 (λ w is. digits_long before a r is.0 w is.1)
 
 -- one digit more
 pub digits_next : (before : Option ℕ) (a r byte next : ℕ) (z : Bytes) (n : ℕ) → IsMore before a r byte next → Stops (AreDigits before next (r - 1)) z n → Stops (AreDigits before a r) (byte ∷ z) (suc n)
@@ -270,12 +237,8 @@ call_more before a (suc r) byte next n p h (d, q, is_byte, is_next, room, opened
     let one : suc r - 1 ≡ r = omega arith in (
       omega (arith, is_next),
       subst (λ (k : ℕ). (k + 1) * 2 ^ (suc r - 1) ≤ n) (sym is_next) (subst (λ (k : ℕ). (2 * a + d + 1) * 2 ^ k ≤ n) (sym one) (room_more a d r n q h)),
-      goes_on opened,
+      elim opened [ inl h ↦ inl (omega (arith, h)) | inr h ↦ inr h ],
     )
-  where
-    goes_on : ((1 < suc r) ⊎ (is_new before next ≡ true)) → IsOpen before next (suc r - 1)
-    goes_on (inl h) = inl (omega (arith, h))
-    goes_on (inr h) = inr h
 
 pub room_next : (a r n : ℕ) → (a + 1) * 2 ^ r ≤ n → 0 < r → 2 * a + 1 < n
 room_next a zero n h p = absurd (omega arith)

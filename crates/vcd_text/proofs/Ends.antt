@@ -6,25 +6,22 @@ use Rattle.std.proofs.lemmas.List.Sums.{count_by-le-length, take_while-cons}
 use Rattle.tapa_base.specs.declared.text.Place.{Place}
 use Rattle.tapa_base.specs.Gaps.{Bytes}
 use Rattle.tapa_syntax.specs.Characters.{last_line, place_of}
-use Rattle.tapa_syntax.proofs.Places.{line_after_feed, line_after_byte, col_within}
-use Rattle.vcd_text.proofs.Common.{yes_or_no}
+use Rattle.tapa_syntax.proofs.Places.{line_after_feed, line_after_byte, col_within, place_same}
+use Rattle.tapa_base.proofs.Tests.{bool_cases as yes_or_no}
 
 abbrev in_line : ℕ → Bool
 in_line b = not (nat_eq b 10)
-
-back : (b : ℕ) (z : Bytes) → reverse (b ∷ z) ≡ reverse z ++ b ∷ []
-back b z = reverse-append (b ∷ []) z
 
 front_bytes : (z : Bytes) → length (take_while in_line z) ≡ length (last_line (reverse z))
 front_bytes [] = refl
 front_bytes (b ∷ z) = elim (yes_or_no (nat_eq b 10)) [
   | inl t ↦
       let none : length (take_while in_line (b ∷ z)) ≡ 0 = ap (λ (l : Bytes). length l) (take_while-cons in_line b z) ∙ ap (λ (c : Bool). length (cond (not c) (b ∷ take_while in_line z) [])) t in
-      let empty : length (last_line (reverse (b ∷ z))) ≡ 0 = ap (λ (l : Bytes). length (last_line l)) (back b z) ∙ ap (λ (l : Bytes). length l) (line_after_feed (reverse z) b t) in
+      let empty : length (last_line (reverse (b ∷ z))) ≡ 0 = ap (λ (l : Bytes). length (last_line l)) (reverse-append (b ∷ []) z) ∙ ap (λ (l : Bytes). length l) (line_after_feed (reverse z) b t) in
       none ∙ sym empty
   | inr f ↦
       let some : length (take_while in_line (b ∷ z)) ≡ suc (length (take_while in_line z)) = ap (λ (l : Bytes). length l) (take_while-cons in_line b z) ∙ ap (λ (c : Bool). length (cond (not c) (b ∷ take_while in_line z) [])) f in
-      let more : length (last_line (reverse (b ∷ z))) ≡ length (last_line (reverse z) ++ b ∷ []) = ap (λ (l : Bytes). length (last_line l)) (back b z) ∙ ap (λ (l : Bytes). length l) (line_after_byte (reverse z) b f) in
+      let more : length (last_line (reverse (b ∷ z))) ≡ length (last_line (reverse z) ++ b ∷ []) = ap (λ (l : Bytes). length (last_line l)) (reverse-append (b ∷ []) z) ∙ ap (λ (l : Bytes). length l) (line_after_byte (reverse z) b f) in
       omega (arith, some, more, length-append (last_line (reverse z)) (b ∷ []), front_bytes z)
 ]
 
@@ -36,9 +33,6 @@ ends_within text = count_by-le-length (λ b. nat_eq b 10) text
 
 pub bytes_within : (text : Bytes) → length (take_while (λ b. not (nat_eq b 10)) (reverse text)) ≤ length text
 bytes_within text = omega (arith, last_bytes text, col_within text)
-
-place_same : (l c m d : ℕ) → l ≡ m → c ≡ d → let p : Place = record { line = l; col = c } in let q : Place = record { line = m; col = d } in p ≡ q
-place_same l c m d e f = cc
 
 pub place_is : (text : Bytes) (lines bytes : ℕ) → lines ≡ count_by (λ b. nat_eq b 10) text → bytes ≡ length (take_while (λ b. not (nat_eq b 10)) (reverse text)) → let p : Place = record { line = lines + 1; col = bytes + 1 } in p ≡ place_of text
 place_is text lines bytes e f = place_same (lines + 1) (bytes + 1) (1 + count_by (λ b. nat_eq b 10) text) (1 + length (last_line text)) (omega (arith, e)) (omega (arith, f, last_bytes text))

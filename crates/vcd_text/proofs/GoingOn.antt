@@ -1,8 +1,10 @@
 -- Lines behind changes of a cycle, and what is left of a dump behind each.
+use Rattle.vcd_text.proofs.Lines.{among}
+use Rattle.tapa_base.proofs.Got.{some_at as net_at, the_same}
 use Rattle.std.proofs.Common.{◌≡◌, ◌≢◌, ◌⊎◌, ℕ, zero, suc, ◌+◌, ◌-◌, ◌^◌, ◌<◌, ◌≤◌, List, [], ◌∷◌, ◌++◌, length, map, inl, inr, refl, sym, ap, subst, ◌∙◌, arith}
-use Rattle.std.specs.Prelude.{Option, Some, None, slice_get, option_map}
+use Rattle.std.specs.Prelude.{Option, Some, slice_get, option_map}
 use Rattle.std.proofs.lemmas.List.{append_cancel_left, length-append}
-use Rattle.std.proofs.lemmas.Option.{slice_get-map, slice_get_within}
+use Rattle.std.proofs.lemmas.Option.{none-some, slice_get-map, slice_get_within}
 use Rattle.tapa_base.specs.declared.shape.Port.{Port}
 use Rattle.tapa_base.specs.Gaps.{Bytes}
 use Rattle.vcd_text.specs.Nets.{Net}
@@ -20,14 +22,6 @@ use Rattle.vcd_text.proofs.Going.{put, put_here, put_there, turn, keep, change, 
 -- values of these nets are known, each of its bits
 abbrev pub AreKnown : List Net → ℕ → Known → Type 0
 AreKnown nets k p = (i : ℕ) (x : Net) → i < k → slice_get nets i ≡ Some x → (v : ℕ) × (p i ≡ Some v) × (v < 2 ^ x.bits)
-
-pub net_at : (nets : List Net) (i : ℕ) → i < length nets → (x : Net) × (slice_get nets i ≡ Some x)
-net_at [] i h = absurd (omega arith)
-net_at (x ∷ nets) zero h = (x, refl)
-net_at (x ∷ nets) (suc i) h = net_at nets i (omega arith)
-
-one_net : (nets : List Net) (i : ℕ) (x y : Net) → slice_get nets i ≡ Some x → slice_get nets i ≡ Some y → x ≡ y
-one_net nets i x y e f = cc
 
 -- ---- nets that keep their values
 
@@ -91,45 +85,35 @@ change_steps nets n k j p done x v h at values new a z = (to, from)
     from l = back nets n p done a (j - k) k (change_line j x.bits v ++ z) (omega (arith, within, h)) (λ i y g at_i. values i y (omega (arith, g, h)) at_i)
         (subst (λ (i : ℕ). Left nets n i p done a (change_line j x.bits v ++ z)) (sym here) (change nets n j p done x at a (change_line j x.bits v ++ z) (record { value = v; behind = z; new_value = new; is = refl; left = l })))
 
--- behind the line of the next cycle
-pub cycle_steps : (nets : List Net) (n k : ℕ) (p : Known) (done : List Change) → k ≤ length nets → AreKnown nets (length nets) p → Steps (Left nets n k p done) (cycle_line (n + 1)) (Left nets (n + 1) 0 p done)
-cycle_steps nets n k p done h values a z = (to, from)
-  where
-    here : k + (length nets - k) ≡ length nets
-    here = omega arith
+module _ (nets : List Net) (n k : ℕ) (p : Known) (done : List Change) (h : k ≤ length nets) (values : AreKnown nets (length nets) p) where
+  here : k + (length nets - k) ≡ length nets
+  here = omega arith
 
-    all_known : (i : ℕ) (x : Net) → slice_get nets i ≡ Some x → (v : ℕ) × (p i ≡ Some v) × (v < 2 ^ x.bits)
-    all_known i x at = values i x (slice_get_within nets i x at) at
+  all_known : (i : ℕ) (x : Net) → slice_get nets i ≡ Some x → (v : ℕ) × (p i ≡ Some v) × (v < 2 ^ x.bits)
+  all_known i x at = values i x (slice_get_within nets i x at) at
 
-    seen : (i : ℕ) → i < length nets → (v : ℕ) × (p i ≡ Some v)
-    seen i f = let x : (x : Net) × (slice_get nets i ≡ Some x) = net_at nets i f in let v : (v : ℕ) × (p i ≡ Some v) × (v < 2 ^ x.0.bits) = values i x.0 f x.1 in (v.0, v.1)
+  seen : (i : ℕ) → i < length nets → (v : ℕ) × (p i ≡ Some v)
+  seen i f = let x = net_at nets i f in let v = values i x.0 f x.1 in (v.0, v.1)
 
-    to : Left nets n k p done a (cycle_line (n + 1) ++ z) → Left nets (n + 1) 0 p done a z
-    to l =
-        let end : Left nets n (k + (length nets - k)) p done a (cycle_line (n + 1) ++ z) = skip nets n p done a (length nets - k) k (cycle_line (n + 1) ++ z) (omega arith)
-        (λ i y g f at_i t. line_begins i y.bits t.value t.behind _ (sym t.is)) l in
-        elim (cycle nets n (k + (length nets - k)) (omega (arith, here)) p done a (cycle_line (n + 1) ++ z) end) [
-          | inl c ↦ subst (λ (y : Bytes). Left nets (n + 1) 0 p done a y) (sym (append_cancel_left (cycle_line (n + 1)) z c.behind c.is)) c.left
-          | inr e ↦ absurd (omega (arith, ap (λ (l : Bytes). length l) e.is))
-        ]
+  last_left : (a : Answer) (z : Bytes) → Left nets n (length nets) p done a z → Left nets n k p done a z
+  last_left a z l = back nets n p done a (length nets - k) k z (omega arith) (λ i y g at_i. values i y (omega (arith, g, here)) at_i) (subst (λ (i : ℕ). Left nets n i p done a z) (sym here) l)
 
-    from : Left nets (n + 1) 0 p done a z → Left nets n k p done a (cycle_line (n + 1) ++ z)
-    from l = back nets n p done a (length nets - k) k (cycle_line (n + 1) ++ z) (omega arith) (λ i y g at_i. values i y (omega (arith, g, here)) at_i)
-        (subst (λ (i : ℕ). Left nets n i p done a (cycle_line (n + 1) ++ z)) (sym here) (cycled nets n (length nets) (omega arith) p done a (cycle_line (n + 1) ++ z) all_known seen (record { behind = z; is = refl; left = l })))
+  -- behind the line of the next cycle
+  pub cycle_steps : Steps (Left nets n k p done) (cycle_line (n + 1)) (Left nets (n + 1) 0 p done)
+  cycle_steps a z = (to, λ l. last_left a (cycle_line (n + 1) ++ z) (cycled nets n (length nets) (omega arith) p done a (cycle_line (n + 1) ++ z) all_known seen (record { behind = z; is = refl; left = l })))
+    where
+      to : Left nets n k p done a (cycle_line (n + 1) ++ z) → Left nets (n + 1) 0 p done a z
+      to l =
+          let end : Left nets n (k + (length nets - k)) p done a (cycle_line (n + 1) ++ z) = skip nets n p done a (length nets - k) k (cycle_line (n + 1) ++ z) (omega arith)
+          (λ i y g f at_i t. line_begins i y.bits t.value t.behind _ (sym t.is)) l in
+          elim (cycle nets n (k + (length nets - k)) (omega (arith, here)) p done a (cycle_line (n + 1) ++ z) end) [
+            | inl c ↦ subst (λ (y : Bytes). Left nets (n + 1) 0 p done a y) (sym (append_cancel_left (cycle_line (n + 1)) z c.behind c.is)) c.left
+            | inr e ↦ absurd (omega (arith, ap (λ (l : Bytes). length l) e.is))
+          ]
 
--- a text that ends here is a dump
-pub end_left : (nets : List Net) (n k : ℕ) (p : Known) (done : List Change) (a : Answer) → k ≤ length nets → AreKnown nets (length nets) p → Ends nets n done a [] → Left nets n k p done a []
-end_left nets n k p done a h values e = back nets n p done a (length nets - k) k [] (omega arith) (λ i y g at_i. values i y (omega (arith, g, here)) at_i)
-    (subst (λ (i : ℕ). Left nets n i p done a []) (sym here) (ended nets n (length nets) (omega arith) p done a [] all_known seen e))
-  where
-    here : k + (length nets - k) ≡ length nets
-    here = omega arith
-
-    all_known : (i : ℕ) (x : Net) → slice_get nets i ≡ Some x → (v : ℕ) × (p i ≡ Some v) × (v < 2 ^ x.bits)
-    all_known i x at = values i x (slice_get_within nets i x at) at
-
-    seen : (i : ℕ) → i < length nets → (v : ℕ) × (p i ≡ Some v)
-    seen i f = let x : (x : Net) × (slice_get nets i ≡ Some x) = net_at nets i f in let v : (v : ℕ) × (p i ≡ Some v) × (v < 2 ^ x.0.bits) = values i x.0 f x.1 in (v.0, v.1)
+  -- a text that ends here is a dump
+  pub end_left : (a : Answer) → Ends nets n done a [] → Left nets n k p done a []
+  end_left a e = last_left a [] (ended nets n (length nets) (omega arith) p done a [] all_known seen e)
 
 -- what is read where a text ends
 abbrev pub end_answer : List Net → ℕ → List Change → Answer
@@ -137,18 +121,12 @@ end_answer nets n done = record { ports = map port_of nets; last = n; changes = 
 
 -- ---- lines of nets by their ports
 
-port_at : (nets : List Net) (i : ℕ) (x : Net) → slice_get nets i ≡ Some x → slice_get (map port_of nets) i ≡ Some (port_of x)
+pub port_at : (nets : List Net) (i : ℕ) (x : Net) → slice_get nets i ≡ Some x → slice_get (map port_of nets) i ≡ Some (port_of x)
 port_at nets i x e = slice_get-map port_of nets i ∙ ap (λ (o : Option Net). option_map port_of o) e
 
 pub net_of_port : (nets : List Net) (i : ℕ) (p : Port) → slice_get (map port_of nets) i ≡ Some p → (x : Net) × (slice_get nets i ≡ Some x) × (p ≡ port_of x)
-net_of_port [] i p e = absurd (no_port e)
-  where
-    no_port : None ≡ Some p → ⊥
-    no_port e = cc
-net_of_port (x ∷ nets) zero p e = (x, refl, same e)
-  where
-    same : Some (port_of x) ≡ Some p → p ≡ port_of x
-    same e = cc
+net_of_port [] i p e = absurd (none-some p e)
+net_of_port (x ∷ nets) zero p e = (x, refl, the_same p (port_of x) (sym e))
 net_of_port (x ∷ nets) (suc i) p e = net_of_port nets i p e
 
 -- texts behind some turns are none or begin with a line
@@ -161,18 +139,17 @@ begins nets n p done a zero k z h l = elim (cycle nets n k (omega (arith, h)) p 
 begins nets n p done a (suc gap) k z h l =
     let x : (x : Net) × (slice_get nets k ≡ Some x) = net_at nets k (omega (arith, h)) in
     elim (turn nets n k p done x.0 x.1 a z l) [
-      | inl s ↦ wider (begins nets n p done a gap (suc k) z (omega (arith, h)) s)
+      | inl s ↦ elim (begins nets n p done a gap (suc k) z (omega (arith, h)) s) [
+        | inl e ↦ inl e
+        | inr (w, y, inl c, e) ↦ inr (w, y, inl c, e)
+        | inr (w, y, inr c, e) ↦ inr (w, y, inr (among c (omega (arith, c.from)) c.to), e)
+      ]
       | inr t ↦ inr (change_line k x.0.bits t.value, t.behind, inr (record { place = k; net = port_of x.0; value = t.value; from = omega arith; to = omega (arith, h); at = port_at nets k x.0 x.1; new_value = t.new_value; is = refl }), t.is)
     ]
-  where
-    wider : (z ≡ []) ⊎ ((w : Bytes) × (y : Bytes) × IsLineTo (map port_of nets) p (n + 1) (suc k) (length nets) w × (z ≡ w ++ y)) → (z ≡ []) ⊎ ((w : Bytes) × (y : Bytes) × IsLineTo (map port_of nets) p (n + 1) k (length nets) w × (z ≡ w ++ y))
-    wider (inl e) = inl e
-    wider (inr (w, y, inl c, e)) = inr (w, y, inl c, e)
-    wider (inr (w, y, inr c, e)) = inr (w, y, inr (record { place = c.place; net = c.net; value = c.value; from = omega (arith, c.from); to = c.to; at = c.at; new_value = c.new_value; is = c.is }), e)
 
 put_known : (nets : List Net) (k j : ℕ) (p : Known) (x : Net) (v : ℕ) → slice_get nets j ≡ Some x → v < 2 ^ x.bits → AreKnown nets k p → AreKnown nets k (put p j v)
 put_known nets k j p x v at h values i y f at_i = elim (eqb_tells i j) [
-  | inl t ↦ (v, subst (λ (m : ℕ). put p j v m ≡ Some v) (sym t.1) (put_here p j v), subst (λ (m : Net). v < 2 ^ m.bits) (one_net nets i x y (subst (λ (m : ℕ). slice_get nets m ≡ Some x) (sym t.1) at) at_i) h)
+  | inl t ↦ (v, subst (λ (m : ℕ). put p j v m ≡ Some v) (sym t.1) (put_here p j v), subst (λ (m : Net). v < 2 ^ m.bits) (the_same x y (sym (subst (λ (m : ℕ). slice_get nets m ≡ Some x) (sym t.1) at) ∙ at_i)) h)
   | inr t ↦ let u : (u : ℕ) × (p i ≡ Some u) × (u < 2 ^ y.bits) = values i y f at_i in (u.0, put_there p j v i t.1 ∙ u.1, u.2)
 ]
 
@@ -189,7 +166,7 @@ stops_fail nets n k p done z left h values some s = fails_lines (Left nets n k p
       end_answer nets (n + 1) done,
       [],
       subst (λ (l : Bytes). Left nets n k p done (end_answer nets (n + 1) done) (l ++ [])) (sym e)
-          ((cycle_steps nets n k p done h values (end_answer nets (n + 1) done) []).1 (end_left nets (n + 1) 0 p done (end_answer nets (n + 1) done) (omega arith) values (record { is = refl; ports = refl; last = refl; changes = refl }))),
+          ((cycle_steps nets n k p done h values (end_answer nets (n + 1) done) []).1 (end_left nets (n + 1) 0 p done (omega arith) values (end_answer nets (n + 1) done) (record { is = refl; ports = refl; last = refl; changes = refl }))),
     )
     into w (inr c) =
         let x : (x : Net) × (slice_get nets c.place ≡ Some x) × (c.net ≡ port_of x) = net_of_port nets c.place c.net c.at in
@@ -201,5 +178,5 @@ stops_fail nets n k p done z left h values some s = fails_lines (Left nets n k p
           [],
           subst (λ (l : Bytes). Left nets n k p done (end_answer nets n (done ++ change_of n c.place c.value ∷ [])) (l ++ [])) (sym line)
               ((change_steps nets n k c.place p done x.0 c.value c.from x.1 (λ i y f at_i. values i y (omega (arith, f, c.to)) at_i) new (end_answer nets n (done ++ change_of n c.place c.value ∷ [])) []).1
-              (end_left nets n (suc c.place) (put p c.place c.value) (done ++ change_of n c.place c.value ∷ []) (end_answer nets n (done ++ change_of n c.place c.value ∷ [])) (omega (arith, c.to)) (put_known nets (length nets) c.place p x.0 c.value x.1 new.0 values) (record { is = refl; ports = refl; last = refl; changes = refl }))),
+              (end_left nets n (suc c.place) (put p c.place c.value) (done ++ change_of n c.place c.value ∷ []) (omega (arith, c.to)) (put_known nets (length nets) c.place p x.0 c.value x.1 new.0 values) (end_answer nets n (done ++ change_of n c.place c.value ∷ [])) (record { is = refl; ports = refl; last = refl; changes = refl }))),
         )

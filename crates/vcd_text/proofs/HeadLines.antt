@@ -5,6 +5,7 @@ use Rattle.std.proofs.lemmas.Fmt.{decimal_injective, decimal_digit}
 use Rattle.std.proofs.lemmas.List.{append-nil, append_cancel_left, length-append}
 use Rattle.std.proofs.lemmas.Option.{slice_get_within}
 use Rattle.tapa_base.specs.declared.shape.Port.{Port}
+use Rattle.tapa_base.proofs.Got.{got_left, the_same}
 use Rattle.tapa_base.specs.Gaps.{Bytes}
 use Rattle.vlog_tree.specs.Names.{IsName}
 use Rattle.vcd_text.specs.Nets.{Net}
@@ -14,12 +15,12 @@ use Rattle.vcd_text.specs.Head.{IsFree, MayName, IsHeadLineTo}
 use Rattle.vcd_text.specs.Lines.{MayFollow, head_end}
 use Rattle.vcd_text.specs.Read.{port_of, changes_to}
 use Rattle.vcd_text.specs.Rest.{Answer, FailsBefore, row_line, later_text, Left, LeftOfHead}
-use Rattle.vcd_text.proofs.GoingOn.{net_of_port}
+use Rattle.vcd_text.proofs.GoingOn.{net_of_port, port_at}
 use Rattle.vcd_text.proofs.HeadSteps.{cycles_are, changes_are}
 use Rattle.vcd_text.proofs.Heads.{decimal_free, name_free}
-use Rattle.vcd_text.proofs.Knowing.{port_at, some_left}
+use Rattle.vcd_text.proofs.Knowing.{some_left}
 use Rattle.vcd_text.proofs.Reading.{Steps, fails_lines}
-use Rattle.vcd_text.proofs.Sequences.{ended_same}
+use Rattle.vcd_text.proofs.Sequences.{ended_same, head_tail as heads}
 
 -- ---- one net more
 
@@ -27,19 +28,8 @@ at_middle : (xs more : List Net) (x : Net) → slice_get (xs ++ x ∷ more) (len
 at_middle [] more x = refl
 at_middle (y ∷ xs) more x = at_middle xs more x
 
-in_front : (xs ys : List Net) (k : ℕ) (n : Net) → slice_get xs k ≡ Some n → slice_get (xs ++ ys) k ≡ Some n
-in_front [] ys k n e = absurd (no_net e)
-  where
-    no_net : None ≡ Some n → ⊥
-    no_net e = cc
-in_front (x ∷ xs) ys zero n e = e
-in_front (x ∷ xs) ys (suc k) n e = in_front xs ys k n e
-
 front_or_last : (xs : List Net) (x : Net) (k : ℕ) (n : Net) → slice_get (xs ++ x ∷ []) k ≡ Some n → (slice_get xs k ≡ Some n) ⊎ ((k ≡ length xs) × (n ≡ x))
-front_or_last [] x zero n e = inr (refl, same e)
-  where
-    same : Some x ≡ Some n → n ≡ x
-    same e = cc
+front_or_last [] x zero n e = inr (refl, the_same n x (sym e))
 front_or_last [] x (suc k) n e = inl e
 front_or_last (y ∷ xs) x zero n e = inl e
 front_or_last (y ∷ xs) x (suc k) n e = elim (front_or_last xs x k n e) [ inl f ↦ inl f | inr g ↦ inr (ap suc g.0, g.1) ]
@@ -49,7 +39,7 @@ may_follow xs more x are = record {
   name = are.names (length xs) x (at_middle xs more x);
   some_bits = are.some_bits (length xs) x (at_middle xs more x);
   few_bits = are.few_bits (length xs) x (at_middle xs more x);
-  other = λ k n e same. absurd (omega (arith, are.own k (length xs) n x (in_front xs (x ∷ more) k n e) (at_middle xs more x) same, slice_get_within xs k n e));
+  other = λ k n e same. absurd (omega (arith, are.own k (length xs) n x (got_left xs (x ∷ more) k n e) (at_middle xs more x) same, slice_get_within xs k n e));
 }
 
 pub nets_more : (xs : List Net) (x : Net) → AreNets xs → MayFollow xs x → AreNets (xs ++ x ∷ [])
@@ -161,9 +151,6 @@ head_turn xs a z l = by_more l.more l.are_nets l.are_values l.is l.are_ports l.a
 
 -- ---- lines of nets are apart
 
-heads : (c d : ℕ) (a b : Bytes) → c ∷ a ≡ d ∷ b → (c ≡ d) × (a ≡ b)
-heads c d a b e = (cc, cc)
-
 var_flat : (k : ℕ) (x : Net) (y : Bytes) → var_line k x ++ y ≡ codes "$var " ++ (net_type x.is_reg ++ (decimal x.bits ++ 32 ∷ (identifier k ++ 32 ∷ (x.name ++ 32 ∷ (codes "$end\n" ++ y)))))
 var_flat k x y = simp append_assoc
 
@@ -185,10 +172,7 @@ var_same k x w y z n m p q e =
   where
     same_net : (x w : Net) → x.name ≡ w.name → x.bits ≡ w.bits → x.is_reg ≡ w.is_reg → x ≡ w
     same_net x w a b c =
-        let named : List ℕ → Net = λ n. record { name = n; bits = x.bits; is_reg = x.is_reg } in
-        let sized : ℕ → Net = λ n. record { name = w.name; bits = n; is_reg = x.is_reg } in
-        let typed : Bool → Net = λ r. record { name = w.name; bits = w.bits; is_reg = r } in
-        ap named a ∙ ap sized b ∙ ap typed c
+        ap (λ (n : List ℕ). record { name = n; bits = x.bits; is_reg = x.is_reg }) a ∙ ap (λ (n : ℕ). record { name = w.name; bits = n; is_reg = x.is_reg }) b ∙ ap (λ (r : Bool). record { name = w.name; bits = w.bits; is_reg = r }) c
 
 pub var_begins : (k : ℕ) (x : Net) (y z : Bytes) → var_line k x ++ y ≡ head_end ++ z → ⊥
 var_begins k x y z e = absurd (omega (arith, (heads 118 117 _ _ (heads 36 36 _ _ e).1).0))
@@ -239,7 +223,6 @@ head_stop xs ports z left same are s = fails_lines (LeftOfHead xs) (IsHeadLineTo
     into : (w : Bytes) → IsHeadLineTo ports (length xs) w → (a : Answer) × (y : Bytes) × LeftOfHead xs a (w ++ y)
     into w (inl e) = let h : (a : Answer) × (y : Bytes) × LeftOfHead xs a (head_end ++ y) = some_head xs are in (h.0, h.1, subst (λ (l : Bytes). LeftOfHead xs h.0 (l ++ h.1)) (sym e) h.2)
     into w (inr (y, (r, u, (n, v, low, high, (t, (x, ok, f), g), h), i), j)) =
-        let net : Net = record { name = x; bits = n; is_reg = r } in
         let next : MayFollow xs (record { name = x; bits = n; is_reg = r }) = follows xs ports x n r same ok low (omega (arith, high)) in
         let line : w ≡ var_line (length xs) (record { name = x; bits = n; is_reg = r }) =
         j ∙ ap (λ (l : Bytes). codes "$var " ++ l) (i ∙ ap (λ (l : Bytes). net_type r ++ l) (h ∙ ap (λ (l : Bytes). (decimal n ++ 32 ∷ []) ++ l) (g ∙ ap (λ (l : Bytes). (identifier (length xs) ++ 32 ∷ []) ++ l) f))) ∙ parts_are (length xs) n r x in

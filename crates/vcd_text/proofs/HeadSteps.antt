@@ -4,7 +4,7 @@ use Rattle.std.specs.Prelude.{None}
 use Rattle.std.proofs.lemmas.List.{append-nil}
 use Rattle.tapa_base.specs.Gaps.{Bytes}
 use Rattle.vcd_text.specs.Nets.{Net}
-use Rattle.vcd_text.specs.Dump.{Values, is_change, lines_from, net_line, cycle_line, cycle_text, cycles_text}
+use Rattle.vcd_text.specs.Dump.{Values, is_change, lines_from, cycle_line, cycle_text, cycles_text}
 use Rattle.vcd_text.specs.Read.{changes_from, changes_to}
 use Rattle.vcd_text.specs.Rest.{Row, Known, known, row_line, row_changes, rest_of, later_text, later_changes}
 use Rattle.vcd_text.specs.declared.dump.Change.{Change}
@@ -28,22 +28,10 @@ later_changes_last nets (suc d) n u =
     ∙ sym (append_assoc (row_changes (known (u 0)) (u 1) (n + 1) 0 nets) (later_changes nets (n + 1) (rest_of u) d) (row_changes (known (u (suc d))) (u (suc (suc d))) (n + 1 + d + 1) 0 nets))
     ∙ ap (λ (k : ℕ). later_changes nets n u (suc d) ++ row_changes (known (u (suc d))) (u (suc (suc d))) k 0 nets) (omega arith)
 
-none_known : Known
-none_known i = None
-
-first_lines : (v : Values) (k : ℕ) (nets : List Net) → lines_from (net_line v 0) k nets ≡ lines_from (row_line (λ _. None) (v 0)) k nets
-first_lines v k [] = refl
-first_lines v k (x ∷ nets) = ap (λ (l : Bytes). net_line v 0 k x ++ l) (first_lines v (suc k) nets)
-
-next_lines : (v : Values) (n k : ℕ) (nets : List Net) → lines_from (net_line v (suc n)) k nets ≡ lines_from (row_line (known (v n)) (v (suc n))) k nets
-next_lines v n k [] = refl
-next_lines v n k (x ∷ nets) = ap (λ (l : Bytes). net_line v (suc n) k x ++ l) (next_lines v n (suc k) nets)
-
 pub cycles_are : (nets : List Net) (v : Values) (last : ℕ) → cycles_text nets v last ≡ one_cycle nets 0 (λ _. None) (v 0) ++ later_text nets 0 v last
-cycles_are nets v zero = ap (λ (l : Bytes). cycle_line 0 ++ l) (first_lines v 0 nets) ∙ sym (append-nil (one_cycle nets 0 (λ _. None) (v 0)))
+cycles_are nets v zero = sym (append-nil (one_cycle nets 0 (λ _. None) (v 0)))
 cycles_are nets v (suc n) =
     ap (λ (l : Bytes). l ++ cycle_text nets v (suc n)) (cycles_are nets v n)
-    ∙ ap (λ (l : Bytes). (one_cycle nets 0 (λ _. None) (v 0) ++ later_text nets 0 v n) ++ (cycle_line (suc n) ++ l)) (next_lines v n 0 nets)
     ∙ append_assoc (one_cycle nets 0 (λ _. None) (v 0)) (later_text nets 0 v n) (one_cycle nets (suc n) (known (v n)) (v (suc n)))
     ∙ ap (λ (k : ℕ). one_cycle nets 0 (λ _. None) (v 0) ++ (later_text nets 0 v n ++ one_cycle nets k (known (v n)) (v (suc n)))) (omega arith)
     ∙ ap (λ (l : Bytes). one_cycle nets 0 (λ _. None) (v 0) ++ l) (sym (later_last nets n 0 v))

@@ -13,22 +13,13 @@ use Rattle.vcd_text.specs.Along.{common, StopsBefore}
 use Rattle.vcd_text.specs.Dump.{net_type, identifier}
 use Rattle.vcd_text.specs.Head.{MayName, IsNameWord, IsType, IsWidthBelow, IsFromName, IsFromIdentifier, IsFromWidth, IsFromType, IsHeadLineTo}
 use Rattle.vcd_text.specs.Lines.{head_end}
-use Rattle.vcd_text.proofs.Common.{common_other, yes_or_no, not_both}
+use Rattle.vcd_text.proofs.Common.{common_other, not_both}
 use Rattle.vcd_text.proofs.Sequences.{Apart, Free, free_append, ended_apart, before_first, before_next}
-use Rattle.vcd_text.proofs.Lines.{before_like, before_either}
-use Rattle.vcd_text.proofs.Names.{new_name, both, name_parts, no_name, blank_ends, started}
+use Rattle.vcd_text.proofs.Lines.{before_either}
+use Rattle.vcd_text.proofs.Names.{new_name, name_parts, no_name, blank_ends, started}
+use Rattle.tapa_base.proofs.Tests.{bool_cases as yes_or_no, both_true as both}
 
 -- ---- types and widths
-
-pub type_stop : (z : Bytes) (l r : ℕ) → StopsBefore (λ w. w ≡ codes "wire ") z l → StopsBefore (λ w. w ≡ codes "reg ") z r → StopsBefore IsType z (min l r)
-type_stop z l r s t = before_either (λ w. w ≡ codes "wire ") (λ w. w ≡ codes "reg ") IsType z l r (λ w e. (false, e)) (λ w e. (true, e)) (λ w is. one w is.0 is.1) s t
-  where
-    one : (w : Bytes) (b : Bool) → w ≡ net_type b → (w ≡ codes "wire ") ⊎ (w ≡ codes "reg ")
-    one w false e = inl e
-    one w true e = inr e
-
-pub width_first : (z : Bytes) (left : ℕ) → StopsBefore (λ w. w ≡ decimal 1 ++ 32 ∷ []) z left → StopsBefore (IsWidthBelow 2) z left
-width_first z left s = before_like (λ w. w ≡ decimal 1 ++ 32 ∷ []) (IsWidthBelow 2) z left (λ w e. (1, omega arith, omega arith, e)) (λ w is. is.3 ∙ ap (λ (n : ℕ). decimal n ++ 32 ∷ []) (omega (arith, is.1, is.2))) s
 
 pub width_more : (z : Bytes) (k l r : ℕ) → 1 ≤ k → StopsBefore (IsWidthBelow k) z l → StopsBefore (λ w. w ≡ decimal k ++ 32 ∷ []) z r → StopsBefore (IsWidthBelow (k + 1)) z (min l r)
 width_more z k l r h s t = before_either (IsWidthBelow k) (λ w. w ≡ decimal k ++ 32 ∷ []) (IsWidthBelow (k + 1)) z l r

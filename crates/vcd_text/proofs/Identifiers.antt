@@ -1,5 +1,6 @@
 -- Identifiers digit by digit.
-use Rattle.std.proofs.Common.{◌≡◌, ◌≢◌, ℕ, zero, suc, ◌+◌, ◌/◌, ◌%◌, ◌<◌, ◌≤◌, [], ◌∷◌, ◌++◌, length, inl, inr, refl, sym, ap, subst, ◌∙◌, arith, nat_lt}
+use Rattle.std.proofs.lemmas.Bool.{lt-ltb, le-ltb}
+use Rattle.std.proofs.Common.{◌≡◌, ◌≢◌, ℕ, zero, suc, ◌+◌, ◌-◌, ◌*◌, ◌/◌, ◌%◌, ◌<◌, ◌≤◌, [], ◌∷◌, ◌++◌, length, inl, inr, refl, sym, ap, subst, ◌∙◌, arith, nat_lt}
 use Rattle.tapa_base.specs.Gaps.{Bytes}
 use Rattle.vcd_text.specs.Along.{common, Stops}
 use Rattle.vcd_text.specs.Dump.{digits_94, identifier}
@@ -7,16 +8,10 @@ use Rattle.vcd_text.proofs.Common.{common_other, stops_here, stops_next, stops_e
 use Rattle.vcd_text.proofs.Sequences.{Free}
 
 small_digits : (m k : ℕ) → k < 94 → digits_94 (suc m) k ≡ (33 + k % 94) ∷ []
-small_digits m k h = elim (less k 94) [
-  | inl t ↦ ap (λ (l : Bytes). (33 + k % 94) ∷ l) (cond_yes (nat_lt k 94) [] (digits_94 m (k / 94)) t.0)
-  | inr f ↦ absurd (omega (arith, f.1))
-]
+small_digits m k h = ap (λ (l : Bytes). (33 + k % 94) ∷ l) (cond_yes (nat_lt k 94) [] (digits_94 m (k / 94)) (lt-ltb k 94 h))
 
 big_digits : (m k : ℕ) → 94 ≤ k → digits_94 (suc m) k ≡ (33 + k % 94) ∷ digits_94 m (k / 94)
-big_digits m k h = elim (less k 94) [
-  | inl t ↦ absurd (omega (arith, t.1))
-  | inr f ↦ ap (λ (l : Bytes). (33 + k % 94) ∷ l) (cond_no (nat_lt k 94) [] (digits_94 m (k / 94)) f.0)
-]
+big_digits m k h = ap (λ (l : Bytes). (33 + k % 94) ∷ l) (cond_no (nat_lt k 94) [] (digits_94 m (k / 94)) (le-ltb k 94 h))
 
 -- more digits than there are change nothing
 digits_same : (m n k : ℕ) → k ≤ m → k ≤ n → digits_94 (suc m) k ≡ digits_94 (suc n) k
@@ -75,30 +70,19 @@ identifier_free e k h = digits_free (suc k) k
       | inr f ↦ subst (λ (l : Bytes). Free e l) (sym (big_digits m k f.1)) (λ same. absurd (omega (arith, same)), digits_free m (k / 94))
     ]
 
-cells_same : (a b : ℕ) (y z : Bytes) → a ∷ y ≡ b ∷ z → (a ≡ b) × (y ≡ z)
-cells_same a b y z e = (cc, cc)
+-- the number that digits stand for
+number : Bytes → ℕ
+number [] = 0
+number (b ∷ w) = b - 33 + 94 * number w
 
-some_left : (k : ℕ) → [] ≡ identifier k → ⊥
-some_left k e = let long : 0 ≡ length (identifier k) = ap (λ (l : Bytes). length l) e in absurd (omega (arith, long, ap (λ (l : Bytes). length l) (first_digit k).1))
-
-both_small : (j k : ℕ) → j < 94 → k < 94 → identifier j ≡ identifier k → j ≡ k
-both_small j k t u e = let d : (33 + j % 94 ≡ 33 + k % 94) × ([] ≡ []) = cells_same _ _ [] [] (sym (identifier_small j t) ∙ e ∙ identifier_small k u) in omega (arith, d.0, t, u)
-
-one_small : (j k : ℕ) → j < 94 → 94 ≤ k → identifier j ≡ identifier k → ⊥
-one_small j k t u e = some_left (k / 94) (cells_same (33 + j % 94) (33 + k % 94) [] (identifier (k / 94)) (sym (identifier_small j t) ∙ e ∙ identifier_big k u)).1
-
-one_by_most : (most j k : ℕ) → j ≤ most → identifier j ≡ identifier k → j ≡ k
-one_by_most zero j k h e = elim (less k 94) [ inl u ↦ both_small j k (omega arith) u.1 e | inr u ↦ absurd (one_small j k (omega arith) u.1 e) ]
-one_by_most (suc most) j k h e = elim (less j 94) [
-  | inl t ↦ elim (less k 94) [ inl u ↦ both_small j k t.1 u.1 e | inr u ↦ absurd (one_small j k t.1 u.1 e) ]
-  | inr t ↦ elim (less k 94) [
-    | inl u ↦ absurd (one_small k j u.1 t.1 (sym e))
-    | inr u ↦
-        let d : (33 + j % 94 ≡ 33 + k % 94) × (identifier (j / 94) ≡ identifier (k / 94)) = cells_same (33 + j % 94) (33 + k % 94) (identifier (j / 94)) (identifier (k / 94)) (sym (identifier_big j t.1) ∙ e ∙ identifier_big k u.1) in
-        let ih : j / 94 ≡ k / 94 = one_by_most most (j / 94) (k / 94) (omega (arith, t.1)) d.1 in
-        omega (arith, ih, d.0)
-  ]
+number_of : (m k : ℕ) → k ≤ m → number (digits_94 (suc m) k) ≡ k
+unfolding number
+number_of zero k h = ap number (small_digits 0 k (omega arith)) ∙ omega arith
+number_of (suc m) k h = elim (less k 94) [
+  | inl t ↦ ap number (small_digits (suc m) k t.1) ∙ omega (arith, t.1)
+  | inr f ↦ let ih = number_of m (k / 94) (omega (arith, f.1)) in ap number (big_digits (suc m) k f.1) ∙ ap (λ n. 33 + k % 94 - 33 + 94 * n) ih ∙ omega arith
 ]
 
 pub identifier_one : (j k : ℕ) → identifier j ≡ identifier k → j ≡ k
-identifier_one j k e = one_by_most j j k (omega arith) e
+unfolding identifier
+identifier_one j k e = sym (number_of j j (omega arith)) ∙ ap number e ∙ number_of k k (omega arith)

@@ -1,11 +1,12 @@
 -- Values that are known, and what each line that is read is good for.
+use Rattle.tapa_base.proofs.Got.{some_at, the_same}
 use Rattle.std.proofs.Common.{◌≡◌, ◌≢◌, ◌⊎◌, ℕ, zero, suc, ◌+◌, ◌^◌, ◌<◌, ◌≤◌, cond, List, [], ◌∷◌, ◌++◌, length, map, get_or, set, inl, inr, refl, sym, ap, subst, ◌∙◌, arith, nat_lt, add-one}
 use Rattle.std.specs.Prelude.{Option, Some, None, slice_get}
 use Rattle.std.specs.Option.{unwrap_or}
 use Rattle.std.proofs.lemmas.Bool.Decides.{eqb_tells}
 use Rattle.std.proofs.lemmas.List.{length-map, length-set}
 use Rattle.std.proofs.lemmas.Nat.{pow_pos}
-use Rattle.std.proofs.lemmas.Option.{slice_get-get_or, slice_get_within, slice_get_past}
+use Rattle.std.proofs.lemmas.Option.{none-some, slice_get-get_or, slice_get_within, slice_get_past}
 use Rattle.std.proofs.Math.Path.{fun_ext}
 use Rattle.tapa_base.specs.declared.shape.Port.{Port}
 use Rattle.tapa_base.specs.Gaps.{Bytes}
@@ -22,7 +23,7 @@ use Rattle.vcd_text.proofs.Common.{less, cond_yes, cond_no}
 use Rattle.vcd_text.proofs.Reading.{fails_lines, serves_more}
 use Rattle.vcd_text.proofs.Values.{IsChange}
 use Rattle.vcd_text.proofs.Going.{put, put_here, put_there, turn}
-use Rattle.vcd_text.proofs.GoingOn.{AreKnown, change_steps, cycle_steps, end_left, net_of_port, stops_fail}
+use Rattle.vcd_text.proofs.GoingOn.{AreKnown, change_steps, cycle_steps, end_left, net_of_port, stops_fail, port_at}
 
 -- ---- a list of values, one of them put in
 
@@ -53,17 +54,6 @@ set_is_put vs k v h = fun_ext (λ i. was_set vs k v i h)
 
 -- ---- values of nets
 
-pub port_at : (nets : List Net) (i : ℕ) (x : Net) → slice_get nets i ≡ Some x → slice_get (map port_of nets) i ≡ Some (port_of x)
-port_at [] i x e = absurd (no_net e)
-  where
-    no_net : None ≡ Some x → ⊥
-    no_net e = cc
-port_at (y ∷ nets) zero x e = ap (λ (z : Net). Some (port_of z)) (same_net e)
-  where
-    same_net : Some y ≡ Some x → y ≡ x
-    same_net e = cc
-port_at (y ∷ nets) (suc i) x e = port_at nets i x e
-
 pub values_known : (xs : List Net) (ports : List Port) (values : List ℕ) → ports ≡ map port_of xs → HaveValues ports values → AreKnown xs (length xs) (slice_get values)
 values_known xs ports values same have i x h at =
     let long : length values ≡ length xs = have.count ∙ ap (λ (l : List Port). length l) same ∙ length-map xs port_of in
@@ -77,8 +67,8 @@ put_fits ports values k v p at h have = record {
   fit = λ i q u at_i is. elim (eqb_tells i k) [
     | inl t ↦
         let here : slice_get (set values k v) i ≡ Some v = ap (λ (f : Known). f i) (set_is_put values k v within) ∙ subst (λ (j : ℕ). put (slice_get values) k v j ≡ Some v) (sym t.1) (put_here (slice_get values) k v) in
-        let one : u ≡ v = same_value is here in
-        let net : p ≡ q = same_port (subst (λ (j : ℕ). slice_get ports j ≡ Some p) (sym t.1) at) at_i in
+        let one : u ≡ v = the_same u v (sym is ∙ here) in
+        let net : p ≡ q = the_same p q (sym (subst (λ (j : ℕ). slice_get ports j ≡ Some p) (sym t.1) at) ∙ at_i) in
         subst (λ (n : ℕ). n < 2 ^ q.bits) (sym one) (subst (λ (r : Port). v < 2 ^ r.bits) net h)
     | inr t ↦ have.fit i q u at_i (sym (ap (λ (f : Known). f i) (set_is_put values k v within) ∙ put_there (slice_get values) k v i t.1) ∙ is)
   ];
@@ -86,12 +76,6 @@ put_fits ports values k v p at h have = record {
   where
     within : k < length values
     within = omega (arith, have.count, slice_get_within ports k p at)
-
-    same_value : {o : Option ℕ} {u w : ℕ} → o ≡ Some u → o ≡ Some w → u ≡ w
-    same_value e f = cc
-
-    same_port : {o : Option Port} {q r : Port} → o ≡ Some q → o ≡ Some r → q ≡ r
-    same_port e f = cc
 
 -- ---- some text is left
 
@@ -108,7 +92,7 @@ some_left nets n k p done h values = (
     ];
     seen = λ i g. elim (less i k) [
       | inl t ↦
-          let x : (x : Net) × (slice_get nets i ≡ Some x) = net_there nets i (omega (arith, h, t.1)) in
+          let x : (x : Net) × (slice_get nets i ≡ Some x) = some_at nets i (omega (arith, h, t.1)) in
           let v : (v : ℕ) × (p i ≡ Some v) × (v < 2 ^ x.0.bits) = values i x.0 t.1 x.1 in
           v.1 ∙ ap (λ (o : Option ℕ). Some (unwrap_or o 0)) (sym v.1) ∙ ap (λ (u : ℕ). Some u) (sym (cond_yes (nat_lt i k) (unwrap_or (p i) 0) 0 t.0))
       | inr f ↦ absurd (omega (arith, f.1, g))
@@ -119,11 +103,6 @@ some_left nets n k p done h values = (
     changes = refl;
   },
 )
-  where
-    net_there : (nets : List Net) (i : ℕ) → i < length nets → (x : Net) × (slice_get nets i ≡ Some x)
-    net_there [] i h = absurd (omega arith)
-    net_there (x ∷ nets) zero h = (x, refl)
-    net_there (x ∷ nets) (suc i) h = net_there nets i (omega arith)
 
 -- ---- lines of the first cycle
 
@@ -135,26 +114,17 @@ first_stop nets n k p done x z left at none values s = fails_lines (Left nets n 
     into w (v, new, e) =
         let new_here : IsNewValue x.bits (p k) v = subst (λ (o : Option ℕ). IsNewValue x.bits o v) (sym none) new in
         let more : AreKnown nets (suc k) (put p k v) = λ i y h at_i. elim (eqb_tells i k) [
-          | inl t ↦ (v, subst (λ (m : ℕ). put p k v m ≡ Some v) (sym t.1) (put_here p k v), subst (λ (m : Net). v < 2 ^ m.bits) (same_net (subst (λ (m : ℕ). slice_get nets m ≡ Some x) (sym t.1) at) at_i) new.0)
+          | inl t ↦ (v, subst (λ (m : ℕ). put p k v m ≡ Some v) (sym t.1) (put_here p k v), subst (λ (m : Net). v < 2 ^ m.bits) (the_same x y (sym (subst (λ (m : ℕ). slice_get nets m ≡ Some x) (sym t.1) at) ∙ at_i)) new.0)
           | inr t ↦ let u : (u : ℕ) × (p i ≡ Some u) × (u < 2 ^ y.bits) = values i y (omega (arith, h, t.1)) at_i in (u.0, put_there p k v i t.1 ∙ u.1, u.2)
         ] in
         let some : (a : Answer) × (y : Bytes) × Left nets n (suc k) (put p k v) (done ++ change_of n k v ∷ []) a y = some_left nets n (suc k) (put p k v) (done ++ change_of n k v ∷ []) (omega (arith, slice_get_within nets k x at)) more in
         (some.0, some.1, subst (λ (l : Bytes). Left nets n k p done some.0 (l ++ some.1)) (sym e) ((change_steps nets n k k p done x v (omega arith) at values new_here some.0 some.1).1 some.2))
-      where
-        same_net : {o : Option Net} {q r : Net} → o ≡ Some q → o ≡ Some r → q ≡ r
-        same_net e f = cc
 
     out : (a : Answer) (y : Bytes) → Left nets n k p done a y → ((y ≡ []) × (z ≢ [])) ⊎ ((w : Bytes) × (b : Bytes) × IsChange k x.bits None w × (y ≡ w ++ b))
     out a y l = elim (turn nets n k p done x at a y l) [
-      | inl s ↦ absurd (never (s.seen k (omega arith)))
+      | inl s ↦ absurd (none-some _ (sym none ∙ s.seen k (omega arith)))
       | inr t ↦ inr (change_line k x.bits t.value, t.behind, (t.value, subst (λ (o : Option ℕ). IsNewValue x.bits o t.value) none t.new_value, refl), t.is)
     ]
-      where
-        never : {v : ℕ} → p k ≡ Some v → ⊥
-        never e = no_value (sym none ∙ e)
-          where
-            no_value : {v : ℕ} → None ≡ Some v → ⊥
-            no_value e = cc
 
 -- ---- what lines are good for
 
@@ -191,7 +161,7 @@ pub serve_end : (xs : List Net) (ports : List Port) (L : Texts) (z y : Bytes) (n
 serve_end xs ports L z y n from values done a same have h e is_ports is_last is_changes s =
     let long : length ports ≡ length xs = ap (λ (l : List Port). length l) same ∙ length-map xs port_of in
     s.found a (subst (λ (l : Bytes). Left xs n from (slice_get values) done a l) (sym e)
-    (end_left xs n from (slice_get values) done a (omega (arith, h, long)) (values_known xs ports values same have) (record { is = refl; ports = is_ports ∙ same; last = is_last; changes = is_changes })))
+    (end_left xs n from (slice_get values) done (omega (arith, h, long)) (values_known xs ports values same have) a (record { is = refl; ports = is_ports ∙ same; last = is_last; changes = is_changes })))
 
 -- ---- what is found, by slices that are seen as these lists
 
@@ -220,16 +190,10 @@ pub push_fits : (ports : List Port) (values : List ℕ) (k v : ℕ) (p : Port) �
 push_fits ports values k v p count at h fit i q u at_i is = elim (eqb_tells i k) [
   | inl t ↦
       let here : slice_get (values ++ v ∷ []) i ≡ Some v = ap (λ (f : Known). f i) (push_is_put values v k count) ∙ subst (λ (j : ℕ). put (slice_get values) k v j ≡ Some v) (sym t.1) (put_here (slice_get values) k v) in
-      let net : p ≡ q = same_port (subst (λ (j : ℕ). slice_get ports j ≡ Some p) (sym t.1) at) at_i in
-      subst (λ (n : ℕ). n < 2 ^ q.bits) (sym (same_value is here)) (subst (λ (r : Port). v < 2 ^ r.bits) net h)
+      let net : p ≡ q = the_same p q (sym (subst (λ (j : ℕ). slice_get ports j ≡ Some p) (sym t.1) at) ∙ at_i) in
+      subst (λ (n : ℕ). n < 2 ^ q.bits) (sym (the_same u v (sym is ∙ here))) (subst (λ (r : Port). v < 2 ^ r.bits) net h)
   | inr t ↦ fit i q u at_i (sym (ap (λ (f : Known). f i) (push_is_put values v k count) ∙ put_there (slice_get values) k v i t.1) ∙ is)
 ]
-  where
-    same_value : {o : Option ℕ} {a b : ℕ} → o ≡ Some a → o ≡ Some b → a ≡ b
-    same_value e f = cc
-
-    same_port : {o : Option Port} {a b : Port} → o ≡ Some a → o ≡ Some b → a ≡ b
-    same_port e f = cc
 
 pub serve_first : (xs : List Net) (ports : List Port) (L : Texts) (z y x : Bytes) (k v : ℕ) (values : List ℕ) (done : List Change) (p : Port) → ports ≡ map port_of xs → length values ≡ k → slice_get ports k ≡ Some p
     → ((i : ℕ) (q : Port) (u : ℕ) → slice_get ports i ≡ Some q → slice_get values i ≡ Some u → u < 2 ^ q.bits) → IsNewValue p.bits None v → y ≡ change_line k p.bits v ++ x

@@ -1,29 +1,23 @@
 -- Names at the front of a text.
-use Rattle.std.proofs.Common.{◌≡◌, ◌⊎◌, ℕ, zero, suc, ◌+◌, ◌<◌, ◌≤◌, Bool, true, false, cond, List, [], ◌∷◌, ◌++◌, length, take, drop, inl, inr, refl, sym, ap, subst, ◌∙◌, append_assoc, arith, add-one, nat_le, get_or}
-use Rattle.std.specs.Prelude.{Option, Some, None, slice_get, ◌&&◌, bytes_eq}
+use Rattle.std.proofs.Common.{◌≡◌, ◌⊎◌, ℕ, zero, suc, ◌+◌, ◌<◌, ◌≤◌, Bool, true, false, cond, List, [], ◌∷◌, ◌++◌, length, take, drop, inl, inr, refl, sym, ap, subst, ◌∙◌, append_assoc, arith, add-one, nat_le}
+use Rattle.std.specs.Prelude.{Some, slice_get, bytes_eq}
 use Rattle.std.specs.List.{list_all}
 use Rattle.std.proofs.lemmas.List.{length-append, length-drop, take-append-drop, length-take-le}
-use Rattle.std.proofs.lemmas.Bool.Decides.{eqb_tells, leb_tells}
-use Rattle.std.proofs.lemmas.Option.{slice_get-get_or}
 use Rattle.std.proofs.lemmas.Slice.Eq.{bytes_eq-Decides}
 use Rattle.tapa_base.specs.declared.shape.Port.{Port}
 use Rattle.tapa_base.specs.Gaps.{Bytes}
 use Rattle.tapa_syntax.specs.Characters.{run}
-use Rattle.vlog_tree.specs.Table.{Name}
 use Rattle.vlog_tree.specs.Names.{IsName, has_name_form, starts_name, goes_on, is_keyword, is_among, always_to_default, defparam_to_event, for_to_input, instance_to_not, notif0_to_real, realtime_to_strong0, strong1_to_unsigned, use_to_xor}
 use Rattle.vcd_text.specs.Along.{common, Stops, StopsBefore}
 use Rattle.vcd_text.specs.Head.{name_run, MayName, IsNameWord}
-use Rattle.vcd_text.proofs.Common.{common_next, common_other, common_behind, cond_yes, cond_no, yes_or_no, not_both}
+use Rattle.vcd_text.proofs.Common.{common_next, common_other, common_behind, cond_yes, cond_no, not_both}
+use Rattle.tapa_base.proofs.Tests.{bool_cases as yes_or_no, both_true as both, below}
+use Rattle.tapa_base.proofs.Got.{the_same}
+use Rattle.tapa_syntax.proofs.Runs.{run_passes, run_within}
+use Rattle.std.proofs.lemmas.List.Folds.{list_all-append}
+use Rattle.std.proofs.lemmas.Bool.{and_from as joined}
 
 -- ---- bytes of names
-
-pub both : (a b : Bool) → (a && b) ≡ true → (a ≡ true) × (b ≡ true)
-both true true e = (refl, refl)
-both true false e = absurd (not_both true refl (sym e))
-both false b e = absurd (not_both true refl (sym e))
-
-joined : (a b : Bool) → a ≡ true → b ≡ true → (a && b) ≡ true
-joined a b p q = rw (p, q) refl
 
 pub started : (b : ℕ) → starts_name b ≡ true → goes_on b ≡ true
 unfolding goes_on
@@ -113,17 +107,6 @@ unfolding lines
 lines_go_on zero = refl
 lines_go_on (suc n) = joined (goes_on 95) (list_all goes_on (lines n)) (started 95 low_line) (lines_go_on n)
 
-all_append : (a b : Bytes) → list_all goes_on a ≡ true → list_all goes_on b ≡ true → list_all goes_on (a ++ b) ≡ true
-all_append [] b p q = q
-all_append (c ∷ a) b p q = joined (goes_on c) (list_all goes_on (a ++ b)) (both (goes_on c) (list_all goes_on a) p).0 (all_append a b (both (goes_on c) (list_all goes_on a) p).1 q)
-
-run_goes_on : (z : Bytes) → list_all goes_on (take (run goes_on z) z) ≡ true
-run_goes_on [] = refl
-run_goes_on (b ∷ z) = elim (yes_or_no (goes_on b)) [
-  | inl t ↦ at_run (λ (n : ℕ). list_all goes_on (take n (b ∷ z)) ≡ true) (run goes_on (b ∷ z)) (suc (run goes_on z)) (run_more b z t) (joined (goes_on b) (list_all goes_on (take (run goes_on z) z)) t (run_goes_on z))
-  | inr f ↦ at_run (λ (n : ℕ). list_all goes_on (take n (b ∷ z)) ≡ true) (run goes_on (b ∷ z)) 0 (run_ends b z f) refl
-]
-
 -- a front with low lines behind it has the form of a name
 front_form : (z : Bytes) (n : ℕ) → 0 < n → has_name_form (take (name_run z) z ++ lines n) ≡ true
 unfolding lines
@@ -131,7 +114,7 @@ front_form z zero h = absurd (omega arith)
 front_form [] (suc n) h = joined (starts_name 95) (list_all goes_on (lines n)) low_line (lines_go_on n)
 front_form (b ∷ z) (suc n) h = elim (yes_or_no (starts_name b)) [
   | inl t ↦ at_run (λ (m : ℕ). has_name_form (take m (b ∷ z) ++ lines (suc n)) ≡ true) (name_run (b ∷ z)) (suc (run goes_on z)) (cond_yes (starts_name b) (run goes_on z + 1) 0 t ∙ add-one (run goes_on z))
-      (joined (starts_name b) (list_all goes_on (take (run goes_on z) z ++ lines (suc n))) t (all_append (take (run goes_on z) z) (lines (suc n)) (run_goes_on z) (lines_go_on (suc n))))
+      (joined (starts_name b) (list_all goes_on (take (run goes_on z) z ++ lines (suc n))) t (list_all-append goes_on (take (run goes_on z) z) (lines (suc n)) ∙ joined _ _ (run_passes goes_on z) (lines_go_on (suc n))))
   | inr f ↦ at_run (λ (m : ℕ). has_name_form (take m (b ∷ z) ++ lines (suc n)) ≡ true) (name_run (b ∷ z)) 0 (cond_no (starts_name b) (run goes_on z + 1) 0 f)
       (joined (starts_name 95) (list_all goes_on (lines n)) low_line (lines_go_on n))
 ]
@@ -147,10 +130,7 @@ not_among : (words : List Bytes) (x : Bytes) → are_short words ≡ true → 19
 not_among [] x s h = refl
 not_among (w ∷ words) x s h =
     let parts : (nat_le (length w) 19 ≡ true) × (are_short words ≡ true) = both (nat_le (length w) 19) (are_short words) s in
-    rw (other_word x w (omega (arith, leb_true (length w) 19 parts.0, h))) (not_among words x parts.1 h)
-  where
-    leb_true : (a b : ℕ) → nat_le a b ≡ true → a ≤ b
-    leb_true a b e = elim (leb_tells a b) [ inl t ↦ t.1 | inr f ↦ absurd (not_both (nat_le a b) e f.0) ]
+    rw (other_word x w (omega (arith, below (length w) 19 parts.0, h))) (not_among words x parts.1 h)
 
 long_word : (x : Bytes) → 19 < length x → is_keyword x ≡ false
 unfolding is_keyword always_to_default defparam_to_event for_to_input instance_to_not notif0_to_real realtime_to_strong0 strong1_to_unsigned use_to_xor
@@ -163,14 +143,8 @@ lengths [] = 0
 lengths (p ∷ nets) = length p.name + lengths nets
 
 name_within : (nets : List Port) (i : ℕ) (p : Port) → slice_get nets i ≡ Some p → length p.name ≤ lengths nets
-name_within [] i p e = absurd (no_port e)
-  where
-    no_port : None ≡ Some p → ⊥
-    no_port e = cc
-name_within (q ∷ nets) zero p e = omega (arith, ap (λ (r : Port). length r.name) (same_port e))
-  where
-    same_port : Some q ≡ Some p → q ≡ p
-    same_port e = cc
+name_within [] i p e = cc
+name_within (q ∷ nets) zero p e = omega (arith, ap (λ (r : Port). length r.name) (the_same q p e))
 name_within (q ∷ nets) (suc i) p e = omega (arith, name_within nets i p e)
 
 -- each front of a name begins a name that no net has
@@ -188,13 +162,9 @@ new_name nets z =
 
 -- ---- where names stop
 
-run_within : (z : Bytes) → run goes_on z ≤ length z
-run_within [] = omega arith
-run_within (b ∷ z) = elim (yes_or_no (goes_on b)) [ inl t ↦ omega (arith, run_more b z t, run_within z) | inr f ↦ omega (arith, run_ends b z f) ]
-
 name_run_within : (z : Bytes) → name_run z ≤ length z
 name_run_within [] = omega arith
-name_run_within (b ∷ z) = elim (yes_or_no (starts_name b)) [ inl t ↦ omega (arith, cond_yes (starts_name b) (run goes_on z + 1) 0 t, run_within z) | inr f ↦ omega (arith, cond_no (starts_name b) (run goes_on z + 1) 0 f) ]
+name_run_within (b ∷ z) = elim (yes_or_no (starts_name b)) [ inl t ↦ omega (arith, cond_yes (starts_name b) (run goes_on z + 1) 0 t, run_within goes_on z) | inr f ↦ omega (arith, cond_no (starts_name b) (run goes_on z + 1) 0 f) ]
 
 pub name_stop : (nets : List Port) (z : Bytes) → ((y : Bytes) → drop (name_run z) z ≡ 32 ∷ y → MayName nets (take (name_run z) z) → ⊥) → Stops (IsNameWord nets) z (name_run z)
 name_stop nets z never =
@@ -228,13 +198,3 @@ name_before nets z rest n same is never = (
   omega (arith, same, ap (λ (l : Bytes). length l) is, length-drop n z, name_run_within z),
   name_stop nets z (λ y e ok. never y (is ∙ ap (λ (m : ℕ). drop m z) same ∙ e) (subst (λ (m : ℕ). MayName nets (take m z)) (sym same) ok)),
 )
-
--- one net more that has another name
-pub free_more : (nets : List Port) (x : Name) (k : ℕ) (item : Port) → k < length nets → item ≡ get_or nets k item → ((i : ℕ) (p : Port) → i < k → slice_get nets i ≡ Some p → p.name ≡ x → ⊥) → (item.name ≡ x → ⊥) → (i : ℕ) (p : Port) → i < k + 1 → slice_get nets i ≡ Some p → p.name ≡ x → ⊥
-free_more nets x k item h is before other i p g at e = elim (eqb_tells i k) [
-  | inl t ↦ other (ap (λ (q : Port). q.name) (is ∙ one_port (slice_get-get_or nets k item h) (subst (λ (j : ℕ). slice_get nets j ≡ Some p) t.1 at)) ∙ e)
-  | inr f ↦ before i p (omega (arith, g, f.1)) at e
-]
-  where
-    one_port : {o : Option Port} {q r : Port} → o ≡ Some q → o ≡ Some r → q ≡ r
-    one_port e f = cc

@@ -1,9 +1,7 @@
 -- The changes of a dump, net by net, are the cycles in which values change.
-use Rattle.std.proofs.Common.{◌≡◌, ◌≢◌, ℕ, zero, suc, ◌+◌, ◌<◌, ◌≤◌, Bool, true, false, cond, List, [], ◌∷◌, ◌++◌, length, get_or, take, inl, inr, append-nil, refl, ap, ◌∙◌, arith}
-use Rattle.std.specs.Prelude.{◌==◌}
+use Rattle.std.proofs.Common.{◌≡◌, ◌≢◌, ℕ, zero, suc, ◌+◌, ◌<◌, ◌≤◌, Bool, true, false, cond, List, [], ◌∷◌, ◌++◌, length, get_or, take, inl, inr, append-nil, refl, ap, ◌∙◌, arith, eq-eqb}
 use Rattle.std.proofs.lemmas.List.{take_more}
 use Rattle.std.proofs.lemmas.Bool.{cases_eq}
-use Rattle.std.proofs.lemmas.Bool.Decides.{nat_tests}
 use Rattle.std.proofs.lemmas.Grind.{flat_map-append}
 use Rattle.tapa_base.specs.Gaps.{Bytes}
 use Rattle.vcd_text.specs.Nets.{Net}
@@ -11,12 +9,7 @@ use Rattle.vcd_text.specs.Dump.{Values, is_change}
 use Rattle.vcd_text.specs.Read.{changes_from, changes_to}
 use Rattle.vcd_text.specs.declared.dump.Change.{Change}
 use Rattle.vcd_text.specs.NetLines.{value_line, value_lines, line_of, lines_of}
-
-same_test : (a b : ℕ) → a ≡ b → (a == b) ≡ true
-same_test a b e = grind (arith, nat_tests)
-
-other_test : (a b : ℕ) → a ≢ b → (a == b) ≡ false
-other_test a b ne = grind (arith, nat_tests)
+use Rattle.tapa_base.proofs.Tests.{differs as other_test}
 
 abbrev change_at : Values → ℕ → ℕ → Change
 change_at v n j = record { cycle = n; net = j; value = v n j }
@@ -26,7 +19,7 @@ one_change v n j = cond (is_change v n j) (change_at v n j ∷ []) []
 
 -- the line of a net's own change, and none of another
 own : (v : Values) (n k : ℕ) (b : Bool) → lines_of k (cond b (change_at v n k ∷ []) []) ≡ cond b (value_line n (v n k)) []
-own v n k true = append-nil (line_of k (change_at v n k)) ∙ ap (λ (t : Bool). cond t (value_line n (v n k)) []) (same_test k k refl)
+own v n k true = append-nil (line_of k (change_at v n k)) ∙ ap (λ (t : Bool). cond t (value_line n (v n k)) []) (eq-eqb k k refl)
 own v n k false = refl
 
 other : (v : Values) (n j k : ℕ) → j ≢ k → (b : Bool) → lines_of k (cond b (change_at v n j ∷ []) []) ≡ []

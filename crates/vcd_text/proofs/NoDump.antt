@@ -1,4 +1,5 @@
 -- Where a text is no dump, once.
+use Rattle.vcd_text.proofs.Sequences.{head_tail}
 use Rattle.std.proofs.Common.{◌≡◌, ℕ, suc, ◌+◌, ◌-◌, ◌<◌, ◌≤◌, [], ◌∷◌, ◌++◌, length, map, take, drop, inl, inr, refl, sym, ap, subst, ◌∙◌, append_assoc, arith}
 use Rattle.std.proofs.lemmas.List.{append-nil, length-append, take-append-drop, length-take-le, nil_from_length}
 use Rattle.tapa_base.specs.declared.text.Place.{Place}
@@ -59,13 +60,7 @@ dump_or_none z place d no_place = never no_place.before no_place.behind no_place
 fronts : (a b c d : Bytes) → a ++ b ≡ c ++ d → length a ≤ length c → (x : Bytes) × (c ≡ a ++ x) × (b ≡ x ++ d)
 fronts [] b c d e h = (c, refl, e)
 fronts (x ∷ a) b [] d e h = absurd (omega arith)
-fronts (x ∷ a) b (y ∷ c) d e h = let p : (z : Bytes) × (c ≡ a ++ z) × (b ≡ z ++ d) = fronts a b c d (tails e) (omega arith) in (p.0, ap (λ (k : ℕ). k ∷ c) (sym (firsts e)) ∙ ap (λ (l : Bytes). x ∷ l) p.1, p.2)
-  where
-    firsts : x ∷ (a ++ b) ≡ y ∷ (c ++ d) → x ≡ y
-    firsts e = cc
-
-    tails : x ∷ (a ++ b) ≡ y ∷ (c ++ d) → a ++ b ≡ c ++ d
-    tails e = cc
+fronts (x ∷ a) b (y ∷ c) d e h = let p : (z : Bytes) × (c ≡ a ++ z) × (b ≡ z ++ d) = fronts a b c d (head_tail x y (a ++ b) (c ++ d) e).1 (omega arith) in (p.0, ap (λ (k : ℕ). k ∷ c) (sym (head_tail x y (a ++ b) (c ++ d) e).0) ∙ ap (λ (l : Bytes). x ∷ l) p.1, p.2)
 
 -- a text doesn't stop behind a front where some dump begins with a longer one
 longer_begun : (a b c d x : Bytes) → length a < length c → BeginsDump c → StopsAt a b → c ≡ a ++ x → b ≡ x ++ d → ⊥

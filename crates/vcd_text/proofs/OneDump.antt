@@ -1,4 +1,6 @@
 -- A text is the dump of one list of nets and of one value of each net in each cycle.
+use Rattle.vcd_text.proofs.Sequences.{head_tail as heads}
+use Rattle.tapa_base.proofs.Got.{some_at as net_at}
 use Rattle.std.proofs.Common.{◌≡◌, ℕ, zero, suc, ◌+◌, ◌-◌, ◌<◌, ◌≤◌, List, [], ◌∷◌, ◌++◌, length, map, inl, inr, refl, sym, ap, subst, ◌∙◌, append_assoc, arith}
 use Rattle.std.specs.Prelude.{Some, None, slice_get, codes}
 use Rattle.std.proofs.lemmas.List.{append_cancel_left, length-append}
@@ -10,7 +12,7 @@ use Rattle.vcd_text.specs.Read.{port_of, value_of, changes_to, ReadsValues}
 use Rattle.vcd_text.specs.Rest.{Answer, Known, row_line, change_of, later_text, Left}
 use Rattle.vcd_text.specs.declared.dump.Change.{Change}
 use Rattle.vcd_text.proofs.Going.{put, turn, Turns, cycle}
-use Rattle.vcd_text.proofs.GoingOn.{net_at, begins}
+use Rattle.vcd_text.proofs.GoingOn.{begins}
 use Rattle.vcd_text.proofs.HeadLines.{var_same}
 use Rattle.vcd_text.proofs.HeadSteps.{cycles_are, changes_are}
 use Rattle.vcd_text.proofs.Tops.{top_same, text_is, behind_top}
@@ -86,9 +88,6 @@ head_behind = codes "$upscope $end\n$enddefinitions $end\n"
 -- the line of a net doesn't begin as the end of the head does
 ends_apart : (k : ℕ) (x : Net) (y z : Bytes) → var_line k x ++ y ≡ head_behind ++ z → ⊥
 ends_apart k x y z e = absurd (omega (arith, (heads 118 117 _ _ (heads 36 36 _ _ e).1).0))
-  where
-    heads : (c d : ℕ) (a b : Bytes) → c ∷ a ≡ d ∷ b → (c ≡ d) × (a ≡ b)
-    heads c d a b e = (cc, cc)
 
 nets_one : (nets others : List Net) (k : ℕ) (y z : Bytes) → AreFit nets → AreFit others → lines_from var_line k nets ++ (head_behind ++ y) ≡ lines_from var_line k others ++ (head_behind ++ z) → (nets ≡ others) × (y ≡ z)
 nets_one [] [] k y z f g e = (refl, append_cancel_left head_behind y z e)

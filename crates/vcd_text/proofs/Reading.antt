@@ -1,5 +1,6 @@
 -- Reading on behind a part of a text, and failing there.
-use Rattle.std.proofs.Common.{◌≡◌, ◌≢◌, ◌⊎◌, ℕ, ◌+◌, ◌<◌, ◌≤◌, [], ◌++◌, length, drop, inl, inr, sym, ap, subst, arith}
+use Rattle.vcd_text.proofs.Sequences.{common_longer}
+use Rattle.std.proofs.Common.{◌≡◌, ◌≢◌, ◌⊎◌, ℕ, ◌+◌, [], ◌++◌, length, drop, inl, inr, sym, ap, subst, arith}
 use Rattle.std.proofs.lemmas.List.{length-append}
 use Rattle.tapa_base.specs.Gaps.{Bytes}
 use Rattle.vcd_text.specs.Along.{common, StopsBefore}
@@ -10,10 +11,6 @@ use Rattle.vcd_text.proofs.Common.{common_behind, common_front, common_whole, co
 abbrev pub Steps : Texts → Bytes → Texts → Type 0
 Steps L w M = (a : Answer) (z : Bytes) → (L a (w ++ z) → M a z) × (M a z → L a (w ++ z))
 
--- a part at the front of a text, or one that goes along no further than it is long
-whole_or_less : (w z : Bytes) → (z ≡ w ++ drop (length w) z) ⊎ (common w z < length w)
-whole_or_less w z = elim (less (common w z) (length w)) [ inl t ↦ inr t.1 | inr f ↦ inl (common_whole w z (omega (arith, f.1, common_within w z))) ]
-
 pub fails_behind : (L M : Texts) (w z all : Bytes) (left : ℕ) → all ≡ w ++ z → Steps L w M → FailsBefore M z left → FailsBefore L all left
 fails_behind L M w z all left e steps (n, is, f) = (
   length w + n,
@@ -23,18 +20,16 @@ fails_behind L M w z all left e steps (n, is, f) = (
     text = w ++ f.text;
     is_text = (steps f.answer f.text).1 f.is_text;
     along = omega (arith, f.along, common_behind w f.text z);
-    most = λ a y h. elim (whole_or_less w y) [
-      | inl same ↦
+    most = λ a y h. elim (less (common w y) (length w)) [
+      | inr whole ↦
+          let same : y ≡ w ++ drop (length w) y = common_whole w y (omega (arith, whole.1, common_within w y)) in
           let rest : M a (drop (length w) y) = (steps a (drop (length w) y)).0 (subst (λ (l : Bytes). L a l) same h) in
           omega (arith, ap (λ (l : Bytes). common l (w ++ z)) same, common_behind w (drop (length w) y) z, f.most a (drop (length w) y) rest)
-      | inr short ↦ omega (arith, short_side w y z short)
+      | inl short ↦ omega (arith, short.1, common_swap y (w ++ z), common_front w z y short.1)
     ];
     none = λ a h. f.none a ((steps a z).0 h);
   }),
 )
-  where
-    short_side : (w y z : Bytes) → common w y < length w → common y (w ++ z) < length w
-    short_side w y z h = omega (arith, h, common_swap y (w ++ z), common_front w z y h)
 
 -- none of the lines that texts begin with
 pub fails_lines : (L : Texts) (W : Bytes → Type 0) (z : Bytes) (left : ℕ) → ((w : Bytes) → W w → (a : Answer) × (y : Bytes) × L a (w ++ y)) → ((a : Answer) (y : Bytes) → L a y → ((y ≡ []) × (z ≢ [])) ⊎ ((w : Bytes) × (x : Bytes) × W w × (y ≡ w ++ x)))
@@ -47,7 +42,7 @@ fails_lines L W z left into out (n, is, s) =
         answer = some.0;
         text = s.word ++ some.1;
         is_text = some.2;
-        along = omega (arith, s.along, longer s.word some.1 z);
+        along = omega (arith, s.along, common_longer s.word some.1 z);
         most = λ a y h. elim (out a y h) [
           | inl (e, ne) ↦ omega (arith, ap (λ (l : Bytes). common l z) e)
           | inr (w, x, v, e) ↦ omega (arith, ap (λ (l : Bytes). common l z) e, common_front w x z (s.none w v), s.most w v)
@@ -58,12 +53,6 @@ fails_lines L W z left into out (n, is, s) =
         ];
       },
     )
-  where
-    longer : (w y z : Bytes) → common w z ≤ common (w ++ y) z
-    longer w y z = elim (less (common w z) (length w)) [
-      | inl t ↦ omega (arith, common_front w y z t.1)
-      | inr f ↦ let e : z ≡ w ++ drop (length w) z = common_whole w z (omega (arith, f.1, common_within w z)) in omega (arith, common_within w z, ap (λ (l : Bytes). common (w ++ y) l) e, common_behind w y (drop (length w) z))
-    ]
 
 pub serves_self : (L : Texts) (z : Bytes) → Serves L z L z
 serves_self L z = record { found = λ a h. h; fails = λ left h. h }

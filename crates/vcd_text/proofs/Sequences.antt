@@ -5,7 +5,7 @@ use Rattle.tapa_base.specs.Gaps.{Bytes}
 use Rattle.vcd_text.specs.Along.{common, Stops, StopsBefore}
 use Rattle.vcd_text.proofs.Common.{common_next, common_behind, common_front}
 
-common_longer : (w y z : Bytes) → common w z ≤ common (w ++ y) z
+pub common_longer : (w y z : Bytes) → common w z ≤ common (w ++ y) z
 common_longer [] y z = omega arith
 common_longer (a ∷ w) y [] = omega arith
 common_longer (a ∷ w) y (b ∷ z) = elim (common_next a b w z) [
@@ -84,7 +84,7 @@ ended_apart e (c ∷ a) (d ∷ b) y z p q ne = elim (common_next c d (a ++ e ∷
   | inr f ↦ (omega (arith, f.1), omega (arith, f.1))
 ]
 
-head_tail : (c d : ℕ) (a b : Bytes) → c ∷ a ≡ d ∷ b → (c ≡ d) × (a ≡ b)
+pub head_tail : (c d : ℕ) (a b : Bytes) → c ∷ a ≡ d ∷ b → (c ≡ d) × (a ≡ b)
 head_tail c d a b e = (cc, cc)
 
 pub ended_same : (e : ℕ) (a b y z : Bytes) → Free e a → Free e b → a ++ e ∷ y ≡ b ++ e ∷ z → (a ≡ b) × (y ≡ z)

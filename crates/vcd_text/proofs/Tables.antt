@@ -1,4 +1,5 @@
 -- Nets that are found by their names.
+use Rattle.tapa_base.proofs.Got.{the_same}
 use Rattle.std.proofs.Common.{◌≡◌, ◌⊎◌, ℕ, zero, suc, ◌<◌, Bool, true, false, cond, inl, inr, List, [], ◌∷◌, ◌++◌, map, refl, sym, ap, subst, ◌∙◌, arith}
 use Rattle.std.specs.Prelude.{Vec, Some, bytes_eq, slice_get, not, ◌||◌}
 use Rattle.std.specs.Bool.{MatchBool}
@@ -14,8 +15,9 @@ use Rattle.vlog_tree.specs.Names.{IsName, starts_name, goes_on}
 use Rattle.vlog_tree.specs.Table.{Name}
 use Rattle.vcd_text.specs.Head.{IsFree}
 use Rattle.vcd_text.specs.Table.{AreNamed}
-use Rattle.vcd_text.proofs.Common.{yes_or_no, not_both}
-use Rattle.vcd_text.proofs.Names.{both, started, name_parts, no_name}
+use Rattle.vcd_text.proofs.Common.{not_both}
+use Rattle.vcd_text.proofs.Names.{started, name_parts, no_name}
+use Rattle.tapa_base.proofs.Tests.{bool_cases as yes_or_no, both_true as both}
 
 -- ---- names are ASCII
 
@@ -47,13 +49,10 @@ first_name e = cc
 more_names : {a b : Name} {xs ys : List Name} → a ∷ xs ≡ b ∷ ys → xs ≡ ys
 more_names e = cc
 
-uneven : {a : Name} {xs : List Name} → [] ≡ a ∷ xs → ⊥
-uneven e = cc
-
 -- no net has a name that is not found
 none_has : (nets : List Port) (names : Names) (x : Name) → AreNamed nets names → list_any (is_name_of x) names ≡ false → IsFree nets x
 none_has [] names x e h i p at same = absurd (none-some p at)
-none_has (q ∷ nets) [] x e h i p at same = absurd (uneven e)
+none_has (q ∷ nets) [] x e h i p at same = cc e
 none_has (q ∷ nets) (k ∷ names) x e h i p at same = by (yes_or_no (bytes_eq x k.items)) (λ f j there. none_has nets names x (more_names e) (rest f) j p there same) i at
   where
     rest : bytes_eq x k.items ≡ false → list_any (is_name_of x) names ≡ false
@@ -62,18 +61,15 @@ none_has (q ∷ nets) (k ∷ names) x e h i p at same = by (yes_or_no (bytes_eq 
     here : bytes_eq x k.items ≡ true → list_any (is_name_of x) (k ∷ names) ≡ true
     here t = ap (λ (b : Bool). b || list_any (is_name_of x) names) t
 
-    first_port : Some q ≡ Some p → q ≡ p
-    first_port f = cc
-
     by : (bytes_eq x k.items ≡ true) ⊎ (bytes_eq x k.items ≡ false) → (bytes_eq x k.items ≡ false → (j : ℕ) → slice_get nets j ≡ Some p → ⊥) → (i : ℕ) → slice_get (q ∷ nets) i ≡ Some p → ⊥
     by (inl t) later i at = not_both (list_any (is_name_of x) (k ∷ names)) (here t) h
-    by (inr f) later zero at = not_both (bytes_eq x k.items) ((bytes_eq-Decides x k.items).1 (sym same ∙ ap (λ (r : Port). r.name) (sym (first_port at)) ∙ sym (first_name e))) f
+    by (inr f) later zero at = not_both (bytes_eq x k.items) ((bytes_eq-Decides x k.items).1 (sym same ∙ ap (λ (r : Port). r.name) (sym (the_same q p at)) ∙ sym (first_name e))) f
     by (inr f) later (suc i) at = later f i at
 
 -- some net has a name that is found
 some_has : (nets : List Port) (names : Names) (x : Name) → AreNamed nets names → list_any (is_name_of x) names ≡ true → IsFree nets x → ⊥
 some_has nets [] x e h free = not_both false h refl
-some_has [] (k ∷ names) x e h free = uneven (sym e)
+some_has [] (k ∷ names) x e h free = cc e
 some_has (q ∷ nets) (k ∷ names) x e h free = elim (yes_or_no (bytes_eq x k.items)) [
   | inl t ↦ free 0 q refl (sym (first_name e) ∙ sym ((bytes_eq-Decides x k.items).0 t))
   | inr f ↦ some_has nets names x (more_names e) (sym (ap (λ (b : Bool). b || list_any (is_name_of x) names) f) ∙ h) (λ i p at same. free (suc i) p at same)

@@ -1,15 +1,15 @@
 -- Values of changes are apart, and so are lines of changes.
-use Rattle.std.proofs.Common.{◌≡◌, ◌≢◌, ℕ, zero, suc, ◌+◌, ◌/◌, ◌%◌, ◌^◌, ◌<◌, ◌≤◌, cond, [], ◌∷◌, ◌++◌, length, inl, inr, refl, sym, ap, subst, ◌∙◌, append_assoc, arith, nat_eq, nat_lt, eq-eqb}
+use Rattle.std.proofs.Common.{◌≡◌, ◌≢◌, ℕ, zero, suc, ◌+◌, ◌-◌, ◌*◌, ◌/◌, ◌%◌, ◌^◌, ◌<◌, ◌≤◌, [], ◌∷◌, ◌++◌, length, inl, inr, refl, sym, ap, subst, ◌∙◌, append_assoc, arith, nat_eq, eq-eqb}
 use Rattle.std.specs.Prelude.{Option}
 use Rattle.std.proofs.lemmas.Bool.Decides.{eqb_tells}
-use Rattle.std.proofs.lemmas.List.{length-append, same_from_push}
+use Rattle.std.proofs.lemmas.List.{length-append}
 use Rattle.tapa_base.specs.Gaps.{Bytes}
 use Rattle.vcd_text.specs.Along.{common, StopsBefore}
 use Rattle.vcd_text.specs.Dump.{bits_from, binary, identifier, value_text, change_line}
 use Rattle.vcd_text.specs.Lines.{IsNewValue}
 use Rattle.vcd_text.proofs.Common.{common_other, common_same, less, cond_yes}
-use Rattle.vcd_text.proofs.Sequences.{Apart, Free, free_append, ended_apart, ended_same, before_first, before_next}
-use Rattle.vcd_text.proofs.Digits.{small_bits, big_bits, bits_same}
+use Rattle.vcd_text.proofs.Sequences.{Apart, Free, free_append, ended_apart, ended_same, before_first, before_next, head_tail as heads}
+use Rattle.vcd_text.proofs.Digits.{small_bits, big_bits}
 use Rattle.vcd_text.proofs.Numbers.{wide_text}
 use Rattle.vcd_text.proofs.Identifiers.{identifier_free, identifier_one}
 
@@ -26,38 +26,27 @@ binary_free e v h = bits_free (suc v) v
       | inr f ↦ subst (λ (l : Bytes). Free e l) (sym (big_bits m v f.1)) (free_append e (bits_from m (v / 2)) ((48 + v % 2) ∷ []) (bits_free m (v / 2)) (λ same. absurd (omega (arith, same)), tt))
     ]
 
-bits_long : (m v : ℕ) → 0 < length (bits_from (suc m) v)
-bits_long m v = omega (arith, length-append (cond (nat_lt v 2) [] (bits_from m (v / 2))) ((48 + v % 2) ∷ []))
+-- the number that digits stand for behind those of another
+number : ℕ → Bytes → ℕ
+number a [] = a
+number a (b ∷ w) = number (2 * a + (b - 48)) w
 
-one_long : (m v u : ℕ) → v < 2 → 2 ≤ u → u ≤ suc m → bits_from (suc (suc m)) v ≡ bits_from (suc (suc m)) u → ⊥
-one_long m v u p q h e =
-    let s : ([] ≡ bits_from (suc m) (u / 2)) × (48 + v % 2 ≡ 48 + u % 2) = same_from_push [] (bits_from (suc m) (u / 2)) (48 + v % 2) (48 + u % 2) (sym (small_bits (suc m) v p) ∙ e ∙ big_bits (suc m) u q) in
-    absurd (omega (arith, ap (λ (l : Bytes). length l) s.0, bits_long m (u / 2)))
+number_more : (a b : ℕ) (w : Bytes) → number a (w ++ b ∷ []) ≡ 2 * number a w + (b - 48)
+unfolding number
+number_more a b [] = refl
+number_more a b (c ∷ w) = number_more (2 * a + (c - 48)) b w
 
-bits_one : (m v u : ℕ) → v ≤ m → u ≤ m → bits_from (suc m) v ≡ bits_from (suc m) u → v ≡ u
-bits_one zero v u p q e = omega arith
-bits_one (suc m) v u p q e = elim (less v 2) [
-  | inl t ↦ elim (less u 2) [
-    | inl s ↦
-        let d : ([] ≡ []) × (48 + v % 2 ≡ 48 + u % 2) = same_from_push [] [] (48 + v % 2) (48 + u % 2) (sym (small_bits (suc m) v t.1) ∙ e ∙ small_bits (suc m) u s.1) in
-        omega (arith, d.1, t.1, s.1)
-    | inr s ↦ absurd (one_long m v u t.1 s.1 q e)
-  ]
-  | inr t ↦ elim (less u 2) [
-    | inl s ↦ absurd (one_long m u v s.1 t.1 p (sym e))
-    | inr s ↦
-        let d : (bits_from (suc m) (v / 2) ≡ bits_from (suc m) (u / 2)) × (48 + v % 2 ≡ 48 + u % 2) = same_from_push (bits_from (suc m) (v / 2)) (bits_from (suc m) (u / 2)) (48 + v % 2) (48 + u % 2) (sym (big_bits (suc m) v t.1) ∙ e ∙ big_bits (suc m) u s.1) in
-        let ih : v / 2 ≡ u / 2 = bits_one m (v / 2) (u / 2) (omega (arith, t.1)) (omega (arith, s.1)) d.0 in
-        omega (arith, ih, d.1)
-  ]
+number_of : (m v : ℕ) → v ≤ m → number 0 (bits_from (suc m) v) ≡ v
+unfolding number
+number_of zero v h = ap (number 0) (small_bits 0 v (omega arith)) ∙ omega arith
+number_of (suc m) v h = elim (less v 2) [
+  | inl t ↦ ap (number 0) (small_bits (suc m) v t.1) ∙ omega (arith, t.1)
+  | inr f ↦ let ih = number_of m (v / 2) (omega (arith, f.1)) in ap (number 0) (big_bits (suc m) v f.1) ∙ number_more 0 (48 + v % 2) (bits_from (suc m) (v / 2)) ∙ ap (λ n. 2 * n + (48 + v % 2 - 48)) ih ∙ omega arith
 ]
 
 pub binary_same : (v u : ℕ) → binary v ≡ binary u → v ≡ u
 unfolding binary
-binary_same v u e = bits_one (v + u) v u (omega arith) (omega arith) (bits_wide (v + u) v (omega arith) ∙ e ∙ sym (bits_wide (v + u) u (omega arith)))
-  where
-    bits_wide : (m v : ℕ) → v ≤ m → bits_from (suc m) v ≡ bits_from (suc v) v
-    bits_wide m v h = bits_same m v v h (omega arith)
+binary_same v u e = sym (number_of v v (omega arith)) ∙ ap (number 0) e ∙ number_of u u (omega arith)
 
 -- ---- values
 
@@ -115,9 +104,6 @@ value_free bits v = elim (eqb_tells bits 1) [
   | inl t ↦ subst (λ (l : Bytes). Free 10 l) (sym (one_text bits v t.1)) (λ same. absurd (omega (arith, same)), tt)
   | inr f ↦ subst (λ (l : Bytes). Free 10 l) (sym (wide_text bits v f.1)) (λ same. absurd (omega (arith, same)), free_append 10 (binary v) (32 ∷ []) (binary_free 10 v (omega arith)) (λ same. absurd (omega (arith, same)), tt))
 ]
-
-heads : (c d : ℕ) (a b : Bytes) → c ∷ a ≡ d ∷ b → (c ≡ d) × (a ≡ b)
-heads c d a b e = (cc, cc)
 
 line_body : (k bits v : ℕ) (y : Bytes) → change_line k bits v ++ y ≡ (value_text bits v ++ identifier k) ++ 10 ∷ y
 line_body k bits v y = append_assoc (value_text bits v) (identifier k ++ 10 ∷ []) y ∙ ap (λ (l : Bytes). value_text bits v ++ l) (append_assoc (identifier k) (10 ∷ []) y) ∙ sym (append_assoc (value_text bits v) (identifier k) (10 ∷ y))

@@ -1,12 +1,14 @@
 -- The changes of a dump give each net its value in each cycle.
-use Rattle.std.proofs.Common.{◌≡◌, ◌≢◌, ℕ, zero, suc, ◌+◌, ◌<◌, ◌≤◌, Bool, true, false, cond, List, [], ◌∷◌, ◌++◌, length, inl, inr, refl, sym, ap, ◌∙◌, arith, nat_eq, nat_le}
+use Rattle.std.proofs.lemmas.Bool.{lt-leb, le-leb}
+use Rattle.std.proofs.Common.{◌≡◌, ◌≢◌, ℕ, zero, suc, ◌+◌, ◌<◌, ◌≤◌, Bool, true, false, cond, List, [], ◌∷◌, ◌++◌, length, inl, inr, refl, sym, ap, ◌∙◌, arith, nat_eq, nat_le, eq-eqb}
 use Rattle.std.specs.Prelude.{◌&&◌, not}
 use Rattle.std.proofs.lemmas.Bool.Decides.{eqb_tells, leb_tells}
 use Rattle.vcd_text.specs.Nets.{Net}
 use Rattle.vcd_text.specs.Dump.{Values, is_change}
 use Rattle.vcd_text.specs.Read.{value_after, value_of, changes_from, changes_to}
 use Rattle.vcd_text.specs.declared.dump.Change.{Change}
-use Rattle.vcd_text.proofs.Common.{yes_or_no, cond_yes, cond_no}
+use Rattle.vcd_text.proofs.Common.{cond_yes, cond_no}
+use Rattle.tapa_base.proofs.Tests.{bool_cases as yes_or_no}
 
 after_both : (a b : List Change) (k n w : ℕ) → value_after (a ++ b) k n w ≡ value_after b k n (value_after a k n w)
 after_both [] b k n w = refl
@@ -22,11 +24,8 @@ one_later v c j k n w h = elim (yes_or_no (is_change v c j)) [
   | inl t ↦ ap (λ (l : List Change). value_after l k n w) (cond_yes (is_change v c j) (record { cycle = c; net = j; value = v c j } ∷ []) [] t) ∙ cond_no (nat_eq j k && nat_le c n) (v c j) w (past (nat_eq j k))
 ]
   where
-    late : nat_le c n ≡ false
-    late = elim (leb_tells c n) [ inl t ↦ absurd (omega (arith, t.1, h)) | inr f ↦ f.0 ]
-
     past : (t : Bool) → (t && nat_le c n) ≡ false
-    past true = late
+    past true = lt-leb c n h
     past false = refl
 
 one_other : (v : Values) (c j k n w : ℕ) → j ≢ k → value_after (own v c j) k n w ≡ w
@@ -40,14 +39,8 @@ one_here : (v : Values) (c k n w : ℕ) → c ≤ n → value_after (own v c k) 
 one_here v c k n w h = elim (yes_or_no (is_change v c k)) [
   | inr f ↦ ap (λ (l : List Change). value_after l k n w) (cond_no (is_change v c k) (record { cycle = c; net = k; value = v c k } ∷ []) [] f) ∙ sym (cond_no (is_change v c k) (v c k) w f)
   | inl t ↦ ap (λ (l : List Change). value_after l k n w) (cond_yes (is_change v c k) (record { cycle = c; net = k; value = v c k } ∷ []) [] t)
-      ∙ ap (λ (b : Bool). cond (b && nat_le c n) (v c k) w) (same_net k) ∙ ap (λ (b : Bool). cond b (v c k) w) early ∙ sym (cond_yes (is_change v c k) (v c k) w t)
+      ∙ ap (λ (b : Bool). cond (b && nat_le c n) (v c k) w) (eq-eqb k k refl) ∙ ap (λ (b : Bool). cond b (v c k) w) (le-leb c n h) ∙ sym (cond_yes (is_change v c k) (v c k) w t)
 ]
-  where
-    same_net : (k : ℕ) → nat_eq k k ≡ true
-    same_net k = elim (eqb_tells k k) [ inl s ↦ s.0 | inr s ↦ absurd (s.1 refl) ]
-
-    early : nat_le c n ≡ true
-    early = elim (leb_tells c n) [ inl t ↦ t.0 | inr f ↦ absurd (omega (arith, f.1, h)) ]
 
 -- the changes of a cycle
 row_later : (v : Values) (c j k n w : ℕ) (xs : List Net) → n < c → value_after (changes_from v c j xs) k n w ≡ w

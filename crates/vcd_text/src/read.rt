@@ -108,9 +108,8 @@ fn fault_of(text: &[u8], halt: Halt) -> VcdFault
     }
 }
 
-/// Reads a value change dump (IEEE 1364-2005, clause 18) in the spelling of this crate: nets, the last cycle and the
-/// changes. A text that is no such dump is `X1` at the first byte with which no dump goes on, or after its last byte where
-/// more would have to come.
+/// Reads a value change dump (IEEE 1364-2005, clause 18) in the spelling of this crate: nets, the last cycle and the changes. If the text is not such a dump,
+/// returns `X1` at the first byte that no dump continues with, or just past the end if the text is truncated.
 pub fn read_vcd(alloc: Global, text: &[u8]) -> Result<Dump, VcdFault>
     requires { length text.now < 2 ^ 32 - 1 }
     ensures read { IfOk result (λ d. IsReadAs text.now d.nets.items d.last d.changes.items) }

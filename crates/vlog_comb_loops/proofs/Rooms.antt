@@ -15,34 +15,13 @@ use Rattle.vlog_comb_loops.specs.Rooms.{is_pair_in, missing, candidates, room}
 use Rattle.vlog_comb_loops.specs.Merges.{IsMerged, IsGrown}
 use Rattle.vlog_comb_loops.specs.Questions.{Question}
 use Rattle.vlog_comb_loops.specs.Summaries.{IsSumOf}
-
-and_both : (a b : Bool) → (a && b) ≡ true → (a ≡ true) × (b ≡ true)
-and_both true true e = (refl, refl)
-and_both true false e = absurd (off e)
-  where
-    off : false ≡ true → ⊥
-    off e = cc
-and_both false b e = absurd (off e)
-  where
-    off : false ≡ true → ⊥
-    off e = cc
+use Rattle.tapa_base.proofs.Tests.{both_true as and_both}
+use Rattle.std.proofs.lemmas.Bool.{or_left, and_from as both_and, or_right}
+use Rattle.vlog_net_graph.proofs.Covering.{no_input, no_output}
 
 or_one : (a b : Bool) → (a || b) ≡ true → (a ≡ true) ⊎ (b ≡ true)
 or_one true b e = inl refl
 or_one false b e = inr e
-
-or_left : (a b : Bool) → a ≡ true → (a || b) ≡ true
-or_left true b e = refl
-or_left false b e = cc
-
-or_right : (a b : Bool) → b ≡ true → (a || b) ≡ true
-or_right true b e = refl
-or_right false b e = e
-
-both_and : (a b : Bool) → a ≡ true → b ≡ true → (a && b) ≡ true
-both_and true true e h = refl
-both_and true false e h = cc
-both_and false b e h = cc
 
 in_has : (s : Edges) (p : Name × Name) → is_pair_in s p ≡ true → Has s p
 in_has [] p e = absurd (off e)
@@ -98,12 +77,6 @@ missing_less (p ∷ ps) s t q kept (inr h) absent there =
     let here : cond (is_pair_in t p) 0 1 ≤ cond (is_pair_in s p) 0 1 = flag_le (is_pair_in s p) (is_pair_in t p) (λ e. has_in t p (kept p (in_has s p e))) in
     let rest : missing ps t < missing ps s = missing_less ps s t q kept h absent there in
     omega arith
-
-no_input : Unknown ≡ Input → ⊥
-no_input e = cc
-
-no_output : Unknown ≡ Output → ⊥
-no_output e = cc
 
 -- an output and an input are among all pairs
 pub candidate_has : (ports : List Declaration) (x y : Name) → net_kind_of ports x ≡ Output → net_kind_of ports y ≡ Input → Has (candidates ports) (x, y)

@@ -14,9 +14,7 @@ use Rattle.vlog_tree.specs.Labels.{rst, done}
 use Rattle.vlog_tree.specs.V6.{module_children, contained_names, roots, first_name, is_top, has_port, top_ports, clock_connections, is_whole_top, module_tops, v6_uses}
 use Rattle.vlog_tree.specs.Loops.{Reaches, own_containment, containment, own_places, IsLoopless}
 use Rattle.tapa_base.proofs.Lists.{has_flat, of_flat, has_map}
-
-none_more : (n : ℕ) → 0 + n ≡ n
-none_more n = omega arith
+use Rattle.tapa_base.proofs.Tests.{zero_left as none_more}
 
 -- a name that stands at least once
 counted_of : (y : Name) (names : List Name) (x : Name) (b : Bool) → bytes_eq y x ≡ b → ((times_in names x == 0) ≡ false → Has names x) → ((cond b 1 0 + times_in names x) == 0) ≡ false → Has (y ∷ names) x

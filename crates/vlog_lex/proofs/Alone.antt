@@ -10,6 +10,7 @@ use Rattle.vlog_lex.specs.Numerals.{Sized, sized_word, IsSized, IsNumber, IsLite
 use Rattle.tapa_base.specs.Gaps.{Bytes, begins}
 use Rattle.vlog_lex.specs.Lexemes.{is_digit_of, makes_literal, is_sign, is_sign_or_mark, IsWord}
 use Rattle.std.specs.Prelude.{not}
+use Rattle.tapa_base.proofs.Tests.{not_so as not_true}
 
 pub both : (a b : Bool) → a && b ≡ true → (a ≡ true) × (b ≡ true)
 both true b h = (refl, h)
@@ -48,10 +49,6 @@ number_alone w h = record { on = λ rest a. inr (inl (record { numeral = h; long
 -- a sign that a blank or a line feed makes no longer
 unfoldable pub is_fixed_sign : Word → Bool
 is_fixed_sign w = is_sign w && not (is_sign_or_mark (w ++ 32 ∷ [])) && not (is_sign_or_mark (w ++ 10 ∷ []))
-
-not_true : (b : Bool) → not b ≡ true → b ≡ false
-not_true true h = cc
-not_true false h = refl
 
 pub sign_alone : (w : Word) → is_fixed_sign w ≡ true → StandsAlone w
 unfolding is_fixed_sign

@@ -9,7 +9,7 @@ low : (b : ℕ) → goes_on b ≡ true → b < 128
 unfolding goes_on starts_name
 low b h = grind arith
 
-starts_goes : (b : ℕ) → starts_name b ≡ true → goes_on b ≡ true
+pub starts_goes : (b : ℕ) → starts_name b ≡ true → goes_on b ≡ true
 unfolding goes_on
 starts_goes b h = rw h refl
 

@@ -12,6 +12,8 @@ use Rattle.vlog_lex.specs.Numerals.{base_of, Sized, sized_word, IsSized}
 use Rattle.tapa_base.specs.Gaps.{Bytes, begins, is_blank, is_in_line, has_close}
 use Rattle.vlog_lex.specs.Lexemes.{is_digit_of, makes_literal, IsNameWord, IsNumberWord, IsLiteralWord, signs, is_sign, is_sign_or_mark, IsSignWord, Piece, gap, word, Stands, piece_bytes, text_of, StandInTurn, words_of, HasWords}
 use Rattle.std.specs.Prelude.{not}
+use Rattle.tapa_base.proofs.Tests.{not_so as not_true, pick_false as if_false}
+use Rattle.vlog_lex.proofs.Ascii.{starts_goes}
 
 -- ---- the longest front of a class, and what is behind it
 
@@ -83,15 +85,7 @@ if_true : {A : Type 0} (test : Bool) (x y : A) → test ≡ true → (if test th
 if_true true x y e = refl
 if_true false x y e = absurd cc
 
-if_false : {A : Type 0} (test : Bool) (x y : A) → test ≡ false → (if test then x else y) ≡ y
-if_false false x y e = refl
-if_false true x y e = absurd cc
-
 -- ---- classes of a first byte
-
-starts_goes : (b : ℕ) → starts_name b ≡ true → goes_on b ≡ true
-unfolding goes_on
-starts_goes b h = rw h refl
 
 starts_no_blank : (b : ℕ) → starts_name b ≡ true → is_blank b ≡ false
 unfolding starts_name
@@ -179,10 +173,6 @@ literal_word_cut w rest h =
 plain : ℕ → Bool
 plain b = not (is_blank b) && not (starts_name b) && not (is_digit_of 10 b)
 
-not_true : (b : Bool) → not b ≡ true → b ≡ false
-not_true true h = cc
-not_true false h = refl
-
 plain_cut : (b : ℕ) (z : Bytes) → plain b ≡ true → cut (b ∷ z) ≡ sign_cut b z
 unfolding cut plain
 plain_cut b z h =
@@ -196,7 +186,7 @@ can_be_cut (b ∷ []) = plain b
 can_be_cut (b ∷ c ∷ []) = plain b && not (bytes_eq (b ∷ c ∷ []) (codes "//")) && not (bytes_eq (b ∷ c ∷ []) (codes "/*"))
 can_be_cut (b ∷ c ∷ d ∷ z) = false
 
-among : (test : Word → Bool) (w : Word) (set : List Word) → list_all test set ≡ true → list_any (bytes_eq w) set ≡ true → test w ≡ true
+pub among : (test : Word → Bool) (w : Word) (set : List Word) → list_all test set ≡ true → list_any (bytes_eq w) set ≡ true → test w ≡ true
 among test w [] h k = absurd cc
 among test w (s ∷ set) h k = pick (or_cases (bytes_eq w s) (list_any (bytes_eq w) set) k) (among test w set (and_parts (test s) (list_all test set) h).1)
   where

@@ -21,14 +21,8 @@ use Rattle.tapa_base.specs.Gaps.{Bytes}
 use Rattle.vlog_lex.specs.Grammar.{SpellsAtom, SpellsValue, SpellsRange, SpellsConnection, SpellsItem, SpellsPort, SpellsModule, HasTree}
 use Rattle.vlog_lex.specs.Flat.{SpellsStep}
 use Rattle.vlog_lex.proofs.Flattened.{flat_block}
-
-both : (a b : Bool) → a ≡ true → b ≡ true → (a && b) ≡ true
-both true true e f = refl
-both true false e f = cc
-both false b e f = cc
-
-of_le : (a b : ℕ) → a ≤ b → nat_le a b ≡ true
-of_le a b h = grind (arith, nat_tests)
+use Rattle.std.proofs.lemmas.Bool.{and_from as both}
+use Rattle.vlog_tree.proofs.Labelled.{of_le}
 
 atom_formed : (a : Atom) (i j : List Word) → SpellsAtom a i j → is_atom a ≡ true
 atom_formed (Net x) i j (n, e) = n

@@ -6,16 +6,12 @@ use Rattle.std.specs.Cmp.Lexicographic.{bytes_decides}
 use Rattle.vlog_tree.specs.Names.{is_name, has_name_form, is_among, is_keyword, always_to_default, defparam_to_event, for_to_input, instance_to_not, notif0_to_real, realtime_to_strong0, strong1_to_unsigned, use_to_xor}
 use Rattle.vlog_tree.specs.Spelling.{Word}
 use Rattle.vlog_lex.specs.Keywords.{is_unlike_keywords, a_to_d, e_to_i, j_to_o, p_to_s, t_to_x}
+use Rattle.std.proofs.lemmas.Bool.{or_parts}
 
 not_this : (x w : Word) (b : Bool) → bytes_eq x w ≡ b → is_unlike_keywords x ≡ true → is_unlike_keywords w ≡ false → b ≡ false
 not_this x w true e h k =
     let same : x ≡ w = (bytes_decides x w).0 e in let both : is_unlike_keywords x ≡ is_unlike_keywords w = ap (λ v. is_unlike_keywords v) same in cc (both, h, k)
 not_this x w false e h k = refl
-
-or_parts : (a b : Bool) → (a || b) ≡ false → (a ≡ false) × (b ≡ false)
-or_parts false false h = (refl, refl)
-or_parts false true h = cc
-or_parts true b h = cc
 
 none_among : (words : List Word) (x : Word) → is_unlike_keywords x ≡ true → list_any (λ w. is_unlike_keywords w) words ≡ false → list_any (bytes_eq x) words ≡ false
 none_among [] x h k = refl

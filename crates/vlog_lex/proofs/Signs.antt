@@ -8,20 +8,12 @@ use Rattle.vlog_tree.specs.Spelling.{Word}
 use Rattle.tapa_base.specs.Gaps.{Bytes, begins}
 use Rattle.vlog_lex.specs.Lexemes.{signs, is_sign, is_sign_or_mark, IsSignWord}
 use Rattle.vlog_lex.specs.Reading.{is_single, is_pair, singles, doubled, before_equals}
+use Rattle.vlog_lex.proofs.Cuts.{among as one_of_words}
 
 -- what holds of each of a few bytes holds of one of them
 one_of : (P : ℕ → Bool) (set : List ℕ) (b : ℕ) → list_all P set ≡ true → is_among set b ≡ true → P b ≡ true
 one_of P [] b all h = absurd cc
 one_of P (c ∷ set) b all h = ⊎_elim (λ (e : nat_eq c b ≡ true). subst (λ (x : ℕ). P x ≡ true) (eqb-true c b e) (and_parts (P c) (list_all P set) all).0) (λ (m : is_among set b ≡ true). one_of P set b (and_parts (P c) (list_all P set) all).1 m) (or_cases (nat_eq c b) (is_among set b) h)
-
--- and so of a few words
-one_of_words : (P : Word → Bool) (w : Word) (set : List Word) → list_all P set ≡ true → list_any (bytes_eq w) set ≡ true → P w ≡ true
-one_of_words P w [] all h = absurd cc
-one_of_words P w (s ∷ set) all h =
-    ⊎_elim
-    (λ (e : bytes_eq w s ≡ true). ap P ((bytes_eq-Decides w s).0 e) ∙ (and_parts (P s) (list_all P set) all).0)
-    (λ (m : list_any (bytes_eq w) set ≡ true). one_of_words P w set (and_parts (P s) (list_all P set) all).1 m)
-    (or_cases (bytes_eq w s) (list_any (bytes_eq w) set) h)
 
 -- of one byte or of two
 is_shaped : Word → Bool

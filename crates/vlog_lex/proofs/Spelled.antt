@@ -28,6 +28,7 @@ use Rattle.vlog_lex.specs.Numbers.{atom_numbers, value_numbers, step_numbers, it
 use Rattle.vlog_lex.proofs.Alone.{both, StandsAlone, name_form_alone, name_alone, number_alone, is_fixed_sign, sign_alone, decimal_number, decimal_alone, written, written_literal, written_alone}
 use Rattle.vlog_lex.proofs.Laid.{page_words}
 use Rattle.vlog_lex.proofs.Nests.{nests}
+use Rattle.tapa_base.proofs.Tests.{below as at_least}
 
 -- these words stand alone, and spell the part whatever is behind them
 pub record Spelled (P : Part) (ws : List Word) : Type 0 where
@@ -69,9 +70,6 @@ keyword w h = takes (name_form_alone w h)
 
 other : {P Q : Part} {ws : List Word} → Spelled Q ws → Spelled (P ∣ Q) ws
 other h = record { alone = h.alone; spells = λ j. inr (h.spells j) }
-
-at_least : (k n : ℕ) → nat_le k n ≡ true → k ≤ n
-at_least k n h = grind arith
 
 -- ---- names and numbers
 

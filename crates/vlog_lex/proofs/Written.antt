@@ -23,6 +23,8 @@ use Rattle.vlog_tree.specs.V3.{is_width, is_cell_count, net_fits, memory_fits, a
 use Rattle.vlog_tree.specs.Refused.{IsDesign}
 use Rattle.tapa_base.proofs.Lists.{has_left, has_right, has_split, has_flat, of_flat}
 use Rattle.vlog_lex.specs.Numbers.{atom_numbers, value_numbers, step_numbers, item_numbers, module_numbers, HasWrittenNumbers}
+use Rattle.tapa_base.proofs.Tests.{not_no as not_not, both_true as two, below as le_of}
+use Rattle.tapa_base.proofs.Got.{all_from}
 
 abbrev Small : ℕ → Type 0
 Small n = n < 10 ^ 64
@@ -33,43 +35,27 @@ small n h = let room : 2 ^ 128 ≤ 10 ^ 64 = search arith in omega arith
 little : (n : ℕ) → n ≤ 1048576 → Small n
 little n h = small n (let room : 1048577 ≤ 2 ^ 128 = search arith in omega arith)
 
-le_of : (a b : ℕ) → nat_le a b ≡ true → a ≤ b
-le_of a b h = grind (arith, nat_tests)
-
 lt_of : (a b : ℕ) → nat_lt a b ≡ true → a < b
 lt_of a b h = grind (arith, nat_tests)
 
 eq_of : (a b : ℕ) → eqb a b ≡ true → a ≡ b
 eq_of a b h = grind (arith, nat_tests)
 
-two : (a b : Bool) → (a && b) ≡ true → (a ≡ true) × (b ≡ true)
-two true true h = (refl, refl)
-two true false h = cc
-two false b h = cc
-
-not_not : (a : Bool) → not a ≡ false → a ≡ true
-not_not true h = refl
-not_not false h = cc
-
 width : (w : ℕ) → is_width w ≡ true → (1 ≤ w) × (w ≤ 128)
 width w h = let p = two (nat_le 1 w) (nat_le w 128) h in (le_of 1 w p.0, le_of w 128 p.1)
 
-right_here : (b : Bool) (x : Name) (o : Option Name) → cond b (Some x) o ≡ None → b ≡ false
+pub right_here : (b : Bool) (x : Name) (o : Option Name) → cond b (Some x) o ≡ None → b ≡ false
 right_here true x o h = cc
 right_here false x o h = refl
 
-right_behind : (b : Bool) (x : Name) (o : Option Name) → cond b (Some x) o ≡ None → o ≡ None
+pub right_behind : (b : Bool) (x : Name) (o : Option Name) → cond b (Some x) o ≡ None → o ≡ None
 right_behind true x o h = cc
 right_behind false x o h = h
 
-right : (us : List NameUse) → first_violation us ≡ None → (u : NameUse) → Has us u → u.1 ≡ false
+pub right : (us : List NameUse) → first_violation us ≡ None → (u : NameUse) → Has us u → u.1 ≡ false
 right [] h u has = absurd has
 right (v ∷ us) h u (inl e) = ap (λ (w : NameUse). w.1) (sym e) ∙ right_here v.1 v.0 (first_violation us) h
 right (v ∷ us) h u (inr has) = right us (right_behind v.1 v.0 (first_violation us) h) u has
-
-all_from : {A : Type 0} (P : A → Type 0) (xs : List A) → ((x : A) → Has xs x → P x) → AllByRecursion P xs
-all_from P [] f = tt
-all_from P (y ∷ ys) f = (f y (inl refl), all_from P ys (λ x h. f x (inr h)))
 
 -- one of two numbers, or neither
 one_of_two : (a b n : ℕ) → Small a → Small b → Has (a ∷ b ∷ []) n → Small n

@@ -10,7 +10,7 @@ ghost use Rattle.vlog_lex.specs.Reading.{is_in};
 /// A class of bytes.
 #[derive(Clone, Copy)]
 pub enum Class {
-    /// What a name goes on with: letters, digits, `_` and `$`.
+    /// The bytes that can follow the first one in a name: letters, digits, `_` and `$`.
     Name,
     /// All but the line feed.
     InLine,

@@ -35,7 +35,7 @@ pub fn cut(text: &[u8]) -> Option<(Sort, usize)>
     }
 }
 
-/// What makes a literal of a number before it: `'`, the letter of a base, and a digit of it.
+/// The bytes that turn a number before them into a literal: `'`, the letter of a base, and a digit of it.
 fn makes_literal(text: &[u8]) -> bool
     ensures { result ≡ lexemes.makes_literal text.now }
 {

@@ -18,7 +18,8 @@ use Rattle.vlog_tree.specs.Table.{Name, declared, first_violation, one_if}
 use Rattle.vlog_tree.specs.V4.{step_assigns, is_block_of, module_drives, driving_use, breaks_driving, drives}
 use Rattle.vlog_module_laws.specs.Blocks.{IsSameAt}
 use Rattle.tapa_base.proofs.Lists.{has_map}
-use Rattle.vlog_module_laws.proofs.Lists.{count_cons, one_if_true, none_counted, counted, both_false, right}
+use Rattle.vlog_module_laws.proofs.Lists.{count_cons, one_if_true, none_counted, counted, right}
+use Rattle.std.proofs.lemmas.Bool.{or_parts as both_false}
 
 all_on : List Bool → Bool
 all_on on = list_all (λ b. b) on
@@ -138,7 +139,7 @@ module _ (s : Sizes) (old : Cycle) (x : Name) where
   own_leaves (Instance m i ls ∷ items) b c d (inl q) e low h = cc
   own_leaves (Instance m i ls ∷ items) b c d (inr has) e low h = own_leaves items b c d has e (not_both (Instance m i ls) items b has e low).1 h
 
-low_of : (n : ℕ) → nat_le 2 n ≡ false → n ≤ 1
+pub low_of : (n : ℕ) → nat_le 2 n ≡ false → n ≤ 1
 low_of n h = grind (arith, nat_tests)
 
 kept_low : (k : NetKind) (driven blocks : ℕ) → (k ≡ Register) ⊎ (k ≡ MemoryArray) → breaks_driving driven blocks k ≡ false → blocks ≤ 1

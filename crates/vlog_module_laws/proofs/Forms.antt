@@ -7,7 +7,7 @@ use Rattle.vlog_tree.specs.Table.{Name}
 use Rattle.vlog_tree.specs.Cycle.{Cycle, Sizes, atom_value, run_steps, put, store}
 use Rattle.vlog_module_laws.specs.Forms.{reset_block, steady_block, set_block, write_block}
 
-itself : (x : Name) → bytes_eq x x ≡ true
+pub itself : (x : Name) → bytes_eq x x ≡ true
 itself x = (bytes_decides x x).1 refl
 
 put_itself : (x : Name) (v : ℕ) (c : Cycle) → (put x v c).net x ≡ v

@@ -10,13 +10,11 @@ use Rattle.vlog_tree.specs.Labels.{label_in, scalar, m_ack, m_rdata, m_addr, m_w
 use Rattle.vlog_module_laws.specs.Labelled.{IsLabelOf, AreLabels}
 use Rattle.vlog_tree.proofs.Labelled.{IsLabelled, labelled, label_of}
 use Rattle.vlog_module_laws.proofs.Lists.{count_cons}
+use Rattle.std.proofs.lemmas.Bool.{or_parts, or_right as or_true}
+use Rattle.tapa_base.proofs.Lists.{some_of}
 
 abbrev has_early : Name → Bool
 has_early w = list_any (λ c. eqb c 95) (take 10 w)
-
-or_true : (a b : Bool) → b ≡ true → (a || b) ≡ true
-or_true true b e = refl
-or_true false b e = e
 
 early : (front rest : Name) (n : ℕ) → length front < n → list_any (λ c. eqb c 95) (take n (front ++ 95 ∷ rest)) ≡ true
 early front rest zero h = absurd (omega arith)
@@ -26,11 +24,6 @@ early (c ∷ front) rest (suc n) h = or_true (eqb c 95) _ (early front rest n (o
 not_this : (x w : Name) (b : Bool) → bytes_eq x w ≡ b → has_early x ≡ true → has_early w ≡ false → b ≡ false
 not_this x w true e h k = let same : x ≡ w = (bytes_decides x w).0 e in let both : has_early x ≡ has_early w = ap (λ v. has_early v) same in cc (both, h, k)
 not_this x w false e h k = refl
-
-or_parts : (a b : Bool) → (a || b) ≡ false → (a ≡ false) × (b ≡ false)
-or_parts false false h = (refl, refl)
-or_parts false true h = cc
-or_parts true b h = cc
 
 none_among : (words : List Name) (x : Name) → has_early x ≡ true → list_any (λ w. has_early w) words ≡ false → list_any (bytes_eq x) words ≡ false
 none_among [] x h k = refl
@@ -103,10 +96,6 @@ kind_by : (front end y l : Name) → label_in front end y ≡ Some l
 kind_by front end y l h =
     let r = labelled front end y l h in
     kind_is (get_or y 0 0) (from_end y 0) (from_end y 4) _ _ _ (ap (λ z. get_or z 0 0) r.is) (end_of front end y l 0 r) (end_of front end y l 4 r)
-
-some_of : {A : Type 0} (o : Option A) → is_some o ≡ true → (x : A) × (o ≡ Some x)
-some_of None h = cc
-some_of (Some x) h = (x, refl)
 
 -- where each that passes tells its own place, one passes at most
 abbrev Tell : {A : Type 0} → (A → Bool) → ℕ → List A → ℕ → Type 0

@@ -11,8 +11,8 @@ use Rattle.vlog_tree.specs.Table.{Name}
 use Rattle.vlog_tree.specs.Cycle.{Cycle, Sizes, Path, Holds, PortHolds, PowersUp, Takes, Follows, Runs, Connected, module_at, run_steps}
 use Rattle.vlog_module_laws.specs.Blocks.{IsOwnBlock}
 use Rattle.vlog_module_laws.specs.Lines.{IsFollowed}
-use Rattle.vlog_module_laws.proofs.Lists.{all_at, all_from}
 use Rattle.vlog_module_laws.proofs.Blocks.{own_leaves, same}
+use Rattle.tapa_base.proofs.Got.{all_at, all_from}
 
 module _ (m : ModuleTree) (run : ℕ → Cycle) (f : Follows m run) where
   pub line : (it : Item) → Has m.items it → IsFollowed f.sizes m.items run it

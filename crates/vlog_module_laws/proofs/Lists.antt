@@ -11,15 +11,6 @@ pub flat_same : {A B : Type 0} (f g : A → List B) (xs : List A) → ((x : A) �
 flat_same f g [] h = refl
 flat_same f g (x ∷ xs) h = ap (λ l. l ++ flat_map f xs) (h x (inl refl)) ∙ ap (λ l. g x ++ l) (flat_same f g xs (λ y k. h y (inr k)))
 
-pub all_at : {A : Type 0} (P : A → Type 0) (xs : List A) (x : A) → AllByRecursion P xs → Has xs x → P x
-all_at P [] x a h = absurd h
-all_at P (y ∷ ys) x a (inl e) = subst P e a.0
-all_at P (y ∷ ys) x a (inr h) = all_at P ys x a.1 h
-
-pub all_from : {A : Type 0} (P : A → Type 0) (xs : List A) → ((x : A) → Has xs x → P x) → AllByRecursion P xs
-all_from P [] f = tt
-all_from P (y ∷ ys) f = (f y (inl refl), all_from P ys (λ x h. f x (inr h)))
-
 pub count_cons : {A : Type 0} (p : A → Bool) (x : A) (xs : List A) → count_by p (x ∷ xs) ≡ one_if (p x) + count_by p xs
 count_cons p x xs = sum_by-cons (λ y. one_if (p y)) x xs
 
@@ -41,16 +32,6 @@ counted p (y ∷ ys) x (inr h) e =
     let c : count_by p (y ∷ ys) ≡ one_if (p y) + count_by p ys = count_cons p y ys in
     let rest : 1 ≤ count_by p ys = counted p ys x h e in
     omega arith
-
-pub both_true : (a b : Bool) → (a && b) ≡ true → (a ≡ true) × (b ≡ true)
-both_true true true h = (refl, refl)
-both_true true false h = cc
-both_true false b h = cc
-
-pub both_false : (a b : Bool) → (a || b) ≡ false → (a ≡ false) × (b ≡ false)
-both_false false false h = (refl, refl)
-both_false false true h = cc
-both_false true b h = cc
 
 pub right_here : (b : Bool) (x : Name) (o : Option Name) → cond b (Some x) o ≡ None → b ≡ false
 right_here true x o h = cc

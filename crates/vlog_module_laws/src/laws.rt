@@ -43,8 +43,7 @@ pub fn law_no_loop_by_rank()
     ensures loopless { RankedIsLoopless }
 {}
 
-/// A module that is right beside some modules is right beside more of other names, and modules are right together if each
-/// is right beside all.
+/// A module that is correct together with some modules is also correct together with further modules of other names. A set of modules is correct if each of them is correct together with all.
 pub fn law_larger()
     ensures front { FrontIsWithin }
     ensures back { BackIsWithin }

@@ -24,10 +24,10 @@ pub found : (ms : List ModuleTree) (x : Name) (k : ModuleTree) → module_named 
 found [] x k h = cc
 found (m ∷ ms) x k h = found_of m ms x k (bytes_eq m.name x) refl (found ms x k) h
 
-no_output : Unknown ≡ Output → ⊥
+pub no_output : Unknown ≡ Output → ⊥
 no_output e = cc
 
-no_input : Unknown ≡ Input → ⊥
+pub no_input : Unknown ≡ Input → ⊥
 no_input e = cc
 
 module _ (ports : List Declaration) (k p net : Name) where

@@ -1,6 +1,5 @@
 -- Graphs that grow by the edges of a list's elements.
 use Rattle.std.proofs.Common.{◌≡◌, ℕ, ◌+◌, ◌<◌, ◌≤◌, List, [], ◌∷◌, ◌++◌, length, get_or, drop, refl, sym, ap, subst, ◌∙◌, append_assoc, map}
-use Rattle.std.specs.List.{flat_map}
 use Rattle.std.proofs.lemmas.List.{append-nil}
 use Rattle.vlog_tree.specs.Table.{Name}
 use Rattle.vlog_tree.specs.Loops.{Edges, port_of}
@@ -9,6 +8,8 @@ use Rattle.vlog_net_graph.specs.declared.names.GraphDraft.{GraphDraft}
 use Rattle.vlog_net_graph.specs.Names.{IsDraftOf}
 use Rattle.vlog_net_graph.specs.Growth.{Adds}
 use Rattle.vlog_net_graph.specs.Merged.{port_pair, under}
+use Rattle.std.proofs.lemmas.Grind.{flat_map-append}
+use Rattle.tapa_base.proofs.Got.{map_append as map-append}
 
 pub adds_nothing : (a : GraphDraft) → Adds a a []
 adds_nothing a = record { graph = λ edges g. subst (λ e. IsDraftOf e a) (sym (append-nil edges)) g; listed = λ h. h }
@@ -18,14 +19,6 @@ adds_both a b c xs ys l r = record {
   graph = λ edges g. subst (λ e. IsDraftOf e c) (append_assoc edges xs ys) (r.graph (edges ++ xs) (l.graph edges g));
   listed = λ h. r.listed (l.listed h);
 }
-
-pub map-append : {A B : Type 0} (f : A → B) (xs ys : List A) → map f (xs ++ ys) ≡ map f xs ++ map f ys
-map-append f [] ys = refl
-map-append f (x ∷ xs) ys = ap (λ l. f x ∷ l) (map-append f xs ys)
-
-pub flat_map-append : {A B : Type 0} (f : A → List B) (xs ys : List A) → flat_map f (xs ++ ys) ≡ flat_map f xs ++ flat_map f ys
-flat_map-append f [] ys = refl
-flat_map-append f (x ∷ xs) ys = ap (λ l. f x ++ l) (flat_map-append f xs ys) ∙ sym (append_assoc (f x) (flat_map f xs) (flat_map f ys))
 
 pub adds_mapped : {A : Type 0} (f : A → Name × Name) (a b c : GraphDraft) (xs ys : List A) → Adds a b (map f xs) → Adds b c (map f ys) → Adds a c (map f (xs ++ ys))
 adds_mapped f a b c xs ys l r = subst (λ e. Adds a c e) (sym (map-append f xs ys)) (adds_both a b c (map f xs) (map f ys) l r)

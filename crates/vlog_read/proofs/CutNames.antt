@@ -19,6 +19,7 @@ use Rattle.vlog_tree.specs.Form.{ModuleTree}
 use Rattle.vlog_tree.specs.Table.{Name, NameUse, clk, is_clk, net_kind_is_read, net_kind_is_driven, net_kind_is_register, net_kind_is_memory, net_kind_is_input, declared, port_declared, module_declared, items_declared, find_name, net_kind_of, is_doubled_name, module_named, ports_in, ports_of, is_module_name}
 use Rattle.vlog_tree.specs.V2.{read_use, driven_use, register_use, memory_use, clock_use, joined_use, atom_uses, value_uses, step_uses, inner_use, port_uses, all_connected, connection_uses, instance_uses, item_uses, module_uses, v2_uses}
 use Rattle.vlog_tree.specs.Clamped.{clamped_atom, clamped_value, clamped_step, clamped_item, clamped_port, clamped}
+use Rattle.vlog_tree.proofs.ClampedModules.{flat_alike, flat_same}
 
 abbrev cut : Declaration → Declaration
 cut d = record { name = d.name; net_kind = d.net_kind; bits = min d.bits 129; cells = min d.cells 1048577 }
@@ -63,14 +64,6 @@ counted_same x n (d ∷ ds) = counted_same x (n + cond (bytes_eq d.name x) 1 0) 
 
 is_alike : (ds : List Declaration) → IsAlike ds (map cut ds)
 is_alike ds = record { net_kinds = λ x. ap (λ (d : Declaration). d.net_kind) (find_cut ds x); doubled = λ x. ap (nat_le 2) (counted_same x 0 ds) }
-
-flat_same : {A B C : Type 0} (f : B → List C) (g : A → List C) (h : A → B) (xs : List A) → ((x : A) → f (h x) ≡ g x) → flat_map f (map h xs) ≡ flat_map g xs
-flat_same f g h [] e = refl
-flat_same f g h (x ∷ xs) e = ap (λ l. l ++ flat_map f (map h xs)) (e x) ∙ ap (λ l. g x ++ l) (flat_same f g h xs e)
-
-flat_alike : {A C : Type 0} (f g : A → List C) (xs : List A) → ((x : A) → f x ≡ g x) → flat_map f xs ≡ flat_map g xs
-flat_alike f g [] e = refl
-flat_alike f g (x ∷ xs) e = ap (λ l. l ++ flat_map f xs) (e x) ∙ ap (λ l. g x ++ l) (flat_alike f g xs e)
 
 module _ (ds es : List Declaration) (a : IsAlike ds es) where
   read_same : (x : Name) → read_use es x ≡ read_use ds x

@@ -22,21 +22,9 @@ use Rattle.tapa_base.specs.Lists.{Has}
 use Rattle.vlog_tree.specs.Table.{Name, NameUse, declared, bits_of, first_violation}
 use Rattle.vlog_tree.specs.V3.{is_width, is_cell_count, net_fits, memory_fits, atom_bits, atom_fits, has_bits, is_divisor, op_fits, value_fits, step_widths, item_widths, port_widths, module_widths, v3_uses}
 use Rattle.vlog_tree.specs.Clamped.{clamped_atom, clamped_value, clamped_step, clamped_item, clamped_port, clamped}
-use Rattle.vlog_tree.proofs.Clamped.{width_is, cells_is, width_low}
+use Rattle.vlog_tree.proofs.Clamped.{width_is, cells_is, width_low, width_some as some_width, part_some as some_part}
 use Rattle.tapa_base.proofs.Lists.{has_left, has_right, has_flat}
-
-right_here : (b : Bool) (x : Name) (o : Option Name) → cond b (Some x) o ≡ None → b ≡ false
-right_here true x o h = cc
-right_here false x o h = refl
-
-right_behind : (b : Bool) (x : Name) (o : Option Name) → cond b (Some x) o ≡ None → o ≡ None
-right_behind true x o h = cc
-right_behind false x o h = h
-
-right : (us : List NameUse) → first_violation us ≡ None → (u : NameUse) → Has us u → u.1 ≡ false
-right [] h u has = absurd has
-right (v ∷ us) h u (inl e) = ap (λ (w : NameUse). w.1) (sym e) ∙ right_here v.1 v.0 (first_violation us) h
-right (v ∷ us) h u (inr has) = right us (right_behind v.1 v.0 (first_violation us) h) u has
+use Rattle.vlog_lex.proofs.Written.{right_here, right_behind, right}
 
 map_is : {A : Type 0} (f : A → A) (xs : List A) → ((x : A) → Has xs x → f x ≡ x) → map f xs ≡ xs
 map_is f [] h = refl
@@ -54,12 +42,6 @@ part_high b high low h = grind (arith, nat_tests)
 
 part_low : (b high low : ℕ) → (is_width b && nat_le 2 b && nat_le low high && nat_lt high b) ≡ true → min low 129 ≡ low
 part_low b high low h = grind (arith, nat_tests)
-
-some_width : (w : ℕ) → is_width w ≡ true → 1 ≤ w
-some_width w h = grind (arith, nat_tests)
-
-some_part : (b high low : ℕ) → (is_width b && nat_le 2 b && nat_le low high && nat_lt high b) ≡ true → 1 ≤ high + 1 - low
-some_part b high low h = grind (arith, nat_tests)
 
 held : (w n : ℕ) → is_width w ≡ true → nat_lt n (2 ^ w) ≡ true → nat_lt n (2 ^ 128) ≡ true
 held w n h k = let most : 2 ^ w ≤ 2 ^ 128 = pow-le-pow_right {n = 2} (omega arith) (width_low w h) in lt-ltb n (2 ^ 128) (let below = ltb-true n (2 ^ w) k in omega arith)

@@ -236,29 +236,17 @@ pub fn atom_end(
         Purpose::Inverted(net) => driven(draft, Coming::Semicolon, net, Value::Invert(atom))?,
         Purpose::Right(net, left, op) => {
             let right = atom;
-            driven(
-                draft,
-                Coming::Semicolon,
-                net,
-                Value::Binary { left, op, right },
-            )?
+            let value = Value::Binary { left, op, right };
+            driven(draft, Coming::Semicolon, net, value)?
         }
         Purpose::Yes(net, condition) => {
-            Reader::atom(
-                alloc,
-                Coming::Colon,
-                draft,
-                Purpose::No(net, condition, atom),
-            )?
+            let other = Purpose::No(net, condition, atom);
+            Reader::atom(alloc, Coming::Colon, draft, other)?
         }
         Purpose::No(net, condition, yes) => {
             let no = atom;
-            driven(
-                draft,
-                Coming::Semicolon,
-                net,
-                Value::Choose { condition, yes, no },
-            )?
+            let value = Value::Choose { condition, yes, no };
+            driven(draft, Coming::Semicolon, net, value)?
         }
         Purpose::Copied(net, count) => {
             driven(draft, Coming::BracesEnd, net, Value::Repeat { count, atom })?
@@ -269,15 +257,12 @@ pub fn atom_end(
         }
         Purpose::Stored(steps, memory, index) => {
             let value = atom;
-            stepped(
-                draft,
-                steps,
-                Step::MemoryAssign {
-                    memory,
-                    index,
-                    value,
-                },
-            )?
+            let step = Step::MemoryAssign {
+                memory,
+                index,
+                value,
+            };
+            stepped(draft, steps, step)?
         }
     };
     Ok(reader.expected(word))

@@ -13,6 +13,7 @@ use Rattle.vlog_values.specs.declared.moment.Moment.{Moment}
 use Rattle.vlog_ref_cycle.specs.Moments.{InEachRun}
 use Rattle.vlog_ref_cycle.specs.Next.{stored_cells}
 use Rattle.vlog_ref_cycle.proofs.Carried.{carries_one, carries_none}
+use Rattle.std.proofs.lemmas.Bool.{and_right as and_false}
 
 not_one : (n : ℕ) → (n ≡ 1 → ⊥) → (n == 1) ≡ false
 not_one n h = grind (arith, nat_tests)
@@ -22,10 +23,6 @@ is_one n h = grind (arith, nat_tests)
 
 one_is : (n : ℕ) → n ≡ 1 → (n == 1) ≡ true
 one_is n h = grind (arith, nat_tests)
-
-and_false : (a b : Bool) → b ≡ false → (a && b) ≡ false
-and_false true b e = e
-and_false false b e = refl
 
 pub first_not : (a b : ℕ) → (a ≡ 1 → ⊥) → ((a == 1) && (b == 1)) ≡ false
 first_not a b h = ap (λ q. q && (b == 1)) (not_one a h)

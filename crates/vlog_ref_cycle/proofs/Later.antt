@@ -9,7 +9,6 @@ use Rattle.tapa_base.specs.Lists.{Has}
 use Rattle.vlog_tree.specs.Table.{Name, declared}
 use Rattle.vlog_tree.specs.Cycle.{Cycle, Path, Sizes, module_at, Holds, Takes, run_items}
 use Rattle.vlog_tree.specs.Environment.{Environment, RunsIn, shape_of, cells_at}
-use Rattle.vlog_run_laws.proofs.runs.Sizes.{all_at}
 use Rattle.vlog_values.specs.declared.numbers.NetNumber.{NetNumber}
 use Rattle.vlog_values.specs.declared.numbers.MemoryCells.{MemoryCells}
 use Rattle.tapa_base.specs.declared.shape.Port.{Port}
@@ -23,6 +22,7 @@ use Rattle.vlog_ref_cycle.specs.Next.{stored_cells, IsAfterStore, item_nets, rea
 use Rattle.vlog_ref_cycle.proofs.Options.{cons_same}
 use Rattle.vlog_ref_cycle.proofs.Sound.{numbers_read, read_found}
 use Rattle.vlog_ref_cycle.proofs.Within.{number_is}
+use Rattle.tapa_base.proofs.Got.{all_at}
 
 module _ (items : List Item) (c d r : Cycle) where
   shows_registers : (rs : List NetNumber) → AllByRecursion (RegisterIs items c) rs → AllByRecursion (ShowsNet c) rs

@@ -12,15 +12,12 @@ use Rattle.vlog_tree.specs.Cycle.{Cycle, Path}
 use Rattle.vlog_tree.specs.Environment.{Environment}
 use Rattle.vlog_ref_cycle.specs.Next.{IsAfterStore}
 use Rattle.vlog_ref_cycle.proofs.Leaves.{taken_more}
+use Rattle.tapa_base.proofs.Got.{all_push as one_more}
 
 at_index : {A : Type 0} (P : A → Type 0) (xs : List A) (i : ℕ) (x : A) → AllByRecursion P xs → i < length xs → x ≡ get_or xs i x → P x
 at_index P [] i x a low e = absurd (omega arith)
 at_index P (y ∷ ys) zero x a low e = subst P (sym e) a.0
 at_index P (y ∷ ys) (suc i) x a low e = at_index P ys i x a.1 (omega arith) e
-
-one_more : {A : Type 0} (P : A → Type 0) (xs : List A) (x : A) → AllByRecursion P xs → P x → AllByRecursion P (xs ++ x ∷ [])
-one_more P [] x a p = (p, tt)
-one_more P (y ∷ ys) x a p = (a.0, one_more P ys x a.1 p)
 
 -- one more element passes, and the rest decide
 pub passed : {A : Type 0} (f : A → Bool) (xs : List A) (i : ℕ) (x : A) (b : Bool) → i < length xs → x ≡ get_or xs i x → true ≡ f x → b ≡ list_all f (drop i xs) → b ≡ list_all f (drop (i + 1) xs)

@@ -13,10 +13,6 @@ pub map_some : {A B : Type 0} (f : A → B) (o : Option A) (y : B) → option_ma
 map_some f None y h = cc
 map_some f (Some x) y h = (x, refl, cc)
 
-pub cond_some : {A : Type 0} (b : Bool) (x y : A) → cond b (Some x) None ≡ Some y → (b ≡ true) × (x ≡ y)
-cond_some true x y h = (refl, cc)
-cond_some false x y h = cc
-
 pub either_some : {A : Type 0} (a b : Option A) (y : A) → or_else a b ≡ Some y → (a ≡ Some y) ⊎ (b ≡ Some y)
 either_some None b y h = inr h
 either_some (Some x) b y h = inl h

@@ -17,8 +17,7 @@ use Rattle.tapa_base.specs.Lists.{Has}
 use Rattle.vlog_tree.specs.Table.{Name, declared, port_declared, ports_of, net_kind_of, bits_of, net_kind_is_input, net_kind_is_read}
 use Rattle.vlog_tree.specs.Cycle.{Cycle, Path, Sizes, and_then, Holds, PortHolds, driven}
 use Rattle.vlog_tree.specs.Loops.{value_nets}
-use Rattle.vlog_run_laws.proofs.runs.Sound.{both_true, true_not_false}
-use Rattle.vlog_run_laws.proofs.runs.Sizes.{all_at, width_held}
+use Rattle.vlog_run_laws.proofs.runs.Sizes.{width_held}
 use Rattle.vlog_run_laws.proofs.runs.Values.{ReadsAlike, driven_same}
 use Rattle.vlog_values.specs.declared.numbers.NetNumber.{NetNumber}
 use Rattle.vlog_values.specs.declared.numbers.MemoryCells.{MemoryCells}
@@ -30,7 +29,10 @@ use Rattle.vlog_ref_cycle.specs.Sources.{RuleTree, SourceTree, same_path, held_a
 use Rattle.vlog_ref_cycle.specs.Numbers.{by_rule, all_numbers}
 use Rattle.vlog_ref_cycle.specs.Moments.{MemoryIs}
 use Rattle.vlog_ref_cycle.proofs.Gathered.{numbered}
-use Rattle.vlog_ref_cycle.proofs.Options.{and_then_some, map_some, cond_some, either_some, checked}
+use Rattle.vlog_ref_cycle.proofs.Options.{and_then_some, map_some, either_some, checked}
+use Rattle.tapa_base.proofs.Tests.{both_true, true_not_false}
+use Rattle.std.proofs.lemmas.Option.{cond_some}
+use Rattle.tapa_base.proofs.Got.{all_at}
 
 -- what is found in a list is in it, under its name
 pub path_same : (p q : Path) → same_path p q ≡ true → p ≡ q

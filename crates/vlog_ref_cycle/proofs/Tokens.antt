@@ -1,7 +1,6 @@
 -- Numbers on a stream as tokens.
 use Rattle.std.proofs.Common.{◌≡◌, ℕ, suc, ◌-◌, ◌^◌, ◌<◌, ◌≤◌, [], ◌∷◌, ◌++◌, Some, None, map, sym, ap, ◌∙◌, arith}
 use Rattle.std.proofs.lemmas.List.{map-append}
-use Rattle.std.proofs.Math.Pow.{pow_mono}
 use Rattle.std.specs.Option.{option_to_list}
 use Rattle.tapa_base.specs.declared.token.Token.{Token}
 use Rattle.vlog_tree.specs.Table.{Name}

@@ -8,8 +8,6 @@ use Rattle.std.specs.List.{AllByRecursion, flat_map, list_all}
 use Rattle.vlog_tree.specs.declared.tree.Atom.{Atom}
 use Rattle.vlog_tree.specs.declared.tree.Step.{Step}
 use Rattle.vlog_tree.specs.declared.tree.Step.TheVariants.{If, Else, End, NonblockingAssign, MemoryAssign}
-use Rattle.vlog_tree.specs.declared.tree.Item.{Item}
-use Rattle.vlog_tree.specs.declared.tree.Item.TheVariants.{Wire, Reg, Memory, Assign, Always, Instance}
 use Rattle.vlog_tree.specs.Grounded.{AllTwo}
 use Rattle.vlog_tree.specs.Loops.{atom_nets}
 use Rattle.vlog_tree.specs.Cycle.{Cycle, Sizes, atom_value, put, store, run_steps, run_items, step_next}
@@ -24,6 +22,7 @@ use Rattle.vlog_values.specs.declared.moment.Held.{Held}
 use Rattle.vlog_ref_cycle.specs.Next.{put_net, IsStored, ShowsNet, TellsCells, Shows, ReadsAre, Fits, IsAlike, memory_shape, StepLeaves}
 use Rattle.vlog_ref_cycle.proofs.Options.{cons_same}
 use Rattle.vlog_ref_cycle.proofs.Leaves.{shows_put, shows_store}
+use Rattle.vlog_tree.proofs.Nesting.{same_both}
 
 -- registers and memories that are alike fit the same sizes
 lists_fit : (s : Sizes) (ks js : List MemoryCells) → map memory_shape js ≡ map memory_shape ks → AllByRecursion (λ (k : MemoryCells). s.cells k.name ≡ length k.cells.items) ks → AllByRecursion (λ (k : MemoryCells). s.cells k.name ≡ length k.cells.items) js
@@ -52,10 +51,6 @@ reads_one nets old f xs i x low is reads = λ z h. reads z (has_flat f xs x z (h
 one_more : (b t : Bool) → ((b && true) && t) ≡ (b && t)
 one_more true t = refl
 one_more false t = refl
-
-same_both : {A : Type 0} (b : Bool) (x : A) → cond b x x ≡ x
-same_both true x = refl
-same_both false x = refl
 
 -- the order of the open parts does not matter to whether all run
 all_reverse : (on : List Bool) → list_all (λ b. b) (reverse on) ≡ list_all (λ b. b) on

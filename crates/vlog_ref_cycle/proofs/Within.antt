@@ -15,7 +15,6 @@ use Rattle.vlog_tree.specs.Cycle.{Cycle, Path, and_then, module_at, Connected}
 use Rattle.vlog_tree.specs.Environment.{Environment, RunsIn, shape_of, ready_at, Answers}
 use Rattle.vlog_tree.specs.Labels.{rst, scalar, m_ack, m_rdata, m_addr, scalar_of, ack_of, rdata_of}
 use Rattle.vlog_tree.specs.Loops.{value_nets}
-use Rattle.vlog_run_laws.proofs.runs.Sizes.{all_at}
 use Rattle.vlog_run_laws.proofs.runs.Labelled.{scalar_label, ack_label, rdata_label}
 use Rattle.vlog_values.specs.declared.numbers.NetNumber.{NetNumber}
 use Rattle.vlog_values.specs.Numbers.{first_net}
@@ -26,11 +25,11 @@ use Rattle.vlog_ref_cycle.specs.Sources.{RuleTree, SourceTree, held_at, assigned
 use Rattle.vlog_ref_cycle.specs.Numbers.{by_rule, all_numbers, net_within, number_at}
 use Rattle.vlog_values.specs.declared.moment.Circuit.{Circuit}
 use Rattle.vlog_ref_cycle.specs.Moments.{RegisterIs, MemoryIs, HeldIs, ScalarIs, OutsideIs, IsAt, IsRunAt, run_at, InEachRun}
-use Rattle.vlog_ref_cycle.proofs.Options.{and_then_some, map_some, cond_some}
+use Rattle.vlog_ref_cycle.proofs.Options.{and_then_some, map_some}
 use Rattle.vlog_ref_cycle.proofs.Sound.{held_found, net_found, outside_found, driver_found, numbers_read, IsOutput, output_found, joined_found, Gives, given_gives, same_gives, cells_give, driver_gives}
-
-later : (n : ℕ) → (suc n == 0) ≡ false
-later n = grind (arith, nat_tests)
+use Rattle.vlog_run_laws.proofs.runs.Surround.{later}
+use Rattle.std.proofs.lemmas.Option.{cond_some}
+use Rattle.tapa_base.proofs.Got.{all_at}
 
 module _ (ms : List ModuleTree) (top : ModuleTree) (env : Environment) (nets : ℕ → Path → Cycle) (now : Moment) (r : RunsIn ms top env nets) (at : IsAt ms top env nets now) where
   abbrev labels : List Port

@@ -99,7 +99,8 @@ fn all_held_after(
 ) -> Result<Option<Vec<Held>>, AllocError>
     ensures known { IfOk result (λ o. is_some o ≡ list_all (held_known design.now now.now depth) now.now.held.items) }
     ensures alike { IfOk result (λ o. IfSome o (λ v. AllTwo IsAlike now.now.held.items v.items)) }
-    ensures value { IfOk result (λ o. IfSome o (λ v. InEachRun design.now now.now (λ env nets. AllByRecursion (HeldIs design.now.modules.now design.now.top.now (nets (suc now.now.cycle))) v.items))) }
+    ensures value { IfOk result (λ o. IfSome o (λ v. InEachRun design.now now.now (λ env nets.
+        AllByRecursion (HeldIs design.now.modules.now design.now.top.now (nets (suc now.now.cycle))) v.items))) }
 {
     let mut out = Vec::new(alloc);
     for h in &now.held {

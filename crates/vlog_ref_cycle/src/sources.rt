@@ -157,8 +157,7 @@ fn line<'a>(
     }
 }
 
-/// What gives a net its number: it is a register, or it has that of its driver, of an output of an instance, or of what
-/// it is connected to outside.
+/// The source of a net's number: the net is a register, or its number is that of its driver, of an output of an instance, or of its connection to the outside.
 pub(crate) fn source_of<'a>(
     alloc: Global,
     design: &'a Circuit<'a>,

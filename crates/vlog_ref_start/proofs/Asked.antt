@@ -14,18 +14,7 @@ use Rattle.tapa_base.proofs.Lists.{of_flat}
 use Rattle.vlog_run_laws.proofs.runs.Cycles.{port_stands}
 use Rattle.vlog_run_laws.proofs.runs.TopPorts.{memory_clock, five_of}
 use Rattle.vlog_run_laws.proofs.runs.Ports.{fits, ack_input}
-
-ack_clock : (x : Name) → is_clk (m_ack x) ≡ false
-unfolding m_ack clk
-ack_clock x = refl
-
-we_clock : (x : Name) → is_clk (m_we x) ≡ false
-unfolding m_we clk
-we_clock x = refl
-
-wdata_clock : (x : Name) → is_clk (m_wdata x) ≡ false
-unfolding m_wdata clk
-wdata_clock x = refl
+use Rattle.vlog_run_laws.proofs.runs.Surround.{clock_of_ack as ack_clock, clock_of_wdata as wdata_clock, clock_of_we as we_clock}
 
 module _ (ms : List ModuleTree) (names : first_violation (v2_uses ms) ≡ None) (tops : first_violation (v6_uses ms) ≡ None) (m : ModuleTree) (in_ms : Has ms m) (top : is_top ms m.name ≡ true) where
   abbrev ports : List Declaration

@@ -11,9 +11,11 @@ use Rattle.tapa_base.specs.Lists.{Has}
 use Rattle.vlog_tree.specs.Table.{Name, is_clk, declared, net_kind_of, net_kind_is_read, first_violation}
 use Rattle.vlog_tree.specs.V2.{v2_uses, item_uses, step_uses, read_use}
 use Rattle.tapa_base.proofs.Lists.{has_flat, of_flat}
-use Rattle.vlog_run_laws.proofs.runs.Sound.{both_false, not_no, atom_read, item_right}
+use Rattle.vlog_run_laws.proofs.runs.Sound.{atom_read, item_right}
 use Rattle.vlog_ref_cycle.specs.Next.{step_nets, item_nets}
 use Rattle.std.specs.Prelude.{not}
+use Rattle.tapa_base.proofs.Tests.{not_no}
+use Rattle.std.proofs.lemmas.Bool.{or_parts as both_false}
 
 -- each net of a step is among the names that it reads
 step_read : (ds : List Declaration) (s : Step) (z : Name) → Has (step_nets s) z → Has (step_uses ds s) (read_use ds z)

@@ -13,11 +13,8 @@ use Rattle.vlog_ref_start.specs.Whole.{IsWhole, HasNoMore}
 use Rattle.vlog_ref_start.proofs.Deeper.{deeper}
 use Rattle.vlog_ref_start.proofs.FoundNets.{each_found}
 use Rattle.vlog_ref_start.proofs.Kept.{whole_kept, no_more_kept}
-use Rattle.vlog_ref_start.proofs.Known.{next_from}
+use Rattle.vlog_ref_start.proofs.Known.{next_from, more_steps}
 use Rattle.vlog_ref_start.specs.Runs.{IsStart, IsComputed, at_first, at_next, IsMomentOf, ReferenceIsRun}
-
-more_steps : (d e : ℕ) → d ≤ e → e ≡ d + (e - d)
-more_steps d e h = omega arith
 
 -- what the laws on the numbers and on the next moment ask
 record IsRight (c : Circuit) (env : Environment) (nets : ℕ → Path → Cycle) (now : Moment) : Type 0 where

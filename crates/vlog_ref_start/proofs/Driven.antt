@@ -10,7 +10,7 @@ use Rattle.tapa_base.specs.Lists.{Has}
 use Rattle.vlog_tree.specs.Table.{Name, declared, net_kind_of, bits_of, net_kind_is_read}
 use Rattle.vlog_tree.specs.Cycle.{Cycle, Sizes, Holds, PortHolds, driven}
 use Rattle.vlog_tree.specs.Loops.{value_nets}
-use Rattle.vlog_run_laws.proofs.runs.Sizes.{all_at, width_held}
+use Rattle.vlog_run_laws.proofs.runs.Sizes.{width_held}
 use Rattle.vlog_run_laws.proofs.runs.Values.{driven_same}
 use Rattle.vlog_values.specs.declared.numbers.NetNumber.{NetNumber}
 use Rattle.vlog_values.specs.declared.numbers.MemoryCells.{MemoryCells}
@@ -18,10 +18,8 @@ use Rattle.vlog_values.specs.Numbers.{net_in, bits_in, cycle_of, sizes_of}
 use Rattle.vlog_ref_cycle.specs.Sources.{net_read, are_read, has_cells, can_drive}
 use Rattle.vlog_ref_cycle.specs.Moments.{MemoryIs}
 use Rattle.vlog_ref_cycle.proofs.Sound.{IsRead, read_found, reads_alike}
-
-pub both : (a b : Bool) → a ≡ true → b ≡ true → (a && b) ≡ true
-both true b e f = f
-both false b e f = e
+use Rattle.std.proofs.lemmas.Bool.{and_from as both}
+use Rattle.tapa_base.proofs.Got.{all_at}
 
 all_read : (ds : List Declaration) (names : List Name) → ((z : Name) → Has names z → net_kind_is_read (net_kind_of ds z) ≡ true) → are_read ds (map (net_read ds) names) ≡ true
 all_read ds [] f = refl

@@ -22,8 +22,8 @@ use Rattle.vlog_tree.specs.V2.{all_connected}
 use Rattle.vlog_tree.specs.Loops.{asked_port, value_nets, item_instances}
 use Rattle.vlog_tree.specs.Flattened.{FlatNet, parts}
 use Rattle.tapa_base.proofs.Lists.{has_flat, of_flat, has_map, of_map}
-use Rattle.vlog_run_laws.proofs.runs.Sound.{true_not_false, assign_reads, assign_cell, connection_port, connection_net, connection_clock, is_known_module, output_is}
-use Rattle.vlog_run_laws.proofs.runs.Sizes.{all_at, memory_item, register_item}
+use Rattle.vlog_run_laws.proofs.runs.Sound.{assign_reads, assign_cell, connection_port, connection_net, connection_clock, is_known_module, output_is}
+use Rattle.vlog_run_laws.proofs.runs.Sizes.{memory_item, register_item}
 use Rattle.vlog_run_laws.proofs.runs.Alone.{child_is, instance_single, module_there, module_is, IsNamed}
 use Rattle.vlog_run_laws.proofs.runs.Alike.{memory_is}
 use Rattle.vlog_run_laws.proofs.runs.Settled.{outside, asked_address, module_in, child_at, top_tree, IsTopTree, design_settles}
@@ -49,6 +49,8 @@ use Rattle.vlog_ref_start.proofs.Deeper.{IsFound, IsGiven, all_found, found_by, 
 use Rattle.vlog_ref_start.proofs.Searched.{assigned_there, output_there, output_found, joined_there}
 use Rattle.vlog_ref_start.proofs.OutsideNets.{input_given}
 use Rattle.vlog_ref_start.proofs.Driven.{drives, driver_number}
+use Rattle.tapa_base.proofs.Tests.{true_not_false}
+use Rattle.tapa_base.proofs.Got.{all_at}
 
 le_test : (w : ℕ) → w ≤ 128 → nat_le w 128 ≡ true
 le_test w h = grind (arith, nat_tests)

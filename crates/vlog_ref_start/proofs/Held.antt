@@ -12,7 +12,6 @@ use Rattle.vlog_tree.specs.Table.{Name}
 use Rattle.tapa_base.proofs.Lists.{has_flat, of_flat, has_map, of_map}
 use Rattle.vlog_run_laws.specs.runs.OneRun.{SameHeld}
 use Rattle.vlog_run_laws.specs.runs.Filled.{HoldsFill}
-use Rattle.vlog_run_laws.proofs.runs.Sizes.{all_at, all_from}
 use Rattle.vlog_values.specs.declared.numbers.NetNumber.{NetNumber}
 use Rattle.vlog_values.specs.declared.numbers.MemoryCells.{MemoryCells}
 use Rattle.vlog_values.specs.Numbers.{first_net, first_memory}
@@ -22,6 +21,7 @@ use Rattle.vlog_ref_start.specs.Whole.{HoldsAll}
 use Rattle.vlog_ref_start.specs.Instances.{PlaceTree}
 use Rattle.vlog_ref_start.specs.Contents.{HeldTree, memory_tree, held_tree, filled_net, filled_cells, filled_held}
 use Rattle.vlog_ref_start.proofs.Found.{net_there, memory_there}
+use Rattle.tapa_base.proofs.Got.{all_at, all_from}
 
 -- a memory of a module, by its name and its cells
 abbrev CellsAre : List Item → Cycle → Name × List ℕ → Type 0

@@ -10,7 +10,7 @@ use Rattle.vlog_tree.specs.Table.{Name, is_clk, declared, net_kind_of, net_kind_
 use Rattle.vlog_tree.specs.Cycle.{Cycle, Path, and_then, module_at}
 use Rattle.vlog_tree.specs.Environment.{Environment, FitsShape, RunsIn, shape_of}
 use Rattle.vlog_tree.specs.Labels.{m_ack, m_we, m_addr, m_wdata}
-use Rattle.tapa_base.proofs.Lists.{of_map}
+use Rattle.tapa_base.proofs.Lists.{of_map, some_of}
 use Rattle.vlog_run_laws.proofs.runs.Settled.{module_in, top_tree, IsTopTree}
 use Rattle.vlog_values.specs.declared.numbers.NetNumber.{NetNumber}
 use Rattle.vlog_values.specs.declared.moment.Circuit.{Circuit}
@@ -22,12 +22,11 @@ use Rattle.vlog_ref_cycle.specs.Numbers.{all_numbers, number_at}
 use Rattle.vlog_ref_cycle.specs.Moments.{IsAt}
 use Rattle.vlog_ref_cycle.specs.Next.{item_nets, reads_of, held_known, outside_known, next_known}
 use Rattle.vlog_ref_start.specs.Whole.{IsWhole, HasNoMore}
-use Rattle.vlog_ref_start.proofs.Searched.{some_of}
 use Rattle.vlog_ref_start.proofs.Deeper.{IsFound, deeper, all_deeper, all_found}
-use Rattle.vlog_ref_start.proofs.Driven.{both}
 use Rattle.vlog_ref_start.proofs.FoundNets.{each_found}
 use Rattle.vlog_ref_start.proofs.Blocks.{block_reads}
 use Rattle.vlog_ref_start.proofs.Asked.{asked_by}
+use Rattle.std.proofs.lemmas.Bool.{and_from as both}
 
 -- it holds from some number of steps on
 abbrev pub FromSome : (ℕ → Bool) → Type 0
@@ -49,7 +48,7 @@ each_from f (x ∷ xs) g = both_from (λ e. f e x) (λ e. list_all (f e) xs) (g 
 less_test : (a b : ℕ) → a < b → nat_lt a b ≡ true
 less_test a b h = grind (arith, nat_tests)
 
-more_steps : (d e : ℕ) → d ≤ e → e ≡ d + (e - d)
+pub more_steps : (d e : ℕ) → d ≤ e → e ≡ d + (e - d)
 more_steps d e h = omega arith
 
 module _ (c : Circuit) (place : ℕ) (d : IsDesign c.modules.now place) (at_place : slice_get c.modules.now place ≡ Some c.top.now) (env : Environment) (env_fits : FitsShape env (shape_of c.top.now)) (nets : ℕ → Path → Cycle)

@@ -16,7 +16,7 @@ use Rattle.vlog_tree.specs.V6.{v6_uses, is_top, has_port}
 use Rattle.vlog_tree.specs.Environment.{scalar_label, memory_label, ready_at}
 use Rattle.vlog_tree.specs.Flattened.{FlatNet}
 use Rattle.vlog_tree.specs.Loops.{asked_port}
-use Rattle.tapa_base.proofs.Lists.{has_flat, has_map}
+use Rattle.tapa_base.proofs.Lists.{has_flat, has_map, some_of}
 use Rattle.vlog_run_laws.proofs.runs.TopPorts.{input_port, five_of, five_rdata}
 use Rattle.vlog_run_laws.proofs.runs.Cycles.{port_stands}
 use Rattle.vlog_run_laws.proofs.runs.Settled.{answers}
@@ -28,7 +28,6 @@ use Rattle.vlog_values.specs.declared.moment.OutsideMemory.{OutsideMemory}
 use Rattle.vlog_values.specs.declared.moment.Moment.{Moment}
 use Rattle.vlog_ref_cycle.specs.Sources.{RuleTree, SourceTree, given_number, memory_of, rdata_source, ack_source, scalar_source, input_source}
 use Rattle.vlog_ref_start.specs.Whole.{IsWhole}
-use Rattle.vlog_ref_start.proofs.Searched.{some_of}
 use Rattle.vlog_ref_start.proofs.Deeper.{IsFound, IsGiven, number_answered, cells_answered}
 
 of_input : (b : Bool) → cond b Input Output ≡ Input → b ≡ true

@@ -12,16 +12,12 @@ use Rattle.vlog_tree.specs.declared.table.Declaration.{Declaration}
 use Rattle.vlog_tree.specs.Form.{ModuleTree}
 use Rattle.tapa_base.specs.Lists.{Has}
 use Rattle.vlog_tree.specs.Table.{Name, port_declared, ports_of, net_kind_of, net_kind_is_input, one_if}
-use Rattle.vlog_run_laws.proofs.runs.Sound.{both_true, no_is, true_not_false}
 use Rattle.vlog_run_laws.proofs.runs.Alone.{same_name, count_cons}
 use Rattle.vlog_run_laws.proofs.runs.Drivers.{IsDrivenBy}
 use Rattle.vlog_values.specs.Scopes.{or_else}
 use Rattle.vlog_ref_cycle.specs.Sources.{assigned_in, assigned, connection_out, output_in, output_of, connection_in, joined_in, joined_to}
 use Rattle.vlog_ref_cycle.proofs.Options.{map_some, either_some}
-
-pub some_of : {A : Type 0} (o : Option A) → is_some o ≡ true → (x : A) × (o ≡ Some x)
-some_of None h = cc
-some_of (Some x) h = (x, refl)
+use Rattle.tapa_base.proofs.Tests.{not_so as no_is, both_true, true_not_false}
 
 pub some_not_none : {A : Type 0} (x : A) → Some x ≡ None → ⊥
 some_not_none x h = cc

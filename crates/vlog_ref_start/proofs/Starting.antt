@@ -11,7 +11,6 @@ use Rattle.vlog_tree.specs.Environment.{Environment, shape_of}
 use Rattle.tapa_base.proofs.Lists.{has_map, of_map, has_got, some_of}
 use Rattle.vlog_run_laws.specs.runs.OneRun.{IsRunFrom}
 use Rattle.vlog_run_laws.specs.runs.Filled.{IsFilled}
-use Rattle.vlog_run_laws.proofs.runs.Sizes.{all_from}
 use Rattle.vlog_run_laws.proofs.runs.Settled.{IsTopTree, top_tree}
 use Rattle.vlog_values.specs.Numbers.{first_net}
 use Rattle.vlog_values.specs.declared.moment.Held.{Held}
@@ -30,6 +29,7 @@ use Rattle.vlog_run_laws.proofs.runs.Short.{way_short}
 use Rattle.vlog_ref_start.proofs.Found.{net_there, outside_there, held_there}
 use Rattle.vlog_ref_start.proofs.Held.{path_is, holds_all, held_is}
 use Rattle.vlog_ref_start.proofs.Around.{StandsThere, scalars_are, stands_there, outside_is, scalar_has, memory_has}
+use Rattle.tapa_base.proofs.Got.{all_from}
 
 from_none : (i : ℕ) → i ≡ 0 + i
 from_none i = omega arith

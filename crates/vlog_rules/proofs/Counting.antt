@@ -11,9 +11,7 @@ use Rattle.vlog_scope.proofs.Found.{within}
 use Rattle.vlog_scope.proofs.Chaining.{named_at}
 use Rattle.vlog_rules.specs.Drives.{CountsPlaces}
 use Rattle.vlog_rules.proofs.Counts.{capped, times-append}
-
-true_not_false : true ≡ false → ⊥
-true_not_false e = cc
+use Rattle.tapa_base.proofs.Tests.{true_not_false}
 
 pub none_counted : (ds : List Declaration) → CountsPlaces ds (replicate (length ds) 0) (times_in [])
 none_counted ds = record {

@@ -1,14 +1,14 @@
 -- Counts of which two and more are one.
 use Rattle.std.proofs.Common.{◌≡◌, ℕ, ◌+◌, min, Bool, true, false, cond, List, [], ◌∷◌, ◌++◌, length, take, get_or, ◌<◌, ◌≤◌, refl, sym, ap, ◌∙◌, arith}
 use Rattle.std.specs.Prelude.{◌==◌, ◌&&◌, ◌||◌, nat_le, bytes_eq, count_by}
-use Rattle.std.proofs.lemmas.List.{append-nil}
+use Rattle.std.proofs.lemmas.List.{append-nil, take_all, take_more}
 use Rattle.std.proofs.lemmas.List.Sums.{sum_by-append}
 use Rattle.std.specs.List.{list_all, list_any}
 use Rattle.std.proofs.lemmas.List.Folds.{list_any-append}
-use Rattle.std.proofs.lemmas.List.{take_all, take_more}
 use Rattle.std.proofs.lemmas.Bool.Decides.{nat_tests}
 use Rattle.vlog_tree.specs.declared.table.Declaration.{Declaration}
 use Rattle.vlog_tree.specs.Table.{Name, one_if, times_in}
+use Rattle.tapa_base.proofs.Tests.{zero_left as none_more}
 
 pub once : (n : ℕ) → (min n 2 == 1) ≡ (n == 1)
 once n = grind (arith, nat_tests)
@@ -22,9 +22,6 @@ none n = grind (arith, nat_tests)
 
 pub twice : (n : ℕ) → nat_le 2 (min n 2) ≡ nat_le 2 n
 twice n = grind (arith, nat_tests)
-
-none_more : (n : ℕ) → 0 + n ≡ n
-none_more n = omega arith
 
 pub times-append : (names : List Name) (name x : Name) → times_in (names ++ name ∷ []) x ≡ times_in names x + cond (bytes_eq name x) 1 0
 times-append names name x = sum_by-append (λ (y : Name). cond (bytes_eq y x) 1 0) names (name ∷ []) ∙ ap (λ n. times_in names x + n) (none_more (cond (bytes_eq name x) 1 0))

@@ -1,6 +1,7 @@
 // The first name that is driven too little or too often.
 
-ghost use Rattle.std.specs.Prelude.{◌≡◌, ◌<◌, ◌∷◌, ◌++◌, ◌+◌, length, get_or, slice_set, ◌==◌, ◌&&◌, [], ℕ, List, Bool, map, min, bytes_eq, ◌||◌, count_by, false, if◌then◌else◌, IfOk, OnOk};
+ghost use Rattle.std.specs.Prelude.{◌≡◌, ◌<◌, ◌∷◌, ◌++◌, ◌+◌, ◌==◌, ◌&&◌, ◌||◌, if◌then◌else◌};
+ghost use Rattle.std.specs.Prelude.{length, get_or, slice_set, [], ℕ, List, Bool, map, min, bytes_eq, count_by, false, IfOk, OnOk};
 ghost use Rattle.std.specs.Option.{option_copied, option_map_or};
 ghost use Rattle.std.specs.List.{flat_map, list_any};
 ghost use Rattle.vlog_scope.specs.NameTable.{count_in, CountsTo};

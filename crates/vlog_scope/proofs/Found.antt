@@ -6,16 +6,13 @@ use Rattle.std.proofs.lemmas.List.Sums.{sum_by-cons}
 use Rattle.std.proofs.lemmas.Bool.Decides.{nat_tests}
 use Rattle.std.proofs.lemmas.List.{get_or_default}
 use Rattle.vlog_tree.specs.declared.table.Declaration.{Declaration}
-use Rattle.vlog_tree.specs.Table.{Name, find_name, unknown, is_doubled_name, ports_of, is_module_name, module_declared, port_declared, all_ports, module_named, ports_in}
+use Rattle.vlog_tree.specs.Table.{Name, find_name, unknown, is_doubled_name, ports_of, is_module_name, module_declared, port_declared, all_ports, module_named, ports_in, declaration_name}
 use Rattle.vlog_tree.specs.Form.{ModuleTree}
 use Rattle.vlog_scope.specs.NameTable.{places_from}
-use Rattle.vlog_tree.specs.Table.{declaration_name}
+use Rattle.tapa_base.proofs.Tests.{zero_left as none_more}
 
 abbrev names : List Declaration → List Name
 names ds = map declaration_name ds
-
-none_more : (n : ℕ) → 0 + n ≡ n
-none_more n = omega arith
 
 one_more : (n : ℕ) → nat_le 1 n ≡ nat_le 2 (1 + n)
 one_more n = grind (arith, nat_tests)

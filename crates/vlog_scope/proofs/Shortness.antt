@@ -4,6 +4,7 @@ use Rattle.std.specs.Prelude.{nat_lt}
 use Rattle.std.proofs.lemmas.Bool.Decides.{nat_tests}
 use Rattle.std.proofs.lemmas.List.{get_or_default}
 use Rattle.vlog_scope.specs.Chains.{further, longest, IsShort}
+use Rattle.tapa_base.proofs.Tests.{ge_of as at_most}
 
 past : (nexts : List ℕ) (p d : ℕ) → length nexts ≤ p → get_or nexts p d ≡ d
 past [] p d high = refl
@@ -23,9 +24,6 @@ no_step nexts n p e = ap (λ k. further nexts k p) e
 pub stepped : (nexts : List ℕ) (n rest p : ℕ) → n ≡ suc rest → p < length nexts → further nexts rest (get_or nexts p 0) ≡ further nexts n p
 unfolding further
 stepped nexts n rest p e low = ap (λ q. further nexts rest q) (sym (get_or_default nexts p p 0 low)) ∙ sym (ap (λ k. further nexts k p) e)
-
-at_most : (a b : ℕ) → nat_lt a b ≡ false → b ≤ a
-at_most a b e = grind (arith, nat_tests, e)
 
 pub short_of : (nexts : List ℕ) (head : ℕ) → nat_lt (further nexts longest head) (length nexts) ≡ false → IsShort nexts head
 unfolding IsShort

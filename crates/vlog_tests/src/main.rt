@@ -4,23 +4,20 @@
 //! tests/run.py write reference writes both files anew. The same group runs the texts by `tapa cosim`.
 #![tactic(auto)]
 
-mod line;
 mod reader;
 mod shown;
 mod simulated;
 mod table;
 
 use crate::reader::Reader;
-use std::io;
+use std::test::Fail;
 
-fn main(rt: HostRuntime) -> io::Result<()> {
+fn main(rt: HostRuntime) -> Result<(), Fail> {
     let alloc = rt.alloc();
     let mut reader = Reader::new(alloc);
     for line in rt.lines(alloc) {
-        match reader.line(alloc, line?.as_str()) {
-            Ok(text) => print!(rt; "{text}")?,
-            Err(fault) => println!(rt; "{fault:?}")?,
-        }
+        let shown = reader.line(alloc, line?.as_str())?;
+        print!(rt; "{shown}")?;
     }
     Ok(())
 }

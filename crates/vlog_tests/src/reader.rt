@@ -1,11 +1,12 @@
 // A text of modules. Lines that begin with `//:` give the environment, and `//= C D` shows what the modules do in at most C cycles, each net by at
 // most D steps. After it `//: fill N` and `//= C D` show the same text from another number at power-up, until a line of a further text.
 
-use crate::line::{Fault, Line};
 use crate::simulated::simulated;
 use crate::table::{Found, Row, table};
 use std::alloc::Global;
 use std::mem;
+use std::test::Fail;
+use tapa_base::Text;
 use vlog_design::{Design, Env};
 use vlog_read::read;
 
@@ -27,38 +28,45 @@ fn nothing_around(alloc: Global) -> Env {
     }
 }
 
-fn numbers(alloc: Global, line: &mut Line) -> Result<Vec<u64>, Fault> {
+fn numbers(alloc: Global, words: &str) -> Result<Vec<u64>, Fail> {
     let mut all = Vec::new(alloc);
-    for _ in 0..line.len() {
-        if line.is_read() {
-            break;
-        }
-        all.push(line.long()?)?;
+    for word in words.split_whitespace() {
+        all.push(word.parse::<u64>()?)?;
     }
     Ok(all)
 }
 
-fn bits(alloc: Global, line: &mut Line) -> Result<Vec<bool>, Fault> {
+fn bits(alloc: Global, words: &str) -> Result<Vec<bool>, Fail> {
     let mut all = Vec::new(alloc);
-    for n in numbers(alloc, line)? {
+    for n in numbers(alloc, words)? {
         all.push(n == 1)?;
     }
     Ok(all)
 }
 
+fn name(alloc: Global, word: &str) -> Result<Text, Fail> {
+    if word.is_ascii() {
+        Ok(Text::new(word.as_bytes().to_vec(alloc)?))
+    } else {
+        Err(Fail::new("no name"))
+    }
+}
+
+// The first word of some, and the others.
+fn first_of(words: &str) -> (&str, &str) {
+    words.split_once(' ').unwrap_or((words, ""))
+}
+
 // A net, and after it the names of the instances on the way to it, the innermost first.
-fn row(alloc: Global, line: &mut Line) -> Result<Row, Fault> {
-    let net = line.name(alloc)?;
+fn row(alloc: Global, words: &str) -> Result<Row, Fail> {
+    let (net, instances) = first_of(words);
     let mut path = Vec::new(alloc);
-    for _ in 0..line.len() {
-        if line.is_read() {
-            break;
-        }
-        path.push(line.name(alloc)?)?;
+    for instance in instances.split_whitespace() {
+        path.push(name(alloc, instance)?)?;
     }
     Ok(Row {
         path,
-        net,
+        net: name(alloc, net)?,
         numbers: String::new(alloc),
     })
 }
@@ -74,18 +82,18 @@ impl Reader {
         }
     }
 
-    fn design(&self, alloc: Global) -> Result<Design, Fault> {
+    fn design(&self, alloc: Global) -> Result<Design, Fail> {
         if self.text.len() >= 4_294_967_295 {
-            return Err(Fault::OutOfMemory);
+            return Err(Fail::new("too long"));
         }
         match read(alloc, self.text.as_bytes()) {
             Ok(design) => Ok(design),
-            Err(_) => Err(Fault::Unreadable),
+            Err(_) => Err(Fail::new("no design")),
         }
     }
 
     // Whether the simulator shows the same, where the number at power-up is one that it takes.
-    fn beside(&self, alloc: Global, cycles: u32, shown: &str) -> Result<String, Fault> {
+    fn beside(&self, alloc: Global, cycles: u32, shown: &str) -> Result<String, Fail> {
         let Ok(fill) = u64::try_from(self.fill) else {
             return Ok(String::new(alloc));
         };
@@ -97,9 +105,10 @@ impl Reader {
         }
     }
 
-    fn run(&mut self, alloc: Global, line: &mut Line) -> Result<String, Fault> {
-        let cycles = line.number()?;
-        let depth = line.number()?;
+    fn run(&mut self, alloc: Global, words: &str) -> Result<String, Fail> {
+        let (cycles, depth) = first_of(words);
+        let cycles = cycles.parse::<u32>()?;
+        let depth = depth.parse::<u32>()?;
         let rows = mem::replace(&mut self.rows, Vec::new(alloc));
         self.is_run = true;
         let design = self.design(alloc)?;
@@ -117,20 +126,21 @@ impl Reader {
     }
 
     // What is to be kept for what is shown later.
-    fn keep(&mut self, alloc: Global, line: &mut Line) -> Result<(), Fault> {
-        match line.word() {
-            "fill" => self.fill = line.large()?,
-            "scalars" => self.around.scalars = numbers(alloc, line)?,
-            "memory" => self.around.memories.push(numbers(alloc, line)?)?,
-            "ready" => self.around.ready.push(bits(alloc, line)?)?,
-            "net" => self.rows.push(row(alloc, line)?)?,
-            _ => return Err(Fault::Unreadable),
+    fn keep(&mut self, alloc: Global, words: &str) -> Result<(), Fail> {
+        let (sort, words) = first_of(words);
+        match sort {
+            "fill" => self.fill = words.parse::<u128>()?,
+            "scalars" => self.around.scalars = numbers(alloc, words)?,
+            "memory" => self.around.memories.push(numbers(alloc, words)?)?,
+            "ready" => self.around.ready.push(bits(alloc, words)?)?,
+            "net" => self.rows.push(row(alloc, words)?)?,
+            _ => return Err(Fail::new("no such line")),
         }
         Ok(())
     }
 
     // A further line of the text, or the first of another.
-    fn put(&mut self, alloc: Global, text: &str) -> Result<(), Fault> {
+    fn put(&mut self, alloc: Global, text: &str) -> Result<(), Fail> {
         if self.is_run {
             self.text = String::new(alloc);
             self.around = nothing_around(alloc);
@@ -142,12 +152,12 @@ impl Reader {
     }
 
     /// What is shown after one more line.
-    pub(crate) fn line(&mut self, alloc: Global, text: &str) -> Result<String, Fault> {
-        let mut line = Line::of(alloc, text)?;
-        match line.word() {
+    pub(crate) fn line(&mut self, alloc: Global, text: &str) -> Result<String, Fail> {
+        let (mark, words) = first_of(text);
+        match mark {
             "//" => (),
-            "//=" => return self.run(alloc, &mut line),
-            "//:" => self.keep(alloc, &mut line)?,
+            "//=" => return self.run(alloc, words),
+            "//:" => self.keep(alloc, words)?,
             _ => self.put(alloc, text)?,
         }
         Ok(String::new(alloc))

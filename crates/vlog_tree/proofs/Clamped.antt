@@ -16,6 +16,7 @@ use Rattle.vlog_tree.specs.declared.table.Declaration.{Declaration}
 use Rattle.vlog_tree.specs.Table.{Name, NameUse, bits_of, cells_of}
 use Rattle.vlog_tree.specs.V3.{is_width, is_cell_count, net_fits, memory_fits, atom_fits, atom_bits, has_bits, is_divisor, op_fits, value_fits, step_widths}
 use Rattle.vlog_tree.specs.Clamped.{clamped_atom, clamped_value, clamped_step}
+use Rattle.tapa_base.proofs.Tests.{and_left as left_true, and_right as right_true}
 
 -- numbers
 pub width_same : (w : ℕ) → is_width (min w 129) ≡ is_width w
@@ -33,7 +34,7 @@ cells_is n h = grind (arith, nat_tests)
 pub width_low : (w : ℕ) → is_width w ≡ true → w ≤ 128
 width_low w h = grind (arith, nat_tests)
 
-width_some : (w : ℕ) → is_width w ≡ true → 1 ≤ w
+pub width_some : (w : ℕ) → is_width w ≡ true → 1 ≤ w
 width_some w h = grind (arith, nat_tests)
 
 pub same_bits : (w b : ℕ) → b ≤ 128 → (min w 129 == b) ≡ (w == b)
@@ -48,7 +49,7 @@ part_bits b h l e = grind (arith, nat_tests)
 part_low : (b h l : ℕ) → (is_width b && nat_le 2 b && nat_le l h && nat_lt h b) ≡ true → h + 1 - l ≤ 128
 part_low b h l e = grind (arith, nat_tests)
 
-part_some : (b h l : ℕ) → (is_width b && nat_le 2 b && nat_le l h && nat_lt h b) ≡ true → 1 ≤ h + 1 - l
+pub part_some : (b h l : ℕ) → (is_width b && nat_le 2 b && nat_le l h && nat_lt h b) ≡ true → 1 ≤ h + 1 - l
 part_some b h l e = grind (arith, nat_tests)
 
 above : (n w : ℕ) → nat_lt n (2 ^ 128) ≡ false → w ≤ 128 → nat_lt n (2 ^ w) ≡ false
@@ -71,14 +72,6 @@ both_same false b c f = refl
 
 pub and_same : {a b c d : Bool} → a ≡ c → b ≡ d → (a && b) ≡ (c && d)
 and_same {a} {b} {c} {d} e f = ap (λ x. x && b) e ∙ ap (λ x. c && x) f
-
-left_true : (a b : Bool) → (a && b) ≡ true → a ≡ true
-left_true true b h = refl
-left_true false b h = h
-
-right_true : (a b : Bool) → (a && b) ≡ true → b ≡ true
-right_true true b h = h
-right_true false b h = cc
 
 -- two lists of declarations, the second with its numbers cut
 pub record IsCut (ds es : List Declaration) : Type 0 where

@@ -13,6 +13,7 @@ use Rattle.vlog_tree.specs.Table.{Name, declared, port_declared, items_declared,
 use Rattle.vlog_tree.specs.V3.{is_width, net_fits, step_widths, connection_widths, item_widths, port_widths, module_widths, v3_uses}
 use Rattle.vlog_tree.specs.Clamped.{clamped_step, clamped_item, clamped_port, clamped}
 use Rattle.vlog_tree.proofs.Clamped.{IsCut, width_same, cells_same, width_is, width_low, both_same, same_bits, and_same, step_same, assign_widths}
+use Rattle.tapa_base.proofs.Got.{map_append as map_both}
 
 abbrev cut : Declaration → Declaration
 cut d = record { name = d.name; net_kind = d.net_kind; bits = min d.bits 129; cells = min d.cells 1048577 }
@@ -41,10 +42,6 @@ items_cut (Instance m i connections ∷ items) = ap (λ ds. record { name = i; n
 items_cut (Assign x e ∷ items) = items_cut items
 items_cut (Always b ∷ items) = items_cut items
 
-map_both : {A B : Type 0} (f : A → B) (xs ys : List A) → map f (xs ++ ys) ≡ map f xs ++ map f ys
-map_both f [] ys = refl
-map_both f (x ∷ xs) ys = ap (λ zs. f x ∷ zs) (map_both f xs ys)
-
 declared_cut : (m : ModuleTree) → declared (clamped m) ≡ map cut (declared m)
 declared_cut m =
     ap (λ ds. ds ++ items_declared (map clamped_item m.items)) (ports_cut m.ports)
@@ -60,11 +57,11 @@ ports_of_cut : (ms : List ModuleTree) (x : Name) → ports_of (map clamped ms) x
 ports_of_cut [] x = refl
 ports_of_cut (m ∷ ms) x = named_of (bytes_eq m.name x) m ms x (ports_of_cut ms x)
 
-flat_same : {A B C : Type 0} (f : B → List C) (g : A → List C) (h : A → B) (xs : List A) → ((x : A) → f (h x) ≡ g x) → flat_map f (map h xs) ≡ flat_map g xs
+pub flat_same : {A B C : Type 0} (f : B → List C) (g : A → List C) (h : A → B) (xs : List A) → ((x : A) → f (h x) ≡ g x) → flat_map f (map h xs) ≡ flat_map g xs
 flat_same f g h [] e = refl
 flat_same f g h (x ∷ xs) e = ap (λ l. l ++ flat_map f (map h xs)) (e x) ∙ ap (λ l. g x ++ l) (flat_same f g h xs e)
 
-flat_alike : {A C : Type 0} (f g : A → List C) (xs : List A) → ((x : A) → f x ≡ g x) → flat_map f xs ≡ flat_map g xs
+pub flat_alike : {A C : Type 0} (f g : A → List C) (xs : List A) → ((x : A) → f x ≡ g x) → flat_map f xs ≡ flat_map g xs
 flat_alike f g [] e = refl
 flat_alike f g (x ∷ xs) e = ap (λ l. l ++ flat_map f xs) (e x) ∙ ap (λ l. g x ++ l) (flat_alike f g xs e)
 

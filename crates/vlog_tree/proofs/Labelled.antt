@@ -13,10 +13,10 @@ pub record IsLabelled (front end x l : Name) : Type 0 where
   pub is : x ≡ front ++ (l ++ end)
   pub some : 0 < length l
 
-lt_of : (a b : ℕ) → nat_le a b ≡ false → b < a
+pub lt_of : (a b : ℕ) → nat_le a b ≡ false → b < a
 lt_of a b h = grind (arith, nat_tests)
 
-of_le : (a b : ℕ) → a ≤ b → nat_le a b ≡ true
+pub of_le : (a b : ℕ) → a ≤ b → nat_le a b ≡ true
 of_le a b h = grind (arith, nat_tests)
 
 of_lt : (a b : ℕ) → b < a → nat_le a b ≡ false

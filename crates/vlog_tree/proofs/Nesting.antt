@@ -12,7 +12,7 @@ use Rattle.vlog_tree.specs.Cycle.{Cycle, Sizes, run_steps, put, store, atom_valu
 abbrev all_on : List Bool → Bool
 all_on on = list_all (λ b. b) on
 
-same_both : {A : Type 0} (b : Bool) (x : A) → cond b x x ≡ x
+pub same_both : {A : Type 0} (b : Bool) (x : A) → cond b x x ≡ x
 same_both true x = refl
 same_both false x = refl
 

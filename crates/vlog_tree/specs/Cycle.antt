@@ -1,5 +1,6 @@
 -- What a design does, cycle by cycle.
-use Rattle.std.specs.Prelude.{◌≡◌, ℕ, zero, suc, ◌+◌, ◌-◌, ◌*◌, ◌/◌, ◌%◌, ◌^◌, ◌<◌, Bool, true, false, List, [], ◌∷◌, Option, Some, None, bit_and, bit_or, bit_xor, nat_lt}
+use Rattle.std.specs.Prelude.{◌≡◌, ◌+◌, ◌-◌, ◌*◌, ◌/◌, ◌%◌, ◌^◌, ◌<◌, ◌∷◌}
+use Rattle.std.specs.Prelude.{ℕ, zero, suc, Bool, true, false, List, [], Option, Some, None, bit_and, bit_or, bit_xor, nat_lt}
 use Rattle.std.specs.Prelude.{◌==◌, ◌&&◌, if◌then◌else◌, bytes_eq, not}
 use Rattle.std.specs.List.{AllByRecursion, list_all}
 use Rattle.vlog_tree.specs.declared.tree.Atom.{Atom}

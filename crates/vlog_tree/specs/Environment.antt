@@ -1,5 +1,6 @@
 -- The environment of a design, and what its streams and memories carry.
-use Rattle.std.specs.Prelude.{◌≡◌, ℕ, zero, suc, ◌-◌, ◌^◌, ◌<◌, ◌≤◌, Bool, true, false, ◌&&◌, List, [], ◌∷◌, ◌++◌, Option, Some, None, length, unwrap_or, slice_get}
+use Rattle.std.specs.Prelude.{◌≡◌, ◌-◌, ◌^◌, ◌<◌, ◌≤◌, ◌&&◌, ◌∷◌, ◌++◌}
+use Rattle.std.specs.Prelude.{ℕ, zero, suc, Bool, true, false, List, [], Option, Some, None, length, unwrap_or, slice_get}
 use Rattle.std.specs.Prelude.{slice_index, slice_index_or, slice_set, map, nat_le, nat_lt, ◌==◌, if◌then◌else◌, bytes_eq}
 use Rattle.std.specs.List.{flat_map}
 use Rattle.vlog_tree.specs.declared.tree.Item.{Item}

@@ -71,13 +71,4 @@ def bitonic(numbers, blocks, **_):
 
 
 # The top task of each design, and what it computes.
-DESIGNS = {
-    "fir": ("Fir", fir),
-    "cannon": ("Cannon", cannon),
-    "butterfly": ("Butterfly", butterfly),
-    "page_rank": ("PageRank", page_rank),
-    "jacobi": ("Jacobi", jacobi),
-    "bandwidth": ("Bandwidth", bandwidth),
-    "histogram": ("Histogram", histogram),
-    "bitonic": ("Bitonic", bitonic),
-}
+DESIGNS = {it.__name__: ("".join(map(str.capitalize, it.__name__.split("_"))), it) for it in (fir, cannon, butterfly, page_rank, jacobi, bandwidth, histogram, bitonic)}

@@ -17,8 +17,7 @@ FULL, SPARSE, MANY = 80, 50, 30
 
 def sized(found, known, fill):
     """The uses of tasks that take `fill` percent of the LUT of all slots together."""
-    room = estimates.added(estimates.rooms_of(known))[0]
-    factor = fill * room / 100 / found.uses(found.labels)[0]
+    factor = fill * estimates.added(estimates.rooms_of(known))[0] / 100 / found.uses(found.labels)[0]
     return {task: [int(uses[0] * factor), int(uses[1] * factor), *uses[2:]] for task, uses in found.tasks.items()}
 
 

@@ -1,5 +1,6 @@
-"""Random sources with stream arrays and counted invokes, compared with their text by a second implementation (`tools/vechaqir/language/arrays.py`): what is told of a source is
-what is told of that text. A text of the most bytes, and of one more. `tests/stress/more.py PROGRAM arrays` tries more sources."""
+"""Random sources with stream arrays and counted invokes: the report of a source is that of the text that a second implementation (`tools/vechaqir/language/arrays.py`) writes
+out. A text of the most bytes, and of one more. `tests/stress/more.py PROGRAM arrays` tries more sources."""
+import collections
 import random
 import re
 
@@ -121,10 +122,6 @@ def said_of(trial, words, source):
     return said.status, said.out, said.err
 
 
-def line_feeds(text):
-    return text.count(b"\n")
-
-
 def try_source(trial, name, source):
     """What is told of a source, beside what is told of its written-out text, or of its fault."""
     words = ["run", "r.cpp", "T", "--steps", "10000"]
@@ -140,7 +137,7 @@ def try_source(trial, name, source):
         trial.check_equal(name, said, (1, b"", f"tapa: r.cpp:{line}:{col}: {code} {WRITTEN.TEXTS[code]}\n".encode()))
         return code
     trial.check_equal(f"{name}: its written-out text", said, said_of(trial, words, written))
-    trial.check(f"{name}: as many lines", line_feeds(written) == line_feeds(source))
+    trial.check(f"{name}: as many lines", written.count(b"\n") == source.count(b"\n"))
     trial.check(f"{name}: a text without forms", WRITTEN.Writer(written).written()[0] == written)
     if said[0] == 0:
         trial.check_equal(f"{name}: its circuit", said_of(trial, ["build", "r.cpp", "T"], source), said_of(trial, ["build", "r.cpp", "T"], written))
@@ -149,12 +146,8 @@ def try_source(trial, name, source):
 
 def try_random(trial, seeds):
     """Sources made at random; how often each answer came."""
-    found = {}
-    for seed in seeds:
-        source = Source(seed).text().encode()
-        answer = try_source(trial, f"random source {seed}\n{source.decode()}", source)
-        found[answer] = found.get(answer, 0) + 1
-    return found
+    sources = {seed: Source(seed).text() for seed in seeds}
+    return collections.Counter(try_source(trial, f"random source {seed}\n{text}", text.encode()) for seed, text in sources.items())
 
 
 # ---- limits

@@ -1,4 +1,4 @@
-"""The registers on each stream of a circuit for 300 random devices, with and without a balance, are those that `plan` prints."""
+"""The registers on each stream of a circuit for 300 random devices, with and without a balance: they are those that `plan` prints."""
 import json
 import random
 import re

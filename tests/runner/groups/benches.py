@@ -1,5 +1,5 @@
-"""Testbenches of `tools/testbench.py` in Icarus Verilog: each example passes, with memories that answer in each way, and twenty changed circuits fail; one in Verilator.
-`tests/stress/verilated.py PROGRAM` makes all of them by Verilator."""
+"""Testbenches of `tools/testbench.py` in Icarus Verilog: each example passes, with memories that answer in each way, and twenty changed circuits fail. One testbench runs in
+Verilator. `tests/stress/verilated.py PROGRAM` makes all of them by Verilator."""
 import os
 import random
 import re

@@ -1,5 +1,5 @@
-"""Each limit at it and one past it, for every command that reads what it limits. `run` is tried on the tables of tests/cases/sources, tests/cases/data and in endings; here
-`build`, `plan` and `cosim` get the same sources and files."""
+"""Each limit, at the limit and one past it, for every command that reads what is limited. `run` is tried on the tables of tests/cases/sources, tests/cases/data and in endings;
+here `build`, `plan` and `cosim` get the same sources and files."""
 import json
 
 from runner.groups.endings import DATA_LIMIT, DONE, PAIR, SOURCE_LIMIT, padded
@@ -23,8 +23,7 @@ def try_sources(trial):
         code, *limit, place = told.split(" ")
         for words in commands():
             trial.put("r.cpp", repeated(before, part, int(count), most))
-            said = trial.run(words)
-            trial.check(f"{words[0]} at a limit: {row[:120]}", (said.status, said.err) == (0, b"") and said.out != b"", f"   {said}")
+            trial.check_that(f"{words[0]} at a limit: {row[:120]}", trial.run(words), lambda said: (said.status, said.err) == (0, b"") and said.out != b"")
             trial.put("r.cpp", repeated(before, part, int(count), more))
             said = trial.run(words)
             line = said.err.decode()
@@ -36,8 +35,7 @@ def try_files(trial):
     trial.put("dev.json", DEVICE)
     for words in commands():
         trial.put("r.cpp", padded(PAIR, SOURCE_LIMIT))
-        said = trial.run(words)
-        trial.check(f"{words} of 262,144 bytes", (said.status, said.err) == (0, b"") and said.out != b"", f"   {said}")
+        trial.check_that(f"{words} of 262,144 bytes", trial.run(words), lambda said: (said.status, said.err) == (0, b"") and said.out != b"")
         trial.put("r.cpp", padded(PAIR, SOURCE_LIMIT + 1))
         said = trial.run(words)
         trial.check_equal(f"{words} of 262,145 bytes", (said.status, said.out, said.err), (7, b"", b"tapa: r.cpp is longer than 262144 bytes\n"))
@@ -45,8 +43,7 @@ def try_files(trial):
     trial.put("x.v", DONE)
     for words in commands()[1:]:
         trial.put("dev.json", DEVICE + " " * (DATA_LIMIT - len(DEVICE)))
-        said = trial.run(words)
-        trial.check(f"{words[0]} with a device file of 33,554,432 bytes", (said.status, said.err) == (0, b"") and said.out != b"", f"   {said}")
+        trial.check_that(f"{words[0]} with a device file of 33,554,432 bytes", trial.run(words), lambda said: (said.status, said.err) == (0, b"") and said.out != b"")
         trial.put("dev.json", DEVICE + " " * (DATA_LIMIT - len(DEVICE) + 1))
         said = trial.run(words)
         trial.check_equal(f"{words[0]} with a device file of 33,554,433 bytes", (said.status, said.out, said.err), (7, b"", b"tapa: dev.json is longer than 33554432 bytes\n"))
@@ -68,8 +65,7 @@ def try_memories(trial):
     trial.put("x.v", trial.run(["build", "r.cpp", "T"]).out)
     for words in (["run", "r.cpp", "T", "d.json"], ["cosim", "x.v", "d.json"]):
         trial.put("d.json", f'{{"memories": {{"a": {cells_of(65_536)}}}}}')
-        said = trial.run(words)
-        trial.check(f"{words[0]} with a memory of 65,536 cells", said.status == 0 and said.out.startswith(b"memory a: 1 0 0 "), f"   {said}")
+        trial.check_that(f"{words[0]} with a memory of 65,536 cells", trial.run(words), lambda said: said.status == 0 and said.out.startswith(b"memory a: 1 0 0 "))
         trial.put("d.json", f'{{"memories": {{"a": {cells_of(65_537)}}}}}')
         said = trial.run(words)
         trial.check_equal(f"{words[0]} with a memory of 65,537 cells", (said.status, said.out, said.err), (3, b"", b"tapa: d.json: J4 memories.a\n"))
@@ -83,9 +79,3 @@ def try_memories(trial):
             trial.put("d.json", json.dumps({"memories": given}))
             said = trial.run(words)
             trial.check(f"{words[0]} with {1_048_576 + last:,} cells in all", said.status == wanted and (last == 0 or said.err == f"tapa: d.json: J4 memories.{names[-1]}\n".encode()), f"   {said}")
-
-
-def try_all(trial):
-    try_sources(trial)
-    try_files(trial)
-    try_memories(trial)

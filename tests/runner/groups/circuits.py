@@ -1,4 +1,4 @@
-"""Each example is built, and its text carries in a simulation what the run shows, with memories that are not always ready too."""
+"""The circuit of each example: in a simulation it carries what the run shows, also with memories that are not always ready."""
 import json
 import os
 import random
@@ -6,7 +6,7 @@ import re
 import shlex
 
 from runner.groups.examples import names
-from runner.trial import ROOT, read
+from runner.trial import ROOT, each, read
 
 # The cycles after which an example that comes to a stop carries nothing more.
 ENOUGH = "2000"
@@ -49,6 +49,7 @@ def try_text(trial, name, words, data, ran, about):
     trial.check(f"{name} {about}", ends and agree(shown, carried, detached), f"   run: {ran}   cosim: {said}")
 
 
+@each(lambda: names())
 def try_circuit(trial, name):
     words = shlex.split(read(f"{name}.cpp").split("\n")[0].removeprefix("// tapa "))
     ran = trial.run(words, ROOT)
@@ -72,13 +73,6 @@ def try_legend(trial):
     known = {re.sub(r"_[A-Z]\b|_[A-Z](?=_)", "_#", name) for name in re.findall(r"`([a-z]+(?:_[A-Z])*)`", legend)}
     for source, top in [(f"examples/{it}.cpp", None) for it in ("vector_add", "stencil", "run_length")] + [("tests/cases/circuits/features.cpp", "Top"), ("tests/cases/circuits/states.cpp", "T")]:
         top = top or read(source).split("\n")[0].split()[4]
-        text = trial.run(["build", source, top], ROOT).out.decode()
-        leaves = re.findall(r"^module t_.*?^endmodule$", text, re.M | re.S)[:-1]
+        leaves = re.findall(r"^module t_.*?^endmodule$", trial.run(["build", source, top], ROOT).out.decode(), re.M | re.S)[:-1]
         nets = {re.sub(r"_\d+\b|_\d+(?=_)", "_#", name) for leaf in leaves for name in re.findall(r"(?:wire|reg|input|output) (?:\[[^]]*\] )?([a-z]\w*)", leaf)}
         trial.check_equal(f"nets of {source} that are not in the legend", nets - known - {"clk", "rst"}, set())
-
-
-def try_all(trial):
-    for name in names():
-        try_circuit(trial, name)
-    try_legend(trial)

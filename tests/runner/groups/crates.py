@@ -1,4 +1,4 @@
-"""The list of crates, the rooms of docs/VERIFIED.md, names of definitions and laws, and links between pages."""
+"""The list of crates, the rooms in the page How it is verified, names of definitions and laws, and links between pages."""
 import os
 import re
 
@@ -117,15 +117,3 @@ def try_links(trial):
     for page in pages:
         for path in sorted(set(re.findall(r"\b(?:docs|examples|tests|tools|crates)/[\w./]*\w", read(page)))):
             trial.check(f"{page}: {path} is there", "/out/" in path or os.path.exists(os.path.join(ROOT, path)))
-
-
-def try_all(trial):
-    try_lists(trial)
-    try_laws(trial)
-    try_chain(trial)
-    try_names(trial)
-    try_figures(trial)
-    try_homes(trial)
-    try_clauses(trial)
-    try_boxes(trial)
-    try_links(trial)

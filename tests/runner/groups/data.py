@@ -1,8 +1,6 @@
-"""Data files: the tables `cases/data/*.rows`."""
-import os
-
-from runner.groups.sources import bytes_of, parts, table
-from runner.trial import CASES, read
+"""Data files, by the tables `cases/data/*.rows`."""
+from runner.groups.sources import bytes_of, parts, try_rows
+from runner.trial import read
 
 # Of a program that has two memories and passes on two scalars.
 ECHO = "stream q: {}\nmemory a:{}\nmemory b:{}\ndone 6\n"
@@ -90,8 +88,4 @@ KINDS = {"read": try_read, "fault": try_fault, "number": try_number, "cells": tr
 
 
 def try_all(trial):
-    for name in sorted(os.listdir(os.path.join(CASES, "data"))):
-        if name.endswith(".rows"):
-            kind, rows = table(f"tests/cases/data/{name}")
-            for row in rows:
-                KINDS[kind](trial, row)
+    try_rows(trial, "data", KINDS)

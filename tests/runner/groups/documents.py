@@ -1,4 +1,4 @@
-"""What the documents show: tables of refusals, refused texts with their way round, data files, sessions, messages."""
+"""What the pages show: tables of refusals, refused texts with what to write instead, data files, sessions, and messages."""
 import os
 import re
 import shlex
@@ -111,11 +111,6 @@ void T() { tapa::stream<int> q, r; tapa::task().invoke(A, r, q).invoke(B, q, r).
 """
 
 
-def shown_files():
-    """The data files, device files and dumps of docs/REFUSALS.md: the sort of each, what it is refused with or `instead`, and its text."""
-    return re.findall(r"^```(?:json)?\n// (data|device|dump): (.*)\n([^`]*)^```$", read("docs/REFUSALS.md"), re.M)
-
-
 def command_of(trial, sort, what, text):
     """The words of a command that reads a file of docs/REFUSALS.md, and the file's name in messages."""
     if sort == "dump":
@@ -129,7 +124,7 @@ def command_of(trial, sort, what, text):
 def try_files(trial):
     """The data files, device files and dumps of docs/REFUSALS.md: `// data: J2 KEY`, `// dump: X1 at LINE:COL`, or `// device: instead`."""
     shown = set()
-    for sort, what, text in shown_files():
+    for sort, what, text in re.findall(r"^```(?:json)?\n// (data|device|dump): (.*)\n([^`]*)^```$", read("docs/REFUSALS.md"), re.M):
         words, name = command_of(trial, sort, what, text)
         said = trial.run(words)
         code, _, place = what.partition(" at ")
@@ -165,8 +160,7 @@ def try_data(trial):
 def sessions(page):
     """The steps of a page's sessions in order: each file that the reader saves, with its text, and each command, with the lines below it; a block is indented by four
     blanks or fenced."""
-    text = SAVED.sub(lambda it: f"\0{it[1]}\0{it[2]}\0", read(page))
-    for at, piece in enumerate(text.split("\0")):
+    for at, piece in enumerate(SAVED.sub(lambda it: f"\0{it[1]}\0{it[2]}\0", read(page)).split("\0")):
         if at % 3 == 1:
             name = piece
         elif at % 3 == 2:
@@ -189,11 +183,6 @@ def commands(text):
             command[1].append(line)
 
 
-def by_tool(trial, words):
-    """What a script of tools/ answers, which calls the program that is tried."""
-    return answer([sys.executable, *words], cwd=ROOT, env={**os.environ, "TAPA": trial.program})
-
-
 def shown_by(trial, command, made):
     """What a command of a session shows. A file behind `>` is made in the trial's own folder, and read there by later commands; `| tail -1` shows
     the last line alone."""
@@ -203,7 +192,7 @@ def shown_by(trial, command, made):
     words = [made.get(word, word) for word in shlex.split(words)]
     if words[:2] == ["./tapa", "--explain"]:
         words = ["tools/explain.py", "--run", trial.program, *words[2:]]
-    said = trial.run(words[1:], ROOT) if words[0] == "./tapa" else by_tool(trial, words)
+    said = trial.run(words[1:], ROOT) if words[0] == "./tapa" else answer([sys.executable, *words], cwd=ROOT, env={**os.environ, "TAPA": trial.program})
     out = said.out
     if target:
         made[target.strip()] = trial.put(os.path.basename(target.strip()), out)
@@ -238,12 +227,5 @@ def try_sessions(trial):
     trial.check("documents show sessions", count >= 6, f"   {count}")
 
 
-def try_all(trial):
-    try_language(trial)
-    try_refusals(trial)
-    try_from_tapa(trial)
-    try_texts(trial)
-    try_files(trial)
-    try_data(trial)
-    try_sessions(trial)
+def try_prose(trial):
     prose.try_all(trial)

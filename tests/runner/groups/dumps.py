@@ -1,11 +1,12 @@
-"""What `cosim --vcd` writes, compared with a second writer and the second evaluator in every net and cycle, of examples and of texts with up to 9,000 nets; and what `vcd` shows
-of every front part of a dump and of 200 random ones, two in three with a fault, compared with a second reader. `tests/stress/more.py PROGRAM dumps` tries more."""
+"""What `cosim --vcd` writes and what `vcd` shows of it: in every net and cycle, compared with a second writer, a second reader and the second evaluator. The dumps are of
+examples and of texts with up to 9,000 nets; `vcd` reads every prefix of a dump and 200 random ones, two in three with a fault. `tests/stress/more.py PROGRAM dumps` tries
+more."""
 import json
 import random
 
 from runner.second import cycles, verilog
 from runner.second.dumps import NoDump, Reading, rows_of, written
-from runner.trial import ROOT, read
+from runner.trial import ROOT, each, read
 
 # ---- what `cosim --vcd` writes, beside the second evaluator
 
@@ -39,17 +40,7 @@ def try_dump(trial, name, text, data, limit):
         trial.check(f"{name}: the dump is one", False, f"   none from byte {why.args[0]} on")
 
 
-COUNTER = """module t_many ( input clk , input rst , output done ) ;
-reg [ 7 : 0 ] c ;
-wire [ 7 : 0 ] one ;
-assign one = 8'd1 ;
-wire [ 7 : 0 ] n ;
-assign n = c + one ;
-wire [ 7 : 0 ] end_of ;
-assign end_of = 8'd9 ;
-assign done = c == end_of ;
-always @ ( posedge clk ) begin if ( rst ) begin c <= 8'd0 ; end else begin c <= n ; end end
-"""
+COUNTER = read("tests/cases/files/many_nets.v")
 
 
 def many_nets(count):
@@ -144,6 +135,7 @@ def try_shown(trial, about, text, net):
     trial.check_equal(about, (said.status, said.out.decode(), said.err.decode()), wanted_of("r.vcd", text, net))
 
 
+@each((200,))
 def try_random(trial, count, seed=18):
     """Random dumps, of which two in three have one fault."""
     draw = random.Random(seed)
@@ -159,10 +151,3 @@ def try_fronts(trial):
     text = written("t_X", [("rst", 1, False), ("q", 3, True)], [[1, 0], [0, 5], [0, 5], [0, 0]])
     for at in range(len(text) + 1):
         try_shown(trial, f"a dump of {at} bytes", text[:at], "q")
-
-
-def try_all(trial):
-    try_dumps(trial)
-    try_pictures(trial)
-    try_fronts(trial)
-    try_random(trial, 200)

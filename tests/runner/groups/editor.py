@@ -1,5 +1,5 @@
-"""The language server `tools/lsp.py` by a client that speaks its protocol: what it reports while a source is written, its answers, bytes that are no messages, and Neovim and the
-extension for Visual Studio Code where Neovim and node are there. `tests/stress/more.py PROGRAM editor` sends 10,000 messages made at random."""
+"""The language server `tools/lsp.py`, by a client that speaks its protocol: what it reports while a source is written, its answers, and bytes that are not messages. Neovim and
+the extension for Visual Studio Code are tested if Neovim and node are installed. `tests/stress/more.py PROGRAM editor` sends 10,000 messages made at random."""
 import os
 import random
 import re

@@ -1,10 +1,10 @@
-"""The command in each example's first line, its standard output and error; `g++` and `clang++` with `tools/include/tapa.h`."""
+"""The command in the first line of each example, with its standard output and error, and `g++` and `clang++` with `tools/include/tapa.h`."""
 import os
 import shlex
 import shutil
 import subprocess
 
-from runner.trial import ROOT, first_words, read, sources
+from runner.trial import ROOT, each, first_words, read, sources
 
 FOLDERS = ("examples", "examples/refused")
 
@@ -17,14 +17,14 @@ def text_of(path):
     return read(path) if os.path.exists(os.path.join(ROOT, path)) else ""
 
 
+@each(names)
 def try_example(trial, name):
     first = read(f"{name}.cpp").split("\n")[0]
     words = shlex.split(first.removeprefix("// tapa "))
     trial.check(f"{name}: its first line is its command", words[:2] == ["run", f"{name}.cpp"], f"   {first}")
     out, err = text_of(f"{name}.out"), text_of(f"{name}.err")
     status = 0 if not err else 8 if out else 1
-    said = trial.run(words, ROOT)
-    trial.check(name, (said.status, said.out.decode(), said.err.decode()) == (status, out, err), f"   {said}")
+    trial.check_that(name, trial.run(words, ROOT), lambda said: (said.status, said.out.decode(), said.err.decode()) == (status, out, err))
     listed = read("examples/README.md")
     trial.check(f"{name} stands in examples/README.md", f"| {os.path.basename(name).removesuffix('_mended')} |" in listed)
 
@@ -55,10 +55,3 @@ def try_compilers(trial):
             words = [compiler, "-std=c++17", "-fsyntax-only", "-Wall", "-Itools/include", f"{name}.cpp"]
             ran = subprocess.run(words, cwd=ROOT, capture_output=True, text=True)
             trial.check(f"{compiler} accepts {name}", ran.returncode == 0, ran.stderr[:800])
-
-
-def try_all(trial):
-    for name in names():
-        try_example(trial, name)
-    try_plans(trial)
-    try_compilers(trial)

@@ -1,6 +1,7 @@
-"""`tools/explain.py` in its words: each row of docs/FROM_TAPA.md is found by its construct, no construct in a source that is accepted; the tables of `cases/explanations/`; every
-place of two sources."""
+"""`tools/explain.py`: it finds each row of the page From TAPA by its construct, and no construct in a source that is accepted; and the tables of `cases/explanations/`. Every
+place of two sources is explained."""
 import glob
+import json
 import os
 import re
 import shlex
@@ -43,8 +44,7 @@ def try_construct(trial, row):
     """A row of docs/FROM_TAPA.md: its refused text is explained by this row, and by no other."""
     before, after = context(row.context)
     trial.put("e.cpp", before + row.refused + after)
-    words = ["run", os.path.join(trial.folder.name, "e.cpp"), "T"]
-    _, told = explained(trial, words)
+    _, told = explained(trial, ["run", os.path.join(trial.folder.name, "e.cpp"), "T"])
     first = next((line for line in told.splitlines() if line.startswith("      = ")), "")
     trial.check(f"the explanation of {row.refused}", is_of_row(row, first, told), f"   wanted {row.construct}\n   {told}")
 
@@ -58,7 +58,7 @@ def try_constructs(trial):
     """The rows of docs/FROM_TAPA.md and the patterns are of the same constructs, and each row is found by its pattern."""
     rows = pages.rows()
     trial.check("docs/FROM_TAPA.md has rows", len(rows) >= 100, f"   {len(rows)}")
-    missing = sorted(set(patterns.constructs()) - set(rows))
+    missing = sorted({it.construct for it in patterns.TABLE} - set(rows))
     trial.check("each pattern has a row in docs/FROM_TAPA.md", not missing, f"   {missing}")
     for row in rows.values():
         try_construct(trial, row)
@@ -123,8 +123,7 @@ def try_data(trial):
         if row:
             data, wanted = quoted(row)
             words = ["run", os.path.join(trial.folder.name, "e.cpp"), "T"] + [trial.put("e.json", data)] * bool(data)
-            status, told = explained(trial, words)
-            trial.check(f"the explanation of {data}", status == 3 and wanted in told and NEVER not in told, f"   {told}")
+            trial.check_that(f"the explanation of {data}", explained(trial, words), lambda status, told: status == 3 and wanted in told and NEVER not in told)
     trial.put("e.cpp", PLAN_TOP)
     for row in [*table("tests/cases/explanations/devices.rows")[1], table("tests/cases/explanations/devices.rows")[0]]:
         data, wanted = quoted(row)
@@ -145,8 +144,7 @@ def try_dumps(trial):
     """A net that a dump has not leads to one that it has."""
     trial.put("e.cpp", PLAN_TOP)
     trial.put("e.v", trial.run(["build", "e.cpp", "T"]).out)
-    dump = trial.put("e.vcd", trial.run(["cosim", "e.v", "--vcd"]).out)
-    _, told = explained(trial, ["vcd", dump, "s_q_rd"])
+    _, told = explained(trial, ["vcd", trial.put("e.vcd", trial.run(["cosim", "e.v", "--vcd"]).out), "s_q_rd"])
     trial.check("a net that is not there", "the dump has no net `s_q_rd`: it has 13 nets, `rst`, `done`" in told, f"   {told}")
 
 
@@ -160,43 +158,16 @@ def try_ends(trial):
         trial.check(f"what is said of {name}", all(it in told for it in wanted.splitlines()) and wanted and NEVER not in told, f"   {told}")
 
 
-def try_other_sorts(trial):
-    """A file of another sort than the command takes, and a dump's name behind `--vcd`."""
-    path, data = trial.put("e.cpp", PLAN_TOP), trial.put("e.json", '{"scalars": {"rows": 3}}')
-    text = trial.put("e.v", trial.run(["build", path, "T"]).out)
-    dump = trial.put("e.vcd", trial.run(["cosim", text, "--vcd"]).out)
-    for words, wanted in (
-        (["cosim", path], "this looks like a TAPA source, and a Verilog text is needed here\n      = why: `cosim` simulates a Verilog text\n      = instead: write one by `tapa build"),
-        (["cosim", data], "this looks like a data file"),
-        (["cosim", dump], "this looks like a value change dump"),
-        (["run", text, "T"], "this looks like a Verilog text, and a TAPA source is needed here"),
-        (["run", data, "T"], "this looks like a data file"),
-        (["vcd", text, "q"], "this looks like a Verilog text, and a value change dump is needed here\n      = why: `vcd` reads a dump\n      = instead: write one by `tapa cosim"),
-        (["run", path, "T", path], f"instead: call `tools/template.py {path} T > F.json`"),
-        (["cosim", text, "--vcd", f"{path}.vcd"], f"send the dump from standard output to the file: `--vcd > {path}.vcd`"),
-        (["run", trial.put("t.cpp", "void F(int n) { }\n"), "T"], "write an upper-level task `T`, which invokes these"),
-        (["run", trial.put("u.cpp", ""), "T"], "the source has no task, so it has no top task"),
-    ):
-        _, told = explained(trial, words)
-        trial.check(f"the explanation of `tapa {' '.join(words)}`", wanted in told and NEVER not in told, f"   {told}")
-
-
-def try_files(trial):
-    """Files that can't be read, a header that is skipped, and a top task that is not there."""
-    folder = trial.folder.name
+def try_other_files(trial):
+    """Files of another sort than the command takes, or that can't be read, a header that is skipped, a top task that is not there, and a dump's name behind `--vcd`."""
     trial.put("k.h", "const int LANES = 4;\n")
-    path = trial.put("e.cpp", '#include "k.h"\nvoid F(int n) { n = LANES; }\nvoid Top(int n) { tapa::task().invoke(F, n); }\n')
-    for words, wanted in (
-        (["run", path, "Top"], "`LANES` is declared in `k.h`, and `#include` lines are skipped"),
-        (["run", trial.put("t.cpp", "void F(int n) { }\nvoid Top(int n) { tapa::task().invoke(F, n); }\n"), "top"], "the source has no task `top`: its tasks are `F` and `Top`"),
-        (["run", f"{folder}/none.cpp", "T"], f"there is no file `{folder}/none.cpp`"),
-        (["run", folder, "T"], "is a folder"),
-    ):
-        _, told = explained(trial, words)
-        trial.check(f"the explanation of `tapa {' '.join(words)}`", wanted in told and NEVER not in told, f"   {told}")
-    path = trial.put("e.cpp", DATA_TOP)
-    _, told = explained(trial, ["run", path, "T", f"{folder}/none.json"])
-    trial.check("a missing data file leads to the template", f"`tools/template.py {path} T > {folder}/none.json`" in told, f"   {told}")
+    texts = {"source": PLAN_TOP, "leaf": "void F(int n) { }\n", "empty": "", "top": "void F(int n) { }\nvoid Top(int n) { tapa::task().invoke(F, n); }\n", "data_source": DATA_TOP,
+             "header": '#include "k.h"\nvoid F(int n) { n = LANES; }\nvoid Top(int n) { tapa::task().invoke(F, n); }\n'}
+    paths = {name: trial.put(f"{name}.cpp", text) for name, text in texts.items()}
+    paths |= {"folder": trial.folder.name, "data": trial.put("e.json", '{"scalars": {"rows": 3}}'), "text": trial.put("e.v", trial.run(["build", paths["source"], "T"]).out)}
+    paths["dump"] = trial.put("e.vcd", trial.run(["cosim", paths["text"], "--vcd"]).out)
+    for words, wanted in json.loads(read("tests/cases/explanations/files.json")):
+        trial.check_that(f"the explanation of `tapa {words}`", explained(trial, words.format(**paths).split()), lambda _, told: wanted.format(**paths) in told and NEVER not in told)
 
 
 def try_fronts(trial):
@@ -218,17 +189,3 @@ def try_fronts(trial):
     for line in ("tapa: ", "tapa: x", "tapa: a:1:2: Z9 x", "tapa: a:99999999999999999999:2: C1 x", "", "\udcff", "tapa: A$0 waits to read ", "tapa: usage: x"):
         lines = explaining.Explainer(explaining.Command(None)).safely(line)
         trial.check(f"a line like {line!r} is passed", not any(NEVER in it for it in lines) and (messages.parse(line) is not None or not lines))
-
-
-def try_all(trial):
-    try_constructs(trial)
-    try_faulty(trial)
-    try_legal(trial)
-    try_words(trial)
-    try_data(trial)
-    try_plans(trial)
-    try_dumps(trial)
-    try_ends(trial)
-    try_files(trial)
-    try_other_sorts(trial)
-    try_fronts(trial)

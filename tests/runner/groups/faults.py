@@ -1,4 +1,4 @@
-"""What the system does to `build`, `plan` and `cosim`: full and cut outputs, closed pipes, pipes, folders and missing files as files, reads that fail, too little memory.
+"""What the system does to `build`, `plan` and `cosim`: full and cut outputs, closed pipes, missing files, folders and pipes as files, reads that fail, and too little memory.
 `tests/stress/faults.py PROGRAM` tries more."""
 import os
 
@@ -42,23 +42,18 @@ def try_refused(trial):
     """Each refusal with its status, and with status 6 where it cannot be told."""
     for line, words in REFUSED.items():
         status = 4 if "room" in line or "plan" in line else 3 if ": J" in line else 1
-        said = trial.run(words)
-        trial.check(f"{words} is refused", is_told(said, status, line.rstrip(" ")), f"   {said}")
+        trial.check_that(f"{words} is refused", trial.run(words), lambda said: is_told(said, status, line.rstrip(" ")))
         if ends.has_full(trial):
-            said = ends.full(trial, words, "stderr")
-            trial.check(f"standard error is full: {words}", (said.status, said.out) == (6, b""), f"   {said}")
+            trial.check_that(f"standard error is full: {words}", ends.full(trial, words, "stderr"), lambda said: (said.status, said.out) == (6, b""))
 
 
 def try_full(trial, words, whole):
     """The output is full, nobody reads it any more, or it ends after some bytes: status 6, and a front of the text."""
     if ends.has_full(trial):
-        said = ends.full(trial, words, "stdout")
-        trial.check(f"the output is full: {words}", is_unwritten(said), f"   {said}")
-    said = ends.unread(trial, words, "stdout")
-    trial.check(f"nobody reads the output: {words}", is_unwritten(said), f"   {said}")
+        trial.check_that(f"the output is full: {words}", ends.full(trial, words, "stdout"), is_unwritten)
+    trial.check_that(f"nobody reads the output: {words}", ends.unread(trial, words, "stdout"), is_unwritten)
     for most in (0, 1, len(whole) // 2, len(whole) - 1):
-        said = ends.cut(trial, words, most)
-        trial.check(f"the output ends after {most} bytes: {words}", said.status == 6 and whole.startswith(said.out) and len(said.out) <= most, f"   {said}")
+        trial.check_that(f"the output ends after {most} bytes: {words}", ends.cut(trial, words, most), lambda said: said.status == 6 and whole.startswith(said.out) and len(said.out) <= most)
 
 
 def try_undone(trial):
@@ -69,16 +64,14 @@ def try_undone(trial):
     trial.check_equal("a simulation past its cycles", (said.status, said.out, said.err), wanted)
     if ends.has_full(trial):
         trial.check("its report cannot be written", is_unwritten(ends.full(trial, words, "stdout")))
-        said = ends.full(trial, words, "stderr")
-        trial.check("its message cannot be written", (said.status, said.out) == (6, wanted[1]), f"   {said}")
+        trial.check_that("its message cannot be written", ends.full(trial, words, "stderr"), lambda said: (said.status, said.out) == (6, wanted[1]))
 
 
 def try_pipes(trial, words, whole):
     """Each file, and all at once, as a pipe: it is read once, whole, and in its turn."""
     files = [word for word in words if "." in word]
     for chosen in [*([file] for file in files), files]:
-        said = ends.piped(trial, words, chosen)
-        trial.check(f"{chosen} as pipes: {words}", is_told(said, 0, "", whole), f"   {said}")
+        trial.check_that(f"{chosen} as pipes: {words}", ends.piped(trial, words, chosen), lambda said: is_told(said, 0, "", whole))
 
 
 def try_unread(trial, words):
@@ -86,8 +79,7 @@ def try_unread(trial, words):
     for word in [word for word in words if "." in word]:
         for other in ("none", "/", *(["/proc/self/mem"] if os.path.exists("/proc/self/mem") else [])):
             named = [other if it == word else it for it in words]
-            said = trial.run(named)
-            trial.check(f"{named}", is_told(said, 5, f"tapa: cannot read {other}\n"), f"   {said}")
+            trial.check_that(f"{named}", trial.run(named), lambda said: is_told(said, 5, f"tapa: cannot read {other}\n"))
 
 
 def try_all(trial):

@@ -1,30 +1,15 @@
-"""What the gate answers where one of its parts fails, and the table of its seconds by `tests/measure/gate_seconds.py`."""
+"""What the gate answers if one of its parts fails, and the table of its seconds by `tests/measure/gate_seconds.py`."""
 import os
 import shutil
 import subprocess
 import sys
 from pathlib import Path
 
-from runner.trial import ROOT
+from runner.trial import ROOT, read
 
-LOG = """== tapa_base
-rt: tapa_base proved
-3 passed, 0 failed
-seconds: tapa_base edits 30.0
-seconds: tapa_base proof 60.5
-seconds: tapa_lex proof 100.0
-seconds: tapa_lex tests 0.4
-seconds: all wall 125
-"""
+LOG = read("tests/cases/files/gate.log")
 
-TABLE = """| crate | proof | tests | edits | all |
-|---|---|---|---|---|
-| tapa_lex | 100 | 0 | 0 | 100 |
-| tapa_base | 60 | 0 | 30 | 90 |
-| all | 160 | 0 | 30 | 191 |
-
-From begin to end: 2 minutes 5 seconds.
-"""
+TABLE = read("tests/cases/files/gate.md")
 
 
 def try_gate_seconds(trial):
@@ -32,8 +17,7 @@ def try_gate_seconds(trial):
     trial.check_equal("the table of seconds", trial.tool("../tests/measure/gate_seconds.py", "table", log)[1], TABLE)
     busy = "import time\nend = time.monotonic() + 2\nwhile time.monotonic() < end: pass\nprint('1 passed, 0 failed')\nraise SystemExit(3)"
     words = ["watch", log, sys.executable, "-c", busy, "--crate-name", "tapa_base", "x"]
-    status, out, err = trial.tool("../tests/measure/gate_seconds.py", *words)
-    trial.check("the watched command's output and status", (status, out) == (3, "1 passed, 0 failed\n"), err)
+    trial.check_that("the watched command's output and status", trial.tool("../tests/measure/gate_seconds.py", *words), lambda status, out, _: (status, out) == (3, "1 passed, 0 failed\n"))
 
 
 def run_gate(folder, gate, cases, has_program=True):
@@ -61,8 +45,3 @@ def try_gate(trial):
     for statuses, wanted in (((0, 0), 0), ((1, 0), 1), ((0, 1), 1), ((2, 1), 2)):
         trial.check_equal(f"the gate with the statuses {statuses}", run_gate(folder, *statuses), (wanted, every, False))
     trial.check_equal("the gate without a program", run_gate(folder, 0, 0, has_program=False), (1, ["rt ci"], True))
-
-
-def try_all(trial):
-    try_gate(trial)
-    try_gate_seconds(trial)

@@ -1,5 +1,5 @@
-"""500 sources changed at random, compared with a second recogniser (`runner/second/recogniser.py`) that has the productions and limits from docs/LANGUAGE.md alone: where each of
-the two says P1 or P2, or that the source is a file of the grammar. What the rules on names and kinds say of it is not looked at. `tests/stress/more.py PROGRAM grammar` tries more."""
+"""500 sources changed at random: a second recogniser, which has only the productions and limits of the page Language, reports P1 or P2 at the same places, or accepts the same
+sources. The recogniser is `runner/second/recogniser.py`. What the rules on names and kinds say of it is not looked at. `tests/stress/more.py PROGRAM grammar` tries more."""
 import glob
 import os
 import random
@@ -42,11 +42,6 @@ def words_of(text: bytes) -> Words:
 
 def text_of(words: Words) -> bytes:
     return "".join(gap + word for gap, word in words).encode("latin-1")
-
-
-def has_lexemes(words: Words) -> bool:
-    """Whether the lexer refuses none of these words."""
-    return all(map(is_lexeme, lexemes.every(text_of([(" ", word) for _, word in words]))))
 
 
 def is_lexeme(it: lexemes.Lexeme) -> bool:
@@ -101,7 +96,7 @@ def pieces() -> List[Words]:
         whole = words_of(text)
         parts = items(whole)
         found += [whole] + ([first + second for first, second in zip(parts, parts[1:])] + parts if len(whole) > LONG else [])
-    return [it for it in found if it and len(it) <= LONG and has_lexemes(it) and not has_arrays(it)]
+    return [it for it in found if it and len(it) <= LONG and all(map(is_lexeme, lexemes.every(text_of([(" ", word) for _, word in it])))) and not has_arrays(it)]
 
 
 class Changes:

@@ -1,8 +1,9 @@
-"""`plan --plan split` on random devices of both versions with pins and forbidden slots, each compared with the plan that lists of bits and rectangles of slots give in Python."""
+"""`plan --plan split` on random devices of both versions with pins and forbidden slots, each compared with a plan that Python finds with lists of bits and rectangles of slots."""
 import itertools
 import random
 
 from runner.groups.plans import TYPES, Case, check_none, check_plan, groups_of, source_of
+from runner.trial import each
 
 GRIDS = [(1, 1), (1, 2), (1, 3), (1, 4), (2, 1), (2, 2), (2, 4), (3, 1), (3, 3), (4, 2), (5, 1), (5, 3), (8, 1)]
 DEVICES = 300
@@ -18,9 +19,6 @@ class Region:
         row, col = divmod(slot, case.cols)
         return 0 <= row - self.row < self.height and 0 <= col - self.col < self.width
 
-    def open_slots(self, case):
-        return [slot for slot in range(case.slots) if self.has(case, slot) and slot not in case.forbidden]
-
     def parts(self, by_rows):
         """The region's two parts, or the region alone where it is not cut."""
         size = self.height if by_rows else self.width
@@ -35,7 +33,7 @@ class Region:
 def fits(case, regions):
     """Whether each group can be in the region that is given for it."""
     for region in set(regions):
-        free = region.open_slots(case)
+        free = [slot for slot in range(case.slots) if region.has(case, slot) and slot not in case.forbidden]
         needs = [case.need(group) for group, other in enumerate(regions) if other is region]
         for kind in range(5):
             if sum(need[kind] for need in needs) * 100 > case.percent * sum(case.capacity[slot][kind] for slot in free):
@@ -74,8 +72,7 @@ def levels_of(case):
 
 def halving(case):
     """The slot of each group, or the level at which no list fits."""
-    whole = Region(0, case.rows, 0, case.cols)
-    regions = [whole] * len(case.first)
+    regions = [Region(0, case.rows, 0, case.cols)] * len(case.first)
     if not fits(case, regions):
         return 0
     for level, by_rows in enumerate(levels_of(case), 1):
@@ -107,6 +104,7 @@ class Halved(Case):
         self.pins = {group: some.choice(free) for group in range(len(self.first)) if free and some.random() < 0.2}
 
 
+@each(range(DEVICES))
 def try_device(trial, seed):
     case = Halved(seed)
     trial.put("p.cpp", source_of(case.count, case.streams))
@@ -140,6 +138,7 @@ def slots_told(case, said):
     return {case.group[int(label.strip(":").split("$")[1])]: int(row) * case.cols + int(col) for _, label, row, col in words}
 
 
+@each(range(4))
 def try_full(trial, seed):
     case = Full(seed)
     trial.put("p.cpp", source_of(case.count, case.streams))
@@ -151,10 +150,3 @@ def try_full(trial, seed):
         check_plan(trial, name, case, said, found)
     else:
         trial.check(name, False, f"   {said}")
-
-
-def try_all(trial):
-    for seed in range(DEVICES):
-        try_device(trial, seed)
-    for seed in range(4):
-        try_full(trial, seed)

@@ -1,4 +1,4 @@
-"""Leaf tasks in RTL by hand (`measure/rtl/`), compared with the modules that `build` prints, in Icarus Verilog on random inputs: the same outputs in each of 2,000 cycles. A
+"""Leaf tasks in hand-written RTL (`measure/rtl/`), compared with the modules that `build` prints: in Icarus Verilog both have the same outputs in each of 2,000 random cycles. A
 changed module differs, so the comparison can fail."""
 import os
 import shutil

@@ -1,8 +1,10 @@
-"""Crates, functions, files, arguments, copies, comments and definitions that nothing names: what of the crates is not as CONTRIBUTING.md wants it is in `runner/exceptions.txt`,
-which may only get shorter (`tests/run.py house --shrink`). No crate without code but for laws, lines and meanings, small crates, functions and files, few arguments, no body twice, no
+"""The rules of the page Contributing on crates, functions, files, arguments, copies, comments and unused definitions: exceptions are in `runner/exceptions.txt`, which may only
+get shorter (`tests/run.py house --shrink`). No crate without code but for laws, lines and meanings, small crates, functions and files, few arguments, no body twice, no
 definition that nothing names, no comment that leans on another. `tests/run.py house` prints what is found."""
 import os
 import re
+from collections import Counter
+from pathlib import Path
 
 from runner.trial import ROOT, read
 
@@ -10,11 +12,6 @@ LINES, FILE, CRATE, ARGUMENTS = 40, 500, 1500, 8
 # Bodies of fewer letters are not looked at for copies.
 COPY = 80
 EXCEPTIONS = "tests/runner/exceptions.txt"
-
-
-def blank(text):
-    """A text with blanks in place of comments, strings and characters."""
-    return re.sub(r'//[^\n]*|b?"(?:\\.|[^"\\])*"|b?\'(?:\\.[^\']*|[^\'\\\n])\'', lambda it: " " * len(it[0]), text, flags=re.S)
 
 
 def closing(text, at, pair):
@@ -53,7 +50,7 @@ class Function:
 
 def functions(text):
     """The functions of a file; contracts stand between the head and the body."""
-    code = blank(text)
+    code = re.sub(r'//[^\n]*|b?"(?:\\.|[^"\\])*"|b?\'(?:\\.[^\']*|[^\'\\\n])\'', lambda it: " " * len(it[0]), text, flags=re.S)
     for head in re.finditer(r"\bfn\s+(\w+)\s*(?:<[^({]*>)?\s*\(", code):
         at = closing(code, head.end() - 1, "()")
         arguments = count_of(code[head.end():at - 1])
@@ -69,25 +66,16 @@ def functions(text):
             at = end
 
 
-def files(crate):
-    """The sources of a crate, each with its text."""
-    for folder, folders, names in os.walk(os.path.join(ROOT, "crates", crate, "src")):
-        folders.sort()
-        for name in sorted(names):
-            if name.endswith(".rt"):
-                path = os.path.relpath(os.path.join(folder, name), ROOT)
-                yield path, read(path)
+def files(crate, folder="src", ending=".rt"):
+    """The sources of a crate, or the files of another folder of it, each with its text."""
+    for path in sorted(Path(ROOT, "crates", crate, folder).rglob(f"*{ending}")):
+        yield str(path.relative_to(ROOT)), path.read_text(encoding="utf-8")
 
 
 def definitions(crate):
     """The definitions and proofs of a crate, each with its text."""
-    for part in ("specs", "proofs"):
-        for folder, folders, names in os.walk(os.path.join(ROOT, "crates", crate, part)):
-            folders.sort()
-            for name in sorted(names):
-                if name.endswith(".antt"):
-                    path = os.path.relpath(os.path.join(folder, name), ROOT)
-                    yield path, read(path)
+    for folder in ("specs", "proofs"):
+        yield from files(crate, folder, ".antt")
 
 
 def comments(text):
@@ -178,13 +166,7 @@ def listed():
 
 def without(some, others):
     """Those of a list that another does not have as often."""
-    left, rest = list(others), []
-    for it in some:
-        if it in left:
-            left.remove(it)
-        else:
-            rest.append(it)
-    return rest
+    return list((Counter(some) - Counter(others)).elements())
 
 
 def try_all(trial):

@@ -1,5 +1,6 @@
-"""Circuits in Icarus Verilog, where it is installed: the report of `cosim`, and the block RAM and the bus of docs/CIRCUIT.md and random memories, reset in the middle of runs,
-where what is asked of a memory stays until it is ready (`tools/check_memories.py`). `tests/stress/memories.py PROGRAM` tries more random programs."""
+"""Circuits in Icarus Verilog, if it is installed: the report of `cosim`, and circuits with the block RAM and the bus of the page Circuit and with random memories
+(`tools/check_memories.py`). The circuits are reset in the middle of runs, and what is requested of a memory stays until it is ready. `tests/stress/memories.py PROGRAM` tries
+more random programs."""
 import re
 import shutil
 
@@ -18,8 +19,7 @@ def try_report(trial):
     words = ["icarus.py", text, "examples/vector_add.json", "--dump", f"{folder}/i.vcd", "--bench", f"{folder}/bench.v"]
     trial.check_equal("icarus.py prints what cosim prints", trial.tool(*words)[1], said)
     for name, word in (("i.vcd", " at_3 "), ("bench.v", "$dumpvars")):
-        with open(f"{folder}/{name}", encoding="utf-8") as file:
-            trial.check(f"icarus.py writes {name}", word in file.read())
+        trial.check(f"icarus.py writes {name}", word in read(f"{folder}/{name}"))
     bad = trial.put("bad.json", '{"scalars": {"n": 1}, "memories": {"a": 3}}')
     for given, wanted in (([text], "{}: scalars has no n, a number, which the circuit takes"), ([text, bad], f"{bad}: memories has no a, a list of numbers, which the circuit takes"),
                           ([text, text], f"{text}:1:1: no JSON: Expecting value"), ([bad], "this is no circuit that `tapa build` wrote: it has no module")):
@@ -44,8 +44,7 @@ def try_memories(trial):
     status, out, err = trial.tool("../tests/stress/memories.py", trial.program, "--programs", "4")
     trial.check("random programs with other memories", (status, out) == (0, "8 circuits, 0 runs otherwise\n"), out + err)
     words = ["examples/vector_add.cpp", "VecAdd", "examples/vector_add.json"]
-    text = trial.run(["build", *words[:2]], ROOT).out.decode()
-    gated = re.sub(r"assign addr_0 = (.*?) ;", r"assign addr_0 = ack_0 ? \1 : 64'd0 ;", text)
+    gated = re.sub(r"assign addr_0 = (.*?) ;", r"assign addr_0 = ack_0 ? \1 : 64'd0 ;", trial.run(["build", *words[:2]], ROOT).out.decode())
     status, out, err = trial.tool("check_memories.py", trial.program, *words, "--text", trial.put("gated.v", gated.encode()), "--memories", "random")
     trial.check("an address that comes only with ack is seen", (status, "bad a is asked for something else while it waits" in out) == (1, True), out + err)
 

@@ -1,29 +1,15 @@
-"""`tools/install` in an empty folder, the page of `man`, both completions, pages as HTML, and an archive of a release, made twice and unpacked."""
+"""`tools/install` in an empty folder, the manual page, both completions, pages as HTML, and an archive of a release, made twice and unpacked."""
 import os
 import re
+import shlex
 import shutil
 import subprocess
 import sys
 import tarfile
 
 from runner import prose
+from runner.groups.sources import table
 from runner.trial import ROOT, read
-
-# Words before the cursor, the last of which is completed, and what completes it.
-COMPLETED = (
-    (["vtapa", ""], "run build plan cosim vcd gen"),
-    (["vtapa", "co"], "cosim"),
-    (["vtapa", "run", "examples/vector_a"], "examples/vector_add.cpp"),
-    (["vtapa", "--e"], "--explain"),
-    (["vtapa", "--explain", "co"], "cosim"),
-    (["vtapa", "--explain", "plan", "examples/vector_add.cpp", "VecAdd", "examples/vec"], "examples/vector_add.json"),
-    (["vtapa", "run", "examples/vector_add.cpp", ""], "Add Mmap2Stream Stream2Mmap VecAdd"),
-    (["vtapa", "run", "--workers", "3", "examples/vector_add.cpp", "V"], "VecAdd"),
-    (["vtapa", "plan", "examples/vector_add.cpp", "VecAdd", "examples/vec"], "examples/vector_add.json"),
-    (["vtapa", "build", "--plan", ""], "fit exact split"),
-    (["vtapa", "build", "examples/vector_add.cpp", "VecAdd", "--d"], "--device"),
-    (["vtapa", "cosim", "x.v", "--"], "--cycles --vcd"),
-)
 
 
 def run(trial, words, folder=ROOT, **environment):
@@ -43,6 +29,8 @@ def try_install(trial):
     trial.check_equal("the installed command runs", (status, out, err), (0, read("examples/vector_add.out"), wanted))
     status, out, err = run(trial, [f"{prefix}/bin/vtapa", "--explain", "run", "x.cpp", "T", "--stps"], f"{prefix}/lib/vtapa")
     trial.check("the installed command says its own name", status == 2 and "      = vtapa run SRC TOP" in err and "`run` has no option `--stps`" in err and " tapa run" not in err, err)
+    status, out, err = run(trial, [f"{prefix}/lib/vtapa/tools/graph.py", "--help"])
+    trial.check("the help of an installed script names the command and itself", f"    vtapa build SRC TOP > F.v && {prefix}/lib/vtapa/tools/graph.py F.v > F.svg\n" in out and "./tapa" not in out, out + err)
     code = "from vechaqir import find; print(find().path)"
     found = subprocess.run([sys.executable, "-B", "-c", code], cwd=f"{prefix}/lib/vtapa/tools", capture_output=True, text=True, check=False, env={key: it for key, it in os.environ.items() if key != "TAPA"})
     trial.check_equal("its module finds its program", found.stdout.strip(), f"{prefix}/lib/vtapa/program/tapa")
@@ -70,9 +58,10 @@ def try_bash(trial, prefix):
         trial.note("there is no bash here, so its completion was not tried")
         return
     script = 'source "$0"; COMP_WORDS=("$@"); COMP_CWORD=$(($# - 1)); _tapa; echo "${COMPREPLY[*]}"; complete -p vtapa >&2'
-    for words, wanted in COMPLETED:
-        status, out, err = run(trial, ["bash", "-c", script, f"{prefix}/share/bash-completion/completions/vtapa", *words])
-        trial.check_equal(f"bash completes {' '.join(words)}", (out.strip(), "vtapa" in err), (wanted, True))
+    for row in table("tests/cases/files/completed.rows")[1]:
+        words, _, wanted = row.partition("  =>  ")
+        status, out, err = run(trial, ["bash", "-c", script, f"{prefix}/share/bash-completion/completions/vtapa", *shlex.split(words)])
+        trial.check_equal(f"bash completes {words}", (out.strip(), "vtapa" in err), (wanted, True))
 
 
 def try_zsh(trial, prefix):
@@ -129,6 +118,10 @@ def try_html(trial):
         text = re.sub(r"^```.*?^```", "", read(name), flags=re.M | re.S)
         headings = len(re.findall(r"^#+ ", text, re.M))
         trial.check(f"{name} as HTML", (status, err) == (0, "") and len(re.findall(r"<h[1-6] ", out)) == headings and "\n|" not in out, f"   {headings} {err[:200]}")
+    odd = trial.put("odd.md", f"# a\n #b\n#c\n\t*x*\n####### d\n|---|\n\n{'[' * 100_000}\n\n# {'[' * 100_000}\n{'[a](' * 50_000}\n\n{'![' * 50_000}\n")
+    ran = subprocess.run([sys.executable, "tools/manual.py", "html", odd], cwd=ROOT, capture_output=True, text=True, timeout=60, check=False)
+    parts = ('<h1 id="a">a</h1>', "<p> #b</p>", "<p>#c</p>", "<p>\t<i>x</i></p>", "<p>####### d</p>", f"<p>{'[' * 100_000}</p>")
+    trial.check_equal("a page with odd lines as HTML", ([it for it in parts if it not in ran.stdout], ran.returncode, ran.stderr), ([], 0, ""))
 
 
 def try_all(trial):

@@ -1,21 +1,14 @@
-"""What registers on wires change, and what they do not: two plans of `examples/too_shallow.cpp`, the cells of a circuit that is done though `run` stops, and `done` in the last
-cycle that late answers allow, with detached readers; where Yosys is installed, that synthesis keeps the registers of each latency from 1 to 16."""
+"""What registers on wires change and what they do not change: two plans of `examples/too_shallow.cpp`, a circuit that is done although `run` stops, and the bounds on `done`. The
+bound on `done` is reached by late answers, with detached readers; if Yosys is installed, synthesis keeps the registers of each latency from 1 to 16."""
 import json
 import re
 import shutil
 import subprocess
 
-from runner.trial import ROOT
+from runner.trial import ROOT, read
 
 SHALLOW = ["examples/too_shallow.cpp", "TooShallow"]
-STOPS = """void Producer(tapa::ostream<int>& data, tapa::ostream<int>& ready) { data << 1; data << 2; ready << 3; }
-void Consumer(tapa::istream<int>& data, tapa::istream<int>& ready, tapa::mmap<int> m) { m[0] = ready.read(); m[1] = data.read(); m[2] = data.read(); }
-void T(tapa::mmap<int> m) {
-  tapa::stream<int, 1> data;
-  tapa::stream<int, 1> ready;
-  tapa::task().invoke(Producer, data, ready).invoke(Consumer, data, ready, m);
-}
-"""
+STOPS = read("tests/cases/files/stops.cpp")
 READER = "void Reader(tapa::mmap<const int> m) { while (true) { int x = m[0]; } }\n"
 MOST = 16
 
@@ -45,8 +38,7 @@ def try_plans(trial):
 def try_cells(trial):
     """Cells at `done` are the same with every added latency, though `run` stops and a circuit without it goes on for ever."""
     source, data = trial.put("stops.cpp", STOPS), trial.put("d.json", '{"memories": {"m": [0, 0, 0]}}')
-    ran = trial.run(["run", source, "T", data])
-    trial.check("a run that stops stores nothing", ran.status == 8 and b"memory m: 0 0 0\n" in ran.out, f"   {ran}")
+    trial.check_that("a run that stops stores nothing", trial.run(["run", source, "T", data]), lambda ran: ran.status == 8 and b"memory m: 0 0 0\n" in ran.out)
     for levels in (0, 1, 3, 8, MOST):
         text = planned(trial, source, "T", levels, {"Producer$0": 0, "Consumer$1": 1})
         said = trial.run(["cosim", text, data, "--cycles", "1000"])
@@ -111,17 +103,9 @@ def try_registers(trial):
     if ran.returncode != 0:
         trial.check("yosys reads channels of each latency", False, f"   {ran.stderr}")
         return
-    with open(f"{trial.folder.name}/every.json", encoding="utf-8") as file:
-        modules = json.load(file)["modules"]
+    modules = json.loads(read(f"{trial.folder.name}/every.json"))["modules"]
     for late in range(1, MOST + 1):
         cells = modules.get(f"\\channel_9_2_{late}", {}).get("num_cells_by_type", {})
         registers = sum(count for name, count in cells.items() if name.startswith("FD"))
         shifts = sum(count for name, count in cells.items() if name.startswith("SRL"))
         trial.check(f"the registers of a channel with latency {late}", (registers >= 11 * late, shifts) == (True, 0), f"   {cells}")
-
-
-def try_all(trial):
-    try_plans(trial)
-    try_cells(trial)
-    try_bound(trial)
-    try_registers(trial)

@@ -1,39 +1,72 @@
-"""The page of `tools/look.py` of each example and of a network of 512 tasks: in Chromium by `chromedriver`, where they are installed, it loads without an error and within two
-seconds of a processor, draws what its data say, and follows clicks and keys."""
+"""The page of `tools/look.py` for each example, for nested tasks and for 512 tasks, in Chromium if it is installed: it draws its data, and no text is over another one or under an
+arrow. It loads quickly, follows clicks and keys, and takes less than two seconds of CPU time. The widths are 1,400 and 1,920 pixels."""
+import contextlib
 import json
 import os
 import re
+from unittest import mock
 
 from runner import browser
 
 from runner.groups import networks
-from runner.trial import first_words, sources
+from runner.trial import first_words, read, sources
 
 # The most bytes of a page, and the most seconds of a processor until it is shown.
 MOST_BYTES, MOST_SECONDS = 16_777_216, 2
 LAYERS = 126
 
-COUNTS = """return {
-  ready: document.documentElement.dataset.ready,
-  title: document.querySelector('#title').textContent,
-  facts: document.querySelector('#facts').textContent,
-  tasks: document.querySelectorAll('#graph .whole .task rect').length,
-  wires: document.querySelectorAll('#graph .whole .wire .line').length,
-  uppers: document.querySelectorAll('#graph .whole .upper rect').length,
-  memories: document.querySelectorAll('#graph .whole .memory rect').length,
-  circle: document.querySelectorAll('#graph .whole .circle').length,
-  lines: document.querySelectorAll('#code tr').length,
-  slots: document.querySelectorAll('#floor .slot').length,
-  chips: document.querySelectorAll('#floor .chip').length,
-  report: document.querySelectorAll('#told tr').length - 1,
-  told: document.querySelector('#told').textContent,
-  bound: document.querySelector('#why').textContent,
-  colours: (() => { const it = document.querySelector('#tracks canvas'), found = new Set(), data = it.getContext('2d').getImageData(0, 0, it.width, it.height).data;
-    for (let at = 0; at < data.length; at += 4) found.add(data[at] << 16 | data[at + 1] << 8 | data[at + 2]); return found.size; })(),
-}"""
+COUNTS, OVERLAPS = read("tests/runner/counts.js"), read("tests/runner/overlaps.js")
 CLICK = """const task = document.querySelector('#graph .whole .task[data-name="%s"]');
 task.dispatchEvent(new MouseEvent('click', {bubbles: true}));
 return [document.querySelector('#detail').textContent, document.querySelectorAll('#graph .whole .wire.near').length, task.classList.contains('chosen')];"""
+# How a page is shown when its overlaps are looked for, each after the one before.
+STATES = {
+    "as it opens": "", "unfolded": "showView('whole')", "dark, with a task selected": "changeTheme(); choose(D.tasks[D.tasks.length >> 1].label)",
+    "with its network at full size": "byId('detail').style.display = 'none'; const view = views[shownView], it = byId('graph').style; it.width = `${view.width}px`; it.height = `${view.height}px`; view.fit();",
+}
+
+
+def nested():
+    """A program of 80 tasks, 72 of them in nine upper-level tasks with two in each, and a device with a place for each task."""
+    ends = [f"{letter}{place}" for place in range(4) for letter in "ab"]
+    inner = [f".invoke(Mid, x_a{at}, x_b{(at + 3) % 4}, y_a{at}, y_b{at})" for at in range(4)]
+    ports = ", ".join([f"tapa::{kind}<uint64_t>& {front}_{end}" for kind, front in (("istream", "x"), ("ostream", "y")) for end in ends])
+    passed = [", ".join(f"{front}_{end}" for end in ends) for front in ("x", "middle_of_the_stage", "y")]
+    streams = [f"tapa::stream<uint64_t> s{at}_{end};" for at in range(10) for end in ends]
+    chain = [f".invoke(Src, s0_a{at}, s0_b{at})" for at in range(4)]
+    chain += [f".invoke(TwoLayers, {', '.join(f's{at + more}_{end}' for more in (0, 1) for end in ends)})" for at in range(9)]
+    chain += [f".invoke(Dst, s9_a{at}, s9_b{(at + 3) % 4})" for at in range(4)]
+    stage = "".join(f"tapa::stream<uint64_t> middle_of_the_stage_{end}; " for end in ends) + f"tapa::task().invoke(Layer, {passed[0]}, {passed[1]}).invoke(Layer, {passed[1]}, {passed[2]});"
+    return f"{networks.TASKS}void Layer({ports}) {{ tapa::task(){''.join(inner)}; }}\nvoid TwoLayers({ports}) {{ {stage} }}\nvoid Nested() {{ {' '.join(streams)} tapa::task(){''.join(chain)}; }}\n"
+
+
+def pinned(stages=9):
+    """The device U280 with a place for each of these tasks: two stages in each slot, from the upper left one on."""
+    device = json.loads(read("examples/devices/u280.json"))
+    pins = {f"Src${at}": [0, 0] for at in range(4)}
+    pins.update({f"TwoLayers${at + 4}$Layer${layer}$Mid${place}": [at // 4, at // 2 % 2] for at in range(stages) for layer in range(2) for place in range(4)})
+    return json.dumps({**device, "pins": {**pins, **{f"Dst${stages + 4 + at}": [2, 0] for at in range(4)}}})
+
+
+@contextlib.contextmanager
+def without_graphviz(trial):
+    """The first `dot` on the PATH is one that fails."""
+    os.chmod(trial.put("dot", "#!/bin/sh\nexit 1\n"), 0o755)
+    with mock.patch.dict(os.environ, PATH=f"{trial.folder.name}:{os.environ['PATH']}"):
+        yield
+
+
+def try_overlaps(trial, shown, name, path):
+    for width in (1400, 1920):
+        shown.resize(width)
+        shown.open(path)
+        for state, script in STATES.items():
+            if state == "unfolded" and not shown.run("return !!D.folded"):
+                continue
+            shown.run(script)
+            found = shown.run(OVERLAPS)
+            trial.check(f"the page of {name} {state}, {width} pixels wide, has no overlap", found["count"] == 0 and found["texts"] > 100, "".join(f"   {it}\n" for it in found["found"][:10]))
+    shown.resize(1400)
 
 
 def page_of(trial, name, words):
@@ -64,6 +97,7 @@ def try_page(trial, shown, name, words):
     trial.check(f"the page of {name} shows time, the end and the report", has["colours"] > 5 and str(data["cycles"] if data["done"] else "") in has["facts"] and data["run"]["end"] in has["told"], f"   {has}")
     trial.check(f"the page of {name} is quick", seconds < MOST_SECONDS, f"   {seconds} seconds")
     try_click(trial, shown, name, data)
+    try_overlaps(trial, shown, name, path)
     return has
 
 
@@ -71,13 +105,17 @@ def try_click(trial, shown, name, data):
     """A click on a task shows its streams."""
     task = data["tasks"][-1]["label"]
     own = [it["name"] for it in data["streams"] if task in (it["writer"], it["reader"])]
-    text, near, is_chosen = shown.run(CLICK % task)
-    trial.check(f"a click on {task} of {name}", is_chosen and near == len(own) and all(it in text for it in [task, *own]), f"   {text} {near}")
+    trial.check_that(f"a click on {task} of {name}", shown.run(CLICK % task), lambda text, near, is_chosen: is_chosen and near == len(own) and all(it in text for it in [task, *own]))
 
 
 def try_keys(trial, shown):
     """Keys go to sections, zoom, choose and change the colours."""
     path, _ = page_of(trial, "vector_add", ["examples/vector_add.cpp", "VecAdd", "examples/vector_add.json", "--device", "examples/devices/two_slots.json"])
+    shown.open(path)
+    shown.run("const [name, facts] = document.querySelectorAll('#graph .named text'); facts.setAttribute('y', name.getAttribute('y'))")
+    shown.run("const it = document.querySelector('#graph .whole .task text'); document.querySelector('#graph .whole .wire path.line').setAttribute('d', `M0 ${it.getAttribute('y') - 3} H2000`)")
+    found = " ".join(shown.run(OVERLAPS)["found"])
+    trial.check("a text over another one and one under an arrow are found", "lies over" in found and "lies under the arrow" in found, f"   {found}")
     shown.open(path)
     shown.press("4")
     trial.check_equal("a key goes to a section", shown.run("return document.activeElement.id"), "source")
@@ -98,6 +136,10 @@ def try_pages(trial, shown):
         has = try_page(trial, shown, os.path.basename(path), [*first_words(path), "--device", f"examples/devices/{device}.json"])
         if has and path == "examples/too_shallow.cpp":
             trial.check("a deadlock is shown", "A deadlock: Producer$0" in has["bound"] and has["circle"] == 2, f"   {has['bound']}")
+    words = [trial.put("nested.cpp", nested()), "Nested", "--device", trial.put("pinned.json", pinned())]
+    try_page(trial, shown, "nested tasks", words)
+    with without_graphviz(trial):
+        try_page(trial, shown, "nested tasks without Graphviz", words)
     trial.put("gen.cpp", networks.network(LAYERS))
     try_page(trial, shown, "a network of 512 tasks", [os.path.join(trial.folder.name, "gen.cpp"), "Gen"])
 
@@ -108,5 +150,5 @@ def try_all(trial):
             try_pages(trial, shown)
             try_keys(trial, shown)
     else:
-        trial.note("there is no Chromium with chromedriver here, so pages were made and not shown")
+        trial.note("there is no Chromium here, so pages were made and not shown")
         try_pages(trial, None)

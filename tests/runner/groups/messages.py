@@ -1,4 +1,4 @@
-"""Every line that the program reported in the other groups is in docs/COMMAND.md, every message there was reported, and the texts in the code are there."""
+"""Messages: every line that the program reported in the other groups is in the page Command, every message there was reported, and the texts in the code are there."""
 import os
 import re
 

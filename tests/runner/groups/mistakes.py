@@ -1,5 +1,5 @@
-"""Mistakes of designers (`cases/mistakes/`): what a pipe shows of each, what a terminal and `--explain` show, and the text of the module's exception, which pytest shows. `tests/run.py write mistakes PROGRAM` records them anew, to be read."""
-import contextlib
+"""Mistakes of designers (`cases/mistakes/`): what a pipe shows of each, what a terminal and `--explain` show, and the text of the module's exception, which pytest shows.
+`tests/run.py write mistakes PROGRAM` records them anew, to be read."""
 import glob
 import json
 import os
@@ -21,8 +21,8 @@ from vechaqir.host.program import Program
 PARTS = ("pipe", "terminal", "pytest")
 # Of each so many mistakes one is shown by `./tapa --explain` and on a terminal too, and not only by what they call.
 EACH = 12
-TEST = """import vechaqir
-
+RAISED = ("vechaqir.Refused: ", "vechaqir.Stopped: ")
+TEST = """
 def test_{at}():
     vechaqir.Design({source!r}, {top!r}).run({scalars!r}, {memories!r})
 """
@@ -146,34 +146,34 @@ def try_shown(trial, mistake, at):
 
 
 def try_pytest(trial, found):
-    """pytest shows the text of the exception, line by line."""
+    """pytest shows the text of each exception, line by line."""
     python = interpreter_with("pytest")
     if not python:
         trial.note("there is no pytest here, so what it shows was not tried")
         return
     folder = os.path.join(trial.folder.name, "pytest")
-    os.makedirs(folder, exist_ok=True)
-    for mistake in found:
-        mistake.put(folder)
-    with contextlib.chdir(folder) if hasattr(contextlib, "chdir") else contextlib.nullcontext():
-        given = inputs(found[0].words[3:4]) or ({}, {})
-    test = TEST.format(at=0, source=os.path.join(folder, "F.cpp"), top=found[0].words[2], scalars=given[0], memories=given[1])
-    path = os.path.join(folder, "test_mistake.py")
-    Path(path).write_text(test, encoding="utf-8")
+    chosen = [it for it in found if it.words[:1] == ["run"] and it.kept["pytest"].startswith(RAISED) and not any(word.startswith("--") for word in it.words)]
+    tests = ["import vechaqir\n"]
+    for at, mistake in enumerate(chosen):
+        home = os.path.join(folder, str(at))
+        os.makedirs(home)
+        mistake.put(home)
+        scalars, memories = inputs([os.path.join(home, it) for it in mistake.words[3:4]]) or ({}, {})
+        tests.append(TEST.format(at=at, source=os.path.join(home, mistake.words[1]), top=mistake.words[2], scalars=scalars, memories=memories))
+    path = os.path.join(folder, "test_mistakes.py")
+    Path(path).write_text("".join(tests), encoding="utf-8")
     environment = {**os.environ, "TAPA": trial.program, "PYTHONPATH": os.path.join(ROOT, "tools"), "PYTHONDONTWRITEBYTECODE": "1"}
     ran = subprocess.run([python, "-m", "pytest", "-q", "-p", "no:cacheprovider", path], cwd=folder, env=environment, capture_output=True, text=True, check=False)
-    shown = [line[len("E "):].strip() for line in ran.stdout.splitlines() if line.startswith("E ")]
-    wanted = [line.strip() for line in found[0].kept["pytest"].splitlines()]
-    trial.check_equal(f"pytest shows {found[0].name}", [plain(it).replace(f"{folder}/", "") for it in shown], wanted)
+    parts = re.split(r"^_+ test_(\d+) _+$", ran.stdout, flags=re.M)
+    shown = dict(zip(map(int, parts[1::2]), parts[2::2]))
+    for at, mistake in enumerate(chosen):
+        lines = [plain(line[len("E "):].strip()).replace(os.path.join(folder, str(at), ""), "") for line in shown.get(at, "").splitlines() if line.startswith("E ")]
+        trial.check_equal(f"pytest shows {mistake.name}", lines, [line.strip() for line in mistake.kept["pytest"].splitlines()])
 
 
 def try_all(trial):
-    count = 0
-    for path in paths():
-        found = mistakes(path)
-        for mistake in found:
-            try_shown(trial, mistake, count)
-            count += 1
-        if path.endswith("runs.cases"):
-            try_pytest(trial, found[:1])
-    trial.check("there are 69 mistakes", count >= 69, f"   {count}")
+    found = [mistake for path in paths() for mistake in mistakes(path)]
+    for at, mistake in enumerate(found):
+        try_shown(trial, mistake, at)
+    try_pytest(trial, found)
+    trial.check("there are 69 mistakes", len(found) >= 69, f"   {len(found)}")

@@ -1,5 +1,5 @@
-"""The module `vechaqir`: `tests/cases/python/` by pytest, or by unittest where that is missing, with the gallery compared with plain Python and numpy, by `run` and by circuits;
-the script, the sessions and the property test of docs/PYTHON.md; `mypy --strict`."""
+"""The Python module `vechaqir`: the tests in `tests/cases/python/`, with the gallery compared with plain Python and numpy, the script, the sessions and the property test of the
+page Python, and `mypy --strict`. pytest runs the tests, or unittest if pytest is not installed."""
 import os
 import re
 import shutil
@@ -68,8 +68,7 @@ def try_gallery_table(trial):
         plan = trial.run(["plan", source, top, "examples/devices/two_halves.json", "--plan", "split"], ROOT)
         trial.check(f"{name}: the cost of its plan", f"\ncost {cost}\n" in plan.out.decode(), f"   {plan}")
         text = trial.put("g.v", trial.run(["build", source, top], ROOT).out)
-        said = trial.run(["cosim", text, f"examples/{name}.json"], ROOT)
-        trial.check(f"{name}: its cycles", said.out.decode().endswith(f"\ndone {cycles}\n"), f"   {said}")
+        trial.check_that(f"{name}: its cycles", trial.run(["cosim", text, f"examples/{name}.json"], ROOT), lambda said: said.out.decode().endswith(f"\ndone {cycles}\n"))
 
 
 def try_types(trial):
@@ -79,11 +78,3 @@ def try_types(trial):
         return
     ran = subprocess.run([mypy, "--config-file", "tools/pyproject.toml", "--strict", "--cache-dir=/dev/null", "tools/vechaqir"], cwd=ROOT, capture_output=True, text=True, check=False)
     trial.check("mypy --strict of tools/vechaqir", ran.returncode == 0, ran.stdout[-3000:] + ran.stderr[-1000:])
-
-
-def try_all(trial):
-    try_tests(trial)
-    try_examples(trial)
-    try_page(trial)
-    try_gallery_table(trial)
-    try_types(trial)

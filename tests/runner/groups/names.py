@@ -1,5 +1,5 @@
-"""What `tools/names.py` says of registers, states and lines, of the examples, of `cases/circuits/` and of random tasks: compared with the text that `build` writes, with a dump
-of `cosim` in each cycle, and with the registers themselves where Icarus Verilog is installed."""
+"""What `tools/names.py` says of registers, states and lines, for the examples and for random tasks: compared with the text that `build` writes, and with a dump of `cosim` in
+each cycle. The registers themselves are compared, too, if Icarus Verilog is installed."""
 import json
 import os
 import re
@@ -7,15 +7,17 @@ import shutil
 
 from runner.groups import networks
 from runner.made import leaves
+from runner.made.handmade import module_of
 from runner.trial import ROOT, first_words, read, sources as paths
 from vechaqir.host import dump
 from vechaqir.language import source
-from vechaqir.machine import run as machine_run
+from vechaqir.machine import names, run as machine_run
 
 # Random leaf tasks, those of them that Icarus Verilog runs too, and the most cycles of each.
 COUNT, IN_ICARUS, CYCLES = 60, 12, "400"
 # The layers of a network of 512 tasks, which is followed to its end.
 LAYERS = 126
+DEVICES = [f"examples/devices/{name}.json" for name in ("two_halves", "two_dies", "u280")]
 # What a state waits for, by its act: the net's front, with the number of its stream or memory.
 WAITS = {"read": "datum", "peek": "datum", "eot": "has", "open": "eot", "write": "rdy", "close": "rdy", "load": "ack", "store": "ack"}
 
@@ -30,10 +32,6 @@ def sources():
         else:
             top, _, data = text.split("\n")[0].removeprefix("// ").partition(" ")
             yield path, text, top, data or "{}"
-
-
-def module_of(text, name):
-    return re.search(rf"^module {re.escape(name)} .*?^endmodule$", text, re.M | re.S)[0]
 
 
 def in_text(body):
@@ -91,8 +89,7 @@ def try_source(trial, name, text, top, data, with_icarus, cycles=CYCLES):
 def compared_with_cosim(trial, name, has, network, circuit, data, cycles):
     """Each cycle of a dump of `cosim` shows what the machines do, and at the end they have made the ticks of the run."""
     said = trial.run(["cosim", circuit, data, "--vcd", "--cycles", cycles])
-    dumped = dump.read(trial.put("n.vcd", said.out))
-    run = machine_run.Run(has, network, dumped)
+    run = machine_run.Run(has, network, dump.read(trial.put("n.vcd", said.out)))
     ticks, told = 0, ""
     try:
         for _ in run.cycles():
@@ -123,12 +120,33 @@ def compared_with_icarus(trial, name, has, network, circuit, data):
     trial.check(f"registers of {name} in Icarus Verilog", compared > 0 and not told, "\n".join(told[:5]))
 
 
+def unprinted(table, text):
+    """The names of a table that the printed text does not have, each in its module."""
+    words = {name: set(module_of(text, name).split()) for name in re.findall(r"^module (t_\S+)", text, re.M)}
+    for module in table["modules"]:
+        nets = [it["net"] for it in module["registers"] + module["arrays"]] + " ".join(it["nets"] for it in module["ports"]).split()
+        yield from (f"{module['module']}.{net}" for net in nets if net not in words[module["module"]])
+    nets = [it[key] for it in table["instances"] for key in ("instance", "module", "ended")]
+    nets += [net for it in table["channels"] for net in (it["instance"], *(it["nets"].replace("*", end) for end in ("din", "wr", "rdy", "has", "take", "dout")))]
+    yield from (f"{table['module']}.{net}" for net in nets if net not in words[table["module"]])
+
+
+def try_printed(trial, name, text, top):
+    """Each name of the table is in the printed text, without a device and on each one on which the source has room."""
+    trial.put("n.cpp", text)
+    has = source.parse(text.encode(), name)
+    table = names.table(has, source.network(has, top))
+    for device in ("", *DEVICES):
+        built = trial.run(["build", "n.cpp", top, *(["--device", os.path.join(ROOT, device)] if device else [])])
+        trial.check(f"names of {name} on {device or 'no device'}", built.status in (3, 4) if device and built.status else not list(unprinted(table, built.out.decode())), f"   {built}")
+
+
 def try_tool(trial):
     """The table, the save file for GTKWave with its translate files, and the waveform by the source's names."""
     words = ("examples/vector_add.cpp", "VecAdd")
     shown = trial.tool("names.py", *words)[1]
     trial.check("the table has registers, states and channels", all(line in shown for line in (
-        "x_1                  i                uint64_t  variable   8:17", "state 2  8:44  read a: a.read()", "c_a_q  s_a_q_*  int, depth 2  Mmap2Stream$0 -> Add$2")), shown)
+        "x_1                  i                    uint64_t  variable   8:17", "state 2  8:44  read a: a.read()", "c_a_q  s_a_q_*  int, depth 2  Mmap2Stream$0 -> Add$2")), shown)
     made = json.loads(trial.tool("names.py", *words, "--json")[1])
     trial.check_equal("the table as JSON", (made["module"], [it["module"] for it in made["modules"]]), ("t_VecAdd", ["t_Mmap2Stream", "t_Add", "t_Stream2Mmap"]))
     circuit = trial.put("v.v", trial.run(["build", *words], ROOT).out)
@@ -137,8 +155,7 @@ def try_tool(trial):
     status, _, err = trial.tool("names.py", *words, "--gtkw", save, "--dump", path)
     lines = read(save).splitlines()
     trial.check("a save file for GTKWave", status == 0 and "-stream a_q: Mmap2Stream$0 to Add$2" in lines and "+{s_a_q_din} t_VecAdd.s_a_q_din[32:0]" in lines, f"   {lines[:6]} {err}")
-    with open(os.path.join(trial.folder.name, "v.t_Add.states"), encoding="utf-8") as file:
-        trial.check_equal("a translate file", file.read().splitlines()[2], "2 8: read a")
+    trial.check_equal("a translate file", read(os.path.join(trial.folder.name, "v.t_Add.states")).splitlines()[2], "2 8: read a")
     made = trial.put("w.vcd", trial.tool("names.py", *words, "--waves", path)[1])
     shown = dump.read(made)
     values = [values["VecAdd.Add$2.i"] for _, values in shown.cycles(["VecAdd.Add$2.i"])]
@@ -154,6 +171,7 @@ def try_all(trial):
         trial.note("there is no Icarus Verilog here, so registers were not compared with variables by it")
     for name, text, top, data in sources():
         try_source(trial, name, text, top, data, has_icarus)
+        try_printed(trial, name, text, top)
     for seed in range(COUNT):
         try_source(trial, f"the random leaf {seed}", leaves.source(seed), "T", json.dumps(leaves.DATA), has_icarus and seed < IN_ICARUS)
     try_source(trial, "a network of 512 tasks", networks.network(LAYERS), "Gen", "{}", False, "2000")

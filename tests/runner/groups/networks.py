@@ -1,18 +1,16 @@
-"""`gen`: the numbers of generated networks, worked out in Python, and what `run`, `build` and `cosim` tell of the same programs; words that are none."""
+"""`gen`: the numbers of generated networks, computed in Python, and what `run`, `build` and `cosim` report for the same programs. Words that are not a number of layers are
+refused."""
 from runner import ends
+from runner.trial import each, read
 
 USAGE = "tapa: usage: tapa build|run|cosim|plan|gen|vcd\n"
 
 # The most layers.
 MOST = 126
+# Those of which the network is run, too.
+WHOLE = (0, 1, 7, MOST)
 
-TASKS = """void Src(tapa::ostream<uint64_t>& a, tapa::ostream<uint64_t>& b) {
-  for (uint64_t i = 0; i < 100; ++i) { a << i; b << i; } }
-void Mid(tapa::istream<uint64_t>& x, tapa::istream<uint64_t>& y, tapa::ostream<uint64_t>& a, tapa::ostream<uint64_t>& b) {
-  for (uint64_t i = 0; i < 100; ++i) { uint64_t t = x.read() + y.read(); a << t; b << t; } }
-void Dst(tapa::istream<uint64_t>& x, tapa::istream<uint64_t>& y) {
-  uint64_t t = 0; for (uint64_t i = 0; i < 100; ++i) { t += x.read() + y.read(); } }
-"""
+TASKS = read("tests/cases/files/layers.cpp")
 
 
 def network(layers):
@@ -41,6 +39,7 @@ def summary_of(said):
     return {line[0]: int(line[1]) for line in lines} if said.status == 0 and all(len(line) == 2 and line[1].isdecimal() for line in lines) else None
 
 
+@each(it for it in range(MOST + 1) if it not in WHOLE)
 def try_summary(trial, layers):
     """The numbers that `gen` tells, without its cycles, and these; nothing where it tells no summary."""
     said = trial.run(["gen", str(layers)])
@@ -53,6 +52,7 @@ def try_summary(trial, layers):
     return told, cycles
 
 
+@each(WHOLE)
 def try_numbers(trial, layers):
     told, cycles = try_summary(trial, layers)
     if told is None:
@@ -75,29 +75,15 @@ def try_workers(trial):
 
 def try_refused(trial):
     for words in ([], [str(MOST + 1)], ["7", "8"], ["-1"], [""], ["x"], ["7", "--workers", "0"], ["7", "--workers", "65"], ["7", "--workers"], ["7", "--steps", "5"], ["7", "--workers=1", "--workers=1"]):
-        said = trial.run(["gen", *words])
-        trial.check(f"gen {' '.join(words)} is no command", (said.status, said.out, said.err.decode()) == (2, b"", USAGE), f"   {said}")
+        trial.check_that(f"gen {' '.join(words)} is no command", trial.run(["gen", *words]), lambda said: (said.status, said.out, said.err.decode()) == (2, b"", USAGE))
 
 
 def try_full_device(trial):
     if ends.has_full(trial):
-        said = ends.full(trial, ["gen", "1"], "stdout")
-        trial.check("the output is full of a summary", ends.is_unwritten(said), f"   {said}")
+        trial.check_that("the output is full of a summary", ends.full(trial, ["gen", "1"], "stdout"), ends.is_unwritten)
 
 
 def try_little_memory(trial):
     """Under a limit on memory the summary is written, or nothing is and memory is out; one of the limits is too little."""
     sizes = [megabytes << 10 for megabytes in (4, 6, 8, 10, 12, 14, 16, 20, 24, 32, 48, 64, 96, 128, 256)]
     ends.try_little_memory(trial, ["gen", "7"], trial.run(["gen", "7"]).out, sizes, lambda out: not out)
-
-
-def try_all(trial):
-    for layers in range(MOST + 1):
-        if layers in (0, 1, 7, MOST):
-            try_numbers(trial, layers)
-        else:
-            try_summary(trial, layers)
-    try_workers(trial)
-    try_refused(trial)
-    try_full_device(trial)
-    try_little_memory(trial)

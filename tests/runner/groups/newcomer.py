@@ -1,11 +1,12 @@
-"""Eight designs as TAPA users write them (`cases/newcomer/`): how the first refusal of each is explained (`NAME.told`), and that `tools/port.py` ports seven as a whole, which then give what plain Python computes; and the list of constructs that the tool prints without libclang."""
+"""Eight designs as TAPA users write them (`cases/newcomer/`): how the first refusal of each is explained, and that `tools/port.py` ports seven of them completely, with the
+results of plain Python. `NAME.told` has the explanation; the list of constructs that the tool prints without libclang is tested, too."""
 import json
 import os
 import re
 
 from runner.groups import port
 from runner.groups.explanations import GENERAL, NEVER, explained
-from runner.trial import CASES
+from runner.trial import CASES, read
 from vechaqir.language import source
 
 # What is left of the design that polls several streams.
@@ -98,25 +99,7 @@ def try_ported(trial, name):
     trial.check(f"{name}: it is accepted, and gives what Python computes", ran.status == 0 and all(cells.get(key) == [it % 2 ** bits[key] for it in row] for key, row in wanted.items()), f"   {ran}\n   {wanted}")
 
 
-LISTED = """using namespace tapa;
-constexpr int taps[2] = {1, 2};
-void P(ostream<int>& q) { int x[2] = {0, 1}; q << x[0] + taps[1]; }
-void C(istream<int>& q) { q.read(); }
-void T() {
-  stream<int> q("q");
-  task().invoke(P, q).invoke(C, q);
-}
-void U() {
-  tapa::streams<int, 3> r, s;
-  tapa::task().invoke<tapa::join, 2>(P, r).invoke(P, r).invoke<tapa::join, 3>(C, r)
-    .invoke<tapa::join, 3>(P, s).invoke<tapa::join, 3>(C, s);
-}
-struct Req { int at; bool last; };
-void D(tapa::ostream<Req>& q, int n) {
-  if (n == 0) { q << n; } else if (int x = n + 1) { q << x; }
-  q.write(Req{0, true});
-}
-"""
+LISTED = read("tests/cases/files/listed.cpp")
 CONSTRUCTS = {(1, "`using namespace`"), (2, "an array of the file"), (3, "a list of values"), (11, "an array of streams as one argument"), (11, "a counted invoke of a longer array"), (14, "a struct"),
               (16, "a declaration in a condition"), (15, "a type by another name"), (17, "a value in braces")}
 

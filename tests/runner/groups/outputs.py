@@ -1,5 +1,6 @@
-"""How standard output is written: in pieces of whole lines, but line by line on a terminal, and before the messages; by how many calls; what is told where it has room for so
-many bytes, where its reader goes away early or late, or where both outputs are full."""
+"""How standard output is written: in pieces of whole lines, line by line on a terminal, before the messages, by how many calls, and what is reported if it fails. The output has
+room for some bytes only, its reader goes away early or late, or both outputs are full."""
+import contextlib
 import os
 import pty
 import socket
@@ -36,10 +37,7 @@ def pieces_of(trial, words, *streams):
     found = []
 
     def listen():
-        while True:
-            piece = ours.recv(1 << 20)
-            if not piece:
-                return
+        while piece := ours.recv(1 << 20):
             found.append(piece)
 
     listener = threading.Thread(target=listen)
@@ -71,11 +69,9 @@ def on_terminal(trial, words):
     shown = []
 
     def listen():
-        try:
+        with contextlib.suppress(OSError):
             while piece := os.read(ours, 4096):
                 shown.append(piece)
-        except OSError:
-            pass
 
     program = subprocess.Popen([trial.program, *words], cwd=trial.folder.name, stdin=subprocess.DEVNULL, stdout=theirs, stderr=theirs)
     os.close(theirs)
@@ -130,10 +126,8 @@ def try_late(trial):
     """A reader goes away after 1,024 bytes; a pipe is full and does not wait. Where standard error fails too, the status tells it alone."""
     for words in LONG:
         whole = trial.run(words).out
-        said = ends.read_front(trial.run, words, 1_024)
-        trial.check(f"a reader goes away: {words}", is_unwritten(said, whole[:1_024]), f"   {said}")
-        said = ends.unread(trial, words, "stdout", "stderr")
-        trial.check(f"nobody reads either: {words}", said.status == 6, f"   {said}")
+        trial.check_that(f"a reader goes away: {words}", ends.read_front(trial.run, words, 1_024), lambda said: is_unwritten(said, whole[:1_024]))
+        trial.check_that(f"nobody reads either: {words}", ends.unread(trial, words, "stdout", "stderr"), lambda said: said.status == 6)
     words = ["build", "l.cpp", "T"]
     reader, writer = os.pipe()
     os.set_blocking(writer, False)
@@ -149,10 +143,8 @@ def try_untold(trial):
     if not ends.has_full(trial):
         return
     for words in (["run", "s.cpp", "T"], ["cosim", "x.v", "d.json", "--cycles", "2"], *LONG):
-        said = ends.full(trial, words, "stdout")
-        trial.check(f"the output is full: {words}", is_unwritten(said), f"   {said}")
-        said = ends.full(trial, words, "stdout", "stderr")
-        trial.check(f"both are full: {words}", said.status == 6, f"   {said}")
+        trial.check_that(f"the output is full: {words}", ends.full(trial, words, "stdout"), is_unwritten)
+        trial.check_that(f"both are full: {words}", ends.full(trial, words, "stdout", "stderr"), lambda said: said.status == 6)
 
 
 def try_all(trial):

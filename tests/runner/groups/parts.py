@@ -1,63 +1,14 @@
-"""How `tools/in_parts.py` cuts a module for the unproved build, each function that is needed in one part or copied into each part that calls it, and that the kit joins the
-parts."""
+"""How `tools/in_parts.py` cuts a module for the unproved build: each function that is needed is in one part, or copied into each part that calls it, and the kit joins the parts."""
 import os
 import re
 import shutil
 import subprocess
 
 import in_parts
+from runner.trial import read
 
 LONG = "".join(f"  %r{at} = add i64 %a0, {at}\n" for at in range(1, 100))
-MODULE = f"""source_filename = "trial"
-target triple = "x86_64-unknown-linux-gnu"
-
-@static.0 = private global [1 x i8] zeroinitializer, align 1
-@static.1 = private unnamed_addr constant [2 x i8] c"ab", align 1
-@table = private constant <{{ ptr, [8 x i8] }}> <{{ ptr @"x::bound", [8 x i8] zeroinitializer }}>, align 8
-
-define i32 @main() #0 {{
-  call void @"x::one"(i64 1)
-  call void @"x::two"(i64 2)
-  %r0 = load i8, ptr @static.0, align 1
-  ret i32 0
-}}
-
-define internal void @"x::one"(i64 noundef %a0) #0 {{
-{LONG}  call void @"x::small"(ptr @static.1)
-  call void @"x::inner"(i64 %a0)
-  ret void
-}}
-
-define internal void @"x::inner"(i64 noundef %a0) #0 {{
-{LONG}  store i8 0, ptr @static.0, align 1
-  ret void
-}}
-
-define internal void @"x::two"(i64 noundef %a0) #0 {{
-{LONG}  call void @"x::small"(ptr @table)
-  call void @"x::one"(i64 %a0)
-  ret void
-}}
-
-define internal void @"x::small"(ptr %a0) #0 {{
-  %r0 = alloca i8, align 1
-  call void @llvm.memset.p0.i64(ptr %r0, i8 -86, i64 1, i1 false)
-  ret void
-}}
-
-define internal void @"x::bound"(i64 %a0) #0 {{
-{LONG}  call void @"x::small"(ptr @static.0)
-  ret void
-}}
-
-define internal void @"x::unused"() #0 {{
-  ret void
-}}
-
-declare void @llvm.memset.p0.i64(ptr, i8, i64, i1) #0
-
-attributes #0 = {{ nounwind }}
-"""
+MODULE = read("tests/cases/files/module.ll").replace("; LONG\n", LONG)
 
 
 def texts():
@@ -94,8 +45,3 @@ def try_object(trial):
     made = os.path.join(trial.folder.name, "whole.o")
     ran = subprocess.run([f"{kit}/toolchain/bin/ld.lld", "-r", "-o", made, *objects], capture_output=True, text=True, check=False)
     trial.check("the parts are joined", ran.returncode == 0, ran.stderr[:800])
-
-
-def try_all(trial):
-    try_cut(trial)
-    try_object(trial)

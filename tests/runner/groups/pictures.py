@@ -1,4 +1,4 @@
-"""No label of the pictures in docs/ and of those that the tools draw of the examples lies over another, out of the picture or over the border of a box; and the pictures are what the tools draw."""
+"""The pictures in docs/ and those that the tools draw of the examples: no label overlaps another or crosses a border, and the pictures in docs/ are what the tools draw."""
 import os
 import re
 
@@ -76,8 +76,7 @@ def try_finder(trial):
 
 def circuits(trial):
     """Name and text of the circuit of each example, of the features, and of one on two dies."""
-    for path in sources("examples"):
-        yield os.path.basename(path), trial.run(["build", *first_words(path)[:2]], ROOT).out
+    yield from ((os.path.basename(path), trial.run(["build", *first_words(path)[:2]], ROOT).out) for path in sources("examples"))
     yield "features.cpp", trial.run(["build", "tests/cases/circuits/features.cpp", "Top"], ROOT).out
     yield "two_ways.cpp on two dies", trial.run(["build", "examples/two_ways.cpp", "TwoWays", "--device", "examples/devices/two_dies.json"], ROOT).out
 
@@ -90,13 +89,19 @@ def try_labels_of_waves(trial):
         _, drawn, err = trial.tool("waves.py", dump, *words)
         trial.check(f"the width of waves {words}", 'width="960"' in drawn, err)
         try_labels(trial, f"waves {words}", drawn)
+    acts = trial.put("acts.vcd", trial.tool("names.py", "examples/vector_add.cpp", "VecAdd", "--waves", dump)[1])
+    drawn = trial.tool("waves.py", acts, "--nets", "Add$2.act")[1]
+    trial.check_equal("the acts of a task are drawn as texts", (drawn.count("<title>read a<"), drawn.count("<title>read b<")), (5, 5))
     known = trial.put("x.vcd", "$scope module T $end\n$var wire 1 ! a $end\n$scope module t_A $end\n$var wire 4 \" s $end\n$upscope $end\n$scope module t_B $end\n$var wire 4 # s $end\n$upscope $end\n$upscope $end\n$enddefinitions $end\n#0\nx!\nbx01x \"\nb11 #\n#1\n1!\n#2\nb101 \"\n#3\n0!\n")
+    long = trial.put("l.vcd", f"$scope module T $end\n$var wire 1 ! {'a' * 300_000} $end\n$upscope $end\n$enddefinitions $end\n#0\n0!\n")
+    status, drawn, _ = trial.tool("waves.py", long)
+    trial.check("a name of 300,000 characters is cut", status == 0 and ">..aaa" in drawn and len(drawn) < 3_000, f"   {status} {len(drawn)}")
     _, drawn, err = trial.tool("waves.py", known)
     trial.check("unknown values are marked, and nets of one name told apart", drawn.count('fill-opacity="0.18"') == 2 and all(f">{name}<" in drawn for name in ("a", "t_A.s", "t_B.s", "3", "5")), drawn + err)
     trial.check("a name that two nets have", "2 nets are named s: T.t_A.s, T.t_B.s" in trial.tool("waves.py", known, "--nets", "s")[2])
-    for words, status in ((["--help"], 0), ([], 2), ([known, "--from", "x"], 2), (["none.vcd"], 1), (["README.md"], 1), ([known, "--from", "9"], 1)):
-        ran = trial.tool("waves.py", *words)
-        trial.check(f"waves.py {' '.join(words)}", ran[0] == status and "Traceback" not in ran[2], f"   {ran}")
+    jump = trial.put("j.vcd", "$scope module T $end\n$var wire 1 ! a $end\n$upscope $end\n$enddefinitions $end\n#0\n0!\n#18446744073709551617\n")
+    for words, status in ((["--help"], 0), ([], 2), ([jump], 1), ([known, "--from", "x"], 2), (["none.vcd"], 1), (["README.md"], 1), ([known, "--from", "9"], 1)):
+        trial.check_that(f"waves.py {' '.join(words)}", trial.tool("waves.py", *words), lambda *ran: ran[0] == status and "Traceback" not in ran[2])
 
 
 def try_floorplan(trial):
@@ -126,30 +131,7 @@ def try_graph(trial):
 
 
 # A stream that takes two tokens in the cycles 1 and 2, and gives one in cycle 3.
-DUMP = """$timescale 1 ns $end
-$scope module T $end
-$var wire 33 ! s_q_din $end
-$var wire 1 " s_q_wr $end
-$var wire 1 # s_q_rdy $end
-$var reg 1 $ s_q_has $end
-$var wire 1 % s_q_take $end
-$upscope $end
-$enddefinitions $end
-#0
-b0 !
-0"
-1#
-0$
-0%
-#1
-b111 !
-1"
-#2
-1$
-#3
-0"
-1%
-"""
+DUMP = read("tests/cases/files/stream.vcd")
 
 
 def try_waves(trial):
@@ -157,22 +139,19 @@ def try_waves(trial):
     dump = trial.put("d.vcd", DUMP)
     _, drawn, err = trial.tool("waves.py", dump)
     trial.check_equal("waves.py draws a line a bit and a lozenge a value", (drawn.count("<polyline"), drawn.count("<polygon"), ">7<" in drawn), (4, 2, True))
-    _, drawn, err = trial.tool("waves.py", dump, "--fill")
-    trial.check("waves.py shows how full a stream is", "most 2" in drawn and drawn.count("<polygon") == 1, f"   {err}")
+    trial.check_that("waves.py shows how full a stream is", trial.tool("waves.py", dump, "--fill"), lambda _, drawn, __: "most 2" in drawn and drawn.count("<polygon") == 1)
     _, drawn, err = trial.tool("waves.py", dump, "--nets", "s_q_wr", "--from", "1", "--to", "2")
     trial.check("waves.py draws the nets that are asked for", drawn.count("<polyline") == 1 and "s_q_din" not in drawn, f"   {err}")
-    status, _, err = trial.tool("waves.py", dump, "--nets", "s_r_wr")
-    trial.check("waves.py says that there is no such net", (status, "no net s_r_wr" in err) == (1, True), f"   {err}")
+    trial.check_that("waves.py says that there is no such net", trial.tool("waves.py", dump, "--nets", "s_r_wr"), lambda status, _, err: (status, "no net s_r_wr" in err) == (1, True))
+    acts = trial.put("a.vcd", "$scope module T $end\n$var string 1 ! act $end\n$upscope $end\n$enddefinitions $end\n#0\nsread_q !\n#2\nstest_i_<_n !\n#3\nssay_nothing !\n#9\nsread_q !\n")
+    drawn = trial.tool("waves.py", acts)[1]
+    trial.check_equal("waves.py draws texts", (drawn.count("<title>read q<"), [shown for shown, _ in texts(drawn)][-4:]), (2, ["read q", "test i..", "say nothing", "read q"]))
 
 
-def try_all(trial):
-    try_finder(trial)
+def try_texts(trial):
+    """The pictures of the pages and of circuits."""
     for name in sorted(os.listdir(os.path.join(ROOT, "docs"))):
         if name.endswith(".svg"):
             try_labels(trial, f"docs/{name}", read(f"docs/{name}"))
     for name, text in circuits(trial):
         try_labels(trial, f"the network of {name}", trial.tool("graph.py", trial.put("g.v", text))[1])
-    try_labels_of_waves(trial)
-    try_floorplan(trial)
-    try_graph(trial)
-    try_waves(trial)

@@ -1,5 +1,5 @@
-"""Circuits of each example for two devices with small slots, with a balance and without, carry what the run shows; `done` comes by its bound, and the certificate of each plan
-holds."""
+"""Circuits of each example for two devices with small slots, with and without a balance: they carry what the run shows, `done` comes within its bound, and the certificate of
+each plan holds."""
 import json
 import os
 import re
@@ -8,7 +8,7 @@ import shlex
 from runner.groups.circuits import ENOUGH, agree, is_front, parts_of, with_waits
 from runner.groups.examples import names
 from runner.groups.plans import groups_of, is_certified
-from runner.trial import ROOT, read
+from runner.trial import ROOT, each, read
 
 DEVICES = {
     "a grid": {"rows": 2, "cols": 2, "levels": 3},
@@ -106,19 +106,14 @@ def try_device(trial, name, words, ran, about, tasks, data):
             try_text(trial, f"{case}, with memories that are not always ready", ran, with_waits(data, 3), plan, balanced, detached)
 
 
+@each(lambda: names())
 def try_example(trial, name):
     words = shlex.split(read(f"{name}.cpp").split("\n")[0].removeprefix("// tapa "))
     ran = trial.run(words, ROOT)
     if ran.status not in (0, 8):
         return
-    plain = trial.run(["build", words[1], words[2]], ROOT)
-    tasks = [module[2:] for module in re.findall(r"\bmodule (t_\S+)", plain.out.decode())[:-1]]
+    tasks = [module[2:] for module in re.findall(r"\bmodule (t_\S+)", trial.run(["build", words[1], words[2]], ROOT).out.decode())[:-1]]
     path = os.path.join(ROOT, words[3]) if len(words) > 3 and words[3].endswith(".json") else ""
     data = json.loads(read(words[3])) if path else {}
     for about in DEVICES:
         try_device(trial, name, words, ran, about, tasks, data)
-
-
-def try_all(trial):
-    for name in names():
-        try_example(trial, name)

@@ -1,19 +1,18 @@
-"""`tools/place.py` on three examples, on random programs and devices compared with `--plan exact`, and on a square of tasks in two orders of invokes on a full device: its pins
-by `plan`, `build` and `cosim`. Hostile device files, one with a bit changed, and devices that are full, too small or too small for the groups. The search alone on twenty small
-programs."""
-import html
+"""`tools/place.py` on three examples, on random programs and devices compared with `--plan exact`, and on a square of tasks on a full device: `plan`, `build` and `cosim` accept
+its pins. The square has two orders of invokes. A device file with a bit changed, and devices that are full, too small or too small for the groups. The search
+alone on twenty small programs."""
 import itertools
 import json
 import os
 import random
 import re
 
-from runner.groups.placing import MULTIPLIES, check_hostile, grid_of
+from runner.groups import pictures
+from runner.groups.placing import MULTIPLIES, grid_of
 from runner.groups.plans import Case, source_of
-from runner.trial import ROOT
+from runner.trial import ROOT, each, read
 from vechaqir.host import device as devices, program
 from vechaqir.place import exact as place_exact, graph as place_graph, levels, placement
-from vechaqir.show import svg
 
 # Random devices of small programs that the gate tries; tests/measure/plans/run.py tries more.
 DEVICES = 12
@@ -25,22 +24,11 @@ FLIPS = 12
 PACKED = 200
 
 # Designs with their files in the repository, a device, and the words of place.py.
-EXAMPLES = [
-    ("vector_add", "VecAdd", {"slots": [[700, 4000], [700, 4000]], "percent": 70}, []),
-    ("two_ways", "TwoWays", {"slots": [[400, 4000]] * 4, "percent": 100, "pins": {"Filter$1": [1, 1]}, "forbidden": [[0, 1]]}, ["--levels"]),
-    ("systolic", "Product", {"slots": [[1100, 9000, 0, 20]] * 4, "percent": 80, "levels_rows": [3], "levels_cols": [1]}, []),
-]
+EXAMPLES = [tuple(it) for it in json.loads(read("tests/cases/devices/placed.json"))]
 
 # Devices for tasks of 192 LUT in three groups, what is answered, and parts of what is told: slots that they fill to 95 percent, slots with a LUT less than all
 # need, slots with enough of them but not for these groups, slots of which none is open, and tasks that are as large as can be.
-LARGEST, FREE = {"LUT": 2**32 - 1}, {"P": {}, "C": {}, "A": {}, "B": {}}
-SMALL = [
-    ({"slots": [[118, 900, 0, 6], [84, 900, 0, 6]]}, 0, ["no placement costs less"]),
-    ({"slots": [[118, 900, 0, 6], [73, 900, 0, 6]]}, 4, ["all tasks together need 192 LUT, and all slots have 191 (at 100 percent): 1 LUT are missing"]),
-    ({"slots": [[100, 900, 0, 6], [102, 900, 0, 6]]}, 4, ["no placement fits", "all tasks together need 192 LUT of the 202 of all slots"]),
-    ({"slots": [[], []], "forbidden": [[0, 0], [0, 1]], "tasks": FREE}, 4, ["no slot is open: all are forbidden"]),
-    ({"slots": [[2**32 - 1], [2**32 - 1]], "tasks": {**FREE, "P": LARGEST, "C": LARGEST}}, 0, ["cost 33, "]),
-]
+SMALL = json.loads(read("tests/cases/devices/small.json"))
 
 
 def grid_source(side, order):
@@ -107,7 +95,8 @@ def check_carried(trial, name, source, top, pinned, data):
     trial.check(f"{name}: the circuit carries what run prints", same, f"   {simulated}")
 
 
-def check_example(trial, name, top, given, words):
+@each(EXAMPLES)
+def try_example(trial, name, top, given, words):
     source = os.path.join(ROOT, f"examples/{name}.cpp")
     data = [path for path in [source[:-4] + ".json"] if os.path.exists(path)]
     device = trial.put("device.json", grid_of(given, rows=len(given["slots"]) // 2))
@@ -123,7 +112,8 @@ def check_example(trial, name, top, given, words):
     trial.check(f"{name}: the device's own keys and pins are kept", holds, f"   {kept}")
 
 
-def check_random(trial, seed):
+@each(range(DEVICES))
+def try_random(trial, seed):
     """A random program and device: a placement of exact's cost, or the word that none fits."""
     case = Case(seed)
     source, device = trial.put("p.cpp", source_of(case.count, case.streams)), trial.put("d.json", case.device())
@@ -134,7 +124,8 @@ def check_random(trial, seed):
         trial.check(f"the program's cost on random device {seed}", cost_of(trial.run(["plan", source, "T", pinned])) == cost_of(exact))
 
 
-def check_search(trial, seed):
+@each(range(SEARCHED))
+def try_search(trial, seed):
     """The search alone, on a small program and device at random: no slot is overfull, pins are kept, the cost is what the layout costs, and it is exact's."""
     small = Small(seed)
     source, path = trial.put("p.cpp", small.source), trial.put("d.json", small.device)
@@ -151,7 +142,7 @@ def check_search(trial, seed):
     trial.check(f"small program {seed}: the search finds the cost of exact", least == cost_of(exact), f"   {least} {exact}")
 
 
-def check_nested(trial):
+def try_nested(trial):
     """The order of invokes does not change what is searched, of a square of tasks and of lanes that are tasks of tasks."""
     called, device = program.Program(trial.program, False), devices.parse(grid_of({"slots": [[300, 900]] * 4}, rows=2))
     for name, written in (("a square", lambda order: grid_source(3, order)), ("lanes", lanes_source)):
@@ -159,12 +150,11 @@ def check_nested(trial):
         trial.check(f"{name}: one graph in five orders of invokes", all(problem == problems[0] for problem in problems), f"   {problems}")
 
 
-def check_orders(trial):
+def try_orders(trial):
     """A square of 36 tasks and 24 ends on four slots that are nearly full: the order of invokes, the workers and a second call change nothing, and a device without room
     is told as such."""
     uses = json.loads(trial.tool("estimate.py", trial.put("grid.cpp", grid_source(6, 1)), "T", "--json")[1])["all"]["LUT"]
-    slot = uses * 100 // 95 // 4 + 1
-    device = trial.put("four.json", grid_of({"slots": [[slot, 90000]] * 4}, rows=2))
+    device = trial.put("four.json", grid_of({"slots": [[uses * 100 // 95 // 4 + 1, 90000]] * 4}, rows=2))
     costs = []
     for order in (1, 2):
         source = trial.put("grid.cpp", grid_source(6, order))
@@ -180,7 +170,7 @@ def check_orders(trial):
     trial.check("a device without room is told as such", (status, out) == (4, "") and f"all tasks together need {uses} LUT" in err, f"   {err}")
 
 
-def check_flipped(trial):
+def try_flipped(trial):
     """A device file in which a bit of one byte is another: the program's own refusal, or an answer as on any device."""
     source, some = trial.put("multiplies.cpp", MULTIPLIES), random.Random(3)
     text = grid_of({"slots": [[190, 900, 0, 6]] * 4, "pins": {"C$1": [1, 0]}, "forbidden": [[0, 1]], "tasks": {"C": {"LUT": 30}}}, rows=2).encode()
@@ -195,7 +185,7 @@ def check_flipped(trial):
         trial.check(f"a device with another byte at {at}", is_answer if said.status in (0, 4) else own, f"   {bytes(flipped)} {said} {status} {err}")
 
 
-def check_small(trial):
+def try_small(trial):
     """A small program on the devices of SMALL: its answer and that of `--plan exact`, and what is told."""
     source = trial.put("multiplies.cpp", MULTIPLIES)
     for given, status, words in SMALL:
@@ -207,7 +197,7 @@ def check_small(trial):
         trial.check(f"a small program on {given['slots']}", holds and taken, f"   {exact} {told} {err}")
 
 
-def check_packing(trial):
+def try_packing(trial):
     """Whether no layout fits, beside all layouts; and on slots of which each holds one of nine tasks alike, which are too many to look through."""
     some, wrong = random.Random(5), []
     for _ in range(PACKED):
@@ -227,52 +217,17 @@ def check_packing(trial):
     trial.check_equal("nine tasks on eight slots", (status, out, err), (4, "", told))
 
 
-def texts_of(drawn):
-    """The texts of a picture, each as the box that it covers: left, top, right, bottom."""
-    for found in re.finditer(r'<text x="([\d.]+)" y="([\d.]+)" font-size="([\d.]+)"( text-anchor="(?:middle|end)")?( font-weight="bold")?[^>]*>([^<]*)<', drawn):
-        x, y, size = (float(found[at]) for at in (1, 2, 3))
-        wide = svg.text_width(html.unescape(found[6]), size, bool(found[5]))
-        left = x - (wide / 2 if found[4] and "middle" in found[4] else wide if found[4] else 0)
-        yield found[6], (left, y - 0.75 * size, left + wide, y + 0.2 * size)
-
-
-def check_picture(trial, name, drawn):
-    """No text of a picture lies over another or outside of it."""
-    width, height = (float(it) for it in re.search(r'width="(\d+)" height="(\d+)"', drawn).groups())
-    boxes = list(texts_of(drawn))
-    out = [words for words, box in boxes if box[0] < 0 or box[1] < 0 or box[2] > width or box[3] > height]
-    over = [(one, other) for (one, a), (other, b) in itertools.combinations(boxes, 2) if a[0] < b[2] and b[0] < a[2] and a[1] < b[3] and b[1] < a[3]]
-    trial.check(f"{name}: no text outside of the picture or over another", len(boxes) > 5 and not out and not over, f"   {out} {over}")
-
-
-def check_drawings(trial):
+def try_drawings(trial):
     """Pictures of a plan with many tasks and of one with few; the bits of the bundles are the cost. What is no plan or no device is told in a line."""
     source, device = trial.put("grid.cpp", grid_source(9, 1)), trial.put("nine.json", grid_of({"slots": [[2400, 90000]] * 9}, rows=3))
     said = trial.run(["plan", source, "T", device])
     path = trial.put("p.plan", said.out)
     _, drawn, err = trial.tool("floorplan.py", path, device, source, "T")
-    check_picture(trial, "a plan of 117 tasks", drawn)
+    pictures.try_labels(trial, "a plan of 117 tasks", drawn)
     bits = sum(int(it) for it in re.findall(r">(\d+) bits<", drawn))
     trial.check("the bundles have the bits of the cost", bits == cost_of(said) and drawn.count("<title>") == 117, f"   {bits} {said.out[-60:]} {err}")
     few = trial.run(["plan", "examples/systolic.cpp", "Product", "examples/devices/u250.json", "--plan", "fit"], ROOT)
     _, drawn, _ = trial.tool("floorplan.py", trial.put("few.plan", few.out), "examples/devices/u250.json")
-    check_picture(trial, "a plan on eight slots", drawn)
+    pictures.try_labels(trial, "a plan on eight slots", drawn)
     for words in ([source, device], [path, source], [path, "examples/devices/u250.json"], ["missing.plan", device], [path, device, source, "U"]):
-        status, out, err = trial.tool("floorplan.py", *words)
-        trial.check(f"floorplan.py {' '.join(map(os.path.basename, words))}", (status, out, err.count("\n")) == (1, "", 1), f"   {status} {err}")
-
-
-def try_all(trial):
-    check_drawings(trial)
-    check_hostile(trial, "place.py")
-    check_flipped(trial)
-    check_small(trial)
-    check_packing(trial)
-    for names in EXAMPLES:
-        check_example(trial, *names)
-    for seed in range(DEVICES):
-        check_random(trial, seed)
-    for seed in range(SEARCHED):
-        check_search(trial, seed)
-    check_nested(trial)
-    check_orders(trial)
+        trial.check_that(f"floorplan.py {' '.join(map(os.path.basename, words))}", trial.tool("floorplan.py", *words), lambda status, out, err: (status, out, err.count("\n")) == (1, "", 1))

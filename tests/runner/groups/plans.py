@@ -1,12 +1,12 @@
-"""`plan` on random graphs of up to five tasks, each compared with all plans there are and with first fit, worked out in Python, and on graphs of sixteen tasks in 16 shapes
-(`runner/made/shapes.py`), with the certificate of each balance."""
+"""`plan` on random graphs of up to five tasks, compared with all plans and with first fit as Python finds them, and on graphs of sixteen tasks in 16 shapes
+(`runner/made/shapes.py`), with their certificates."""
 import itertools
 import json
 import random
 
 from runner.made.shapes import ORDERS, PLACES, SHAPES, shaped, slots_of
 from runner.groups.sources import bytes_of, parts, table
-from runner.trial import read
+from runner.trial import each, read
 
 KINDS = ["LUT", "FF", "BRAM", "DSP", "URAM"]
 TYPES = {"bool": 2, "uint8_t": 9, "int": 33, "uint64_t": 65}
@@ -220,6 +220,7 @@ def check_none(trial, name, said, line):
     trial.check(name, (said.status, said.out, said.err) == (4, b"", line.encode()), f"   wanted: {line}   got: {said}")
 
 
+@each(range(GRAPHS))
 def try_case(trial, seed):
     case = Case(seed)
     trial.put("p.cpp", source_of(case.count, case.streams))
@@ -235,12 +236,12 @@ def try_case(trial, seed):
             check_none(trial, name, said, f"tapa: no room for T{case.first[found]}${case.first[found]}\n")
 
 
+@each(lambda: itertools.product(SHAPES, ORDERS, PLACES))
 def try_shape(trial, shape, order, place):
     case = Shaped(shape, order, place)
     trial.put("p.cpp", source_of(case.count, case.streams))
     trial.put("d.json", case.device())
-    said = trial.run(["plan", "p.cpp", "T", "d.json"])
-    check_plan(trial, f"plan of {shape}, streams {order}, tasks {place}", case, said, case.pins)
+    check_plan(trial, f"plan of {shape}, streams {order}, tasks {place}", case, trial.run(["plan", "p.cpp", "T", "d.json"]), case.pins)
 
 
 def check_device(trial, row):
@@ -261,11 +262,3 @@ def try_devices(trial):
     trial.check("the table of device files", kind == "fault" and len(rows) > 250)
     for row in rows:
         check_device(trial, row)
-
-
-def try_all(trial):
-    try_devices(trial)
-    for seed in range(GRAPHS):
-        try_case(trial, seed)
-    for names in itertools.product(SHAPES, ORDERS, PLACES):
-        try_shape(trial, *names)

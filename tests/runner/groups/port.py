@@ -1,4 +1,6 @@
-"""Sources as TAPA users write them (`cases/port/`) through `tools/port.py`: what is left of each, and that on three data files each ported source reports the tokens and cells of its original, which g++ compiles; defects of older versions; hostile sources; and 12 generated sources."""
+"""Sources as TAPA users write them (`cases/port/`) through `tools/port.py`: what is left of each, and that each ported source reports the tokens and cells of its original on
+three data files. g++ compiles the original. Seven ported sources are compared in cycles with twins by hand. Defects of older versions, hostile sources and 12 generated sources are
+tested, too."""
 import json
 import os
 import re
@@ -9,6 +11,7 @@ from runner.made import unported
 from runner.trial import CASES, ROOT
 
 FOLDER = os.path.join(CASES, "port")
+HAND = os.path.join(FOLDER, "hand")
 SCRIPT = os.path.join(ROOT, "tools", "port.py")
 # Debian's Python, for which libclang's binding is installed
 SYSTEM = "/usr/bin/python3"
@@ -75,6 +78,27 @@ def try_source(trial, name):
     return True
 
 
+def cycles(trial, source, top, name):
+    """What a circuit carries in memories on the data of a source, and its cycles over all of them."""
+    circuit = trial.put("twin.v", trial.run(["build", source, top]).out)
+    shown, total = [], 0
+    for file in data_files(trial, name):
+        lines = trial.run(["cosim", circuit, file]).out.decode().splitlines()
+        shown += [it for it in lines if it.startswith("memory")]
+        total += int(lines[-1].split()[-1]) if lines and lines[-1].startswith("done ") else 1 << 30
+    return shown, total
+
+
+def try_twin(trial, name):
+    """A ported source next to the one that is written by hand (`hand/`): the same memories, and at most a twentieth more cycles."""
+    bits = ["--fixed", str(FIXED[name])] if name in FIXED else []
+    path, top = os.path.join(trial.folder.name, "twin.cpp"), top_of(name)
+    asked(trial, [os.path.join(FOLDER, f"{name}.cpp"), top, *bits, "--write", path])
+    (left, ported), (right, by_hand) = cycles(trial, path, top, name), cycles(trial, os.path.join(HAND, f"{name}.cpp"), top, name)
+    trial.check_equal(f"{name}: what its port and the source by hand leave in memories", left, right)
+    trial.check(f"{name}: its port takes {ported} cycles, and by hand {by_hand}", by_hand < 1 << 30 and ported <= by_hand * 1.05)
+
+
 def try_compared(trial, what, *words):
     """Small or generated sources, many of them in one native program, by `tests/stress/port.py`."""
     ran = subprocess.run([SYSTEM if os.access(SYSTEM, os.X_OK) else sys.executable, os.path.join(ROOT, "tests", "stress", "port.py"), trial.program, *words], capture_output=True, text=True, check=False, stdin=subprocess.DEVNULL)
@@ -98,4 +122,6 @@ def try_all(trial):
     try_compared(trial, "generated sources", "--seed", "gate", "--count", "12")
     try_hostile(trial)
     ported = sum(try_source(trial, name) for name in names())
+    for it in sorted(os.listdir(HAND)):
+        try_twin(trial, it[:-4])
     trial.check(f"{LEAST} sources are ported without a mark", ported >= LEAST, f"   {ported}")

@@ -1,5 +1,5 @@
-"""What `tools/profile.py` says of the examples adds up to their cycles; of three designs with a shallow stream, a slow task and a late memory it names that, and a change that
-makes the circuit as fast as it says."""
+"""What `tools/profile.py` says of the examples adds up to their cycles, and for three slow designs it names the cause, and a change with the gain that it predicts. The three
+designs have a shallow stream, a slow task and a late memory."""
 import json
 import os
 import re
@@ -9,45 +9,13 @@ from runner.groups.names import LAYERS
 from runner.trial import ROOT, first_words, read, sources
 
 # A worker that takes eight tokens before it gives any, beside a stream that is too shallow for them.
-SHALLOW = """void Give(tapa::ostream<int>& work, tapa::ostream<int>& past) {
-  for (int i = 0; i < 40; ++i) {
-    int x = i;
-    for (int w = 0; w < 2; ++w) x += w;
-    work << x; past << i;
-  }
-}
-void Sum(tapa::istream<int>& work, tapa::ostream<int>& sums) {
-  for (int k = 0; k < 5; ++k) {
-    int s = 0;
-    for (int i = 0; i < 8; ++i) s += work.read();
-    for (int w = 0; w < 16; ++w) s = s * 3 + w;
-    for (int i = 0; i < 8; ++i) sums << s;
-  }
-}
-void Join(tapa::istream<int>& sums, tapa::istream<int>& past) { for (int i = 0; i < 40; ++i) { int both = sums.read() + past.read(); } }
-void T() {
-  tapa::stream<int, 16> work, sums;
-  tapa::stream<int, 9> past("past");
-  tapa::task().invoke(Give, work, past).invoke(Sum, work, sums).invoke(Join, sums, past);
-}
-"""
+SHALLOW = read("tests/cases/files/shallow.cpp")
 
 # A task of eight ticks a turn between two of three.
-SLOW = """void Give(tapa::ostream<int>& q) { for (int i = 0; i < 30; ++i) q << i; }
-void Slow(tapa::istream<int>& q, tapa::ostream<int>& r) {
-  for (int i = 0; i < 30; ++i) {
-    int x = q.read(); int y = x * 2; y += 3; r << y;
-  }
-}
-void Take(tapa::istream<int>& r) { for (int i = 0; i < 30; ++i) r.read(); }
-void T() { tapa::stream<int> q, r; tapa::task().invoke(Give, q).invoke(Slow, q, r).invoke(Take, r); }
-"""
+SLOW = read("tests/cases/files/slow.cpp")
 
 # A memory that is ready in every sixth cycle.
-LATE = """void Load(tapa::mmap<const int> a, tapa::ostream<int>& q) { for (int i = 0; i < 20; ++i) q << a[i]; }
-void Sum(tapa::istream<int>& q, tapa::mmap<int> s) { int sum = 0; for (int i = 0; i < 20; ++i) sum += q.read(); s[0] = sum; }
-void T(tapa::mmap<const int> a, tapa::mmap<int> s) { tapa::stream<int> q; tapa::task().invoke(Load, a, q).invoke(Sum, q, s); }
-"""
+LATE = read("tests/cases/files/late.cpp")
 LATE_DATA = {"memories": {"a": list(range(20)), "s": [0]}, "waits": {"a": [0, 0, 0, 0, 0, 1] * 40}}
 
 
@@ -164,8 +132,7 @@ def try_expected(trial):
 def try_words(trial):
     """A dump in place of a simulation, a dump of another circuit, words that are no command, and files that are missing."""
     trial.put("p.cpp", SLOW)
-    circuit = trial.put("p.v", trial.run(["build", "p.cpp", "T"]).out)
-    path = trial.put("p.vcd", trial.run(["cosim", circuit, "--vcd"]).out)
+    path = trial.put("p.vcd", trial.run(["cosim", trial.put("p.v", trial.run(["build", "p.cpp", "T"]).out), "--vcd"]).out)
     source = os.path.join(trial.folder.name, "p.cpp")
     trial.check_equal("a profile of a dump", profiled(trial, source, "T", "--dump", path)["cycles"], cycles_of(trial, SLOW))
     status, _, err = trial.tool("profile.py", "examples/vector_add.cpp", "VecAdd", "--dump", path)
@@ -174,18 +141,12 @@ def try_words(trial):
                           (["examples/vector_add.cpp", "VecAdd", "examples/systolic.json"], "examples/systolic.json: J2 scalars.n")):
         trial.check_equal(f"what profile.py {' '.join(words)} is told", trial.tool("profile.py", *words)[1:], ("", f"tapa: {wanted}\n"))
     for words, wanted in ((["--help"], 0), ([], 2), (["a.cpp", "T", "--depth"], 2), (["none.cpp", "T"], 1), ([source, "U"], 1)):
-        status, _, err = trial.tool("profile.py", *words)
-        trial.check(f"profile.py {' '.join(words)}", status == wanted and "Traceback" not in err, f"   {status} {err}")
+        trial.check_that(f"profile.py {' '.join(words)}", trial.tool("profile.py", *words), lambda status, _, err: status == wanted and "Traceback" not in err)
 
 
-def try_all(trial):
+def try_ticks(trial):
+    """The sums of the examples and of a large network."""
     for path in sources("examples"):
         try_sums(trial, os.path.basename(path), first_words(path), "detach" in read(path))
     trial.put("gen.cpp", networks.network(LAYERS))
     try_sums(trial, "a network of 512 tasks", [os.path.join(trial.folder.name, "gen.cpp"), "Gen"], False)
-    try_shallow(trial)
-    try_slow(trial)
-    try_late(trial)
-    try_page(trial)
-    try_expected(trial)
-    try_words(trial)

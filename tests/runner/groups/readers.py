@@ -1,5 +1,5 @@
-"""The shared readers of `tools/vechaqir/`: the network that is read of a source, compared with the instances, ends of streams and widths in the circuit that is built of it;
-constants; and that any bytes can be read."""
+"""The shared readers of `tools/vechaqir/`: the network that they read from a source, compared with the circuit that is built from it, constants, and that they can read any
+bytes. The instances, the ends of streams and the widths are compared."""
 import random
 import re
 
@@ -14,16 +14,7 @@ const std::int16_t L = static_cast<short>(70000); const int M = 1 << 32; const i
 NUMBERS = {"A": 11, "B": 5, "C": -56, "D": 1, "E": 1 << 63, "F": -3, "G": -1, "H": 2**32 - 1, "I": 11, "J": 0, "K": 44, "L": 4464, "M": 0, "N": -1, "O": 0, "P": 1}
 
 # What a source has that the language has not, beside a task.
-OTHERS = """#define DEPTH 4 \\
-  + 1
-struct pkt { int a; }; template <int N> class Q { void f() { } };
-int helper(int x) { return x; }
-// void Hidden() { }
-/* void Hidden() { } */
-void G(tapa::istreams<pkt, 2>& in, const tapa::mmap<float> m, tapa::ostream<ap_uint<5>> out, const int k, const char* s = "void H() { }") { char c = '{'; }
-static const uint32_t WIDE = 8;
-void T(tapa::mmap<const uint64_t> m) { tapa::streams<uint8_t, WIDE, (WIDE + 1)> q("q"), r; tapa::stream<int> one; tapa::task().invoke<tapa::detach, WIDE>(G, q, m, r[0], k + 1, "x").invoke(G, r[WIDE]); }
-"""
+OTHERS = read("tests/cases/files/others.cpp")
 
 
 def circuit_of(text):
@@ -98,17 +89,10 @@ def try_bytes(trial):
     texts = [b"".join(some.choice(pieces) + b" " * some.randrange(2) for _ in range(some.randrange(60))) for _ in range(150)]
     for text in [whole[:end] for end in range(0, len(whole), 31)] + texts:
         found = lexemes.every(text)
-        read_again = b"".join(it.text.encode("latin-1") for it in found)
-        kept = re.sub(rb"\s+", b"", read_again) == re.sub(rb"\s+", b"", text)
+        kept = re.sub(rb"\s+", b"", b"".join(it.text.encode("latin-1") for it in found)) == re.sub(rb"\s+", b"", text)
         told = source.parse(text)
         networks = [source.network(told, name) for name in told.tasks]
         trial.check(f"any bytes can be read: {text[:80]!r}", kept and len(networks) == len(told.tasks))
     for offset in (0, 5, len(whole) - 1):
         lines = lexemes.Lines(whole)
         trial.check_equal("a place and its offset", lines.offset(lines.place(offset)), offset)
-
-
-def try_all(trial):
-    try_networks(trial)
-    try_parts(trial)
-    try_bytes(trial)

@@ -1,4 +1,4 @@
-"""The recipes of docs/RECIPES.md: each file and folder that one names is there."""
+"""The recipes of the page Recipes: each file and folder that a recipe names exists."""
 import os
 import re
 

@@ -1,6 +1,6 @@
-"""The texts of `crates/vlog_tests/stdin`, which the slow reference of a cycle runs: `cosim` carries what is in `stdout` there, and of those by hand a second evaluator
-(`runner/second/cycles.py`), written from docs/SUBSET.md alone, shows every line of it; and the sources of `cases/circuits/`, whose text by `build` is in that `stdin`, with what
-`run` shows of them in that `stdout`.
+"""The texts of `crates/vlog_tests/stdin`, which the slow reference of a cycle runs: `cosim` carries what `stdout` there has, and a second evaluator (`runner/second/cycles.py`)
+shows the same lines of the texts by hand. The evaluator is written from docs/SUBSET.md only. The texts that `build` makes of the sources of `cases/circuits/` are in that
+`stdin`, too, with what `run` shows of them in that `stdout`.
 
 The gate compares the crate's `stdout` with what the reference shows. Behind MARK stand the circuits of tests/cases/circuits: what they are to show is what `run` shows of their
 sources, and the cycle in which `cosim` has done them. `tests/run.py write reference PROGRAM` writes both anew."""

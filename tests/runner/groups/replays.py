@@ -1,4 +1,5 @@
-"""Runs that explanations make once more in Python (`tools/vechaqir/machine/untimed.py`), compared with the program: ticks, tokens, cells and the end of each example and of 120 networks made at random; and depths that end a deadlock."""
+"""Runs that explanations repeat in Python (`tools/vechaqir/machine/untimed.py`), compared with the program: ticks, tokens, cells and the end of each example and of 120 random
+networks, and depths that end a deadlock."""
 import json
 import os
 from pathlib import Path
@@ -107,9 +108,3 @@ def try_confirmed(trial):
     run = replay.given(read, source.network(read, "TooShallow"), b"{}", [path, "TooShallow"])
     said = depths.ending(run, Program(trial.program, False))
     trial.check("the depth that ends examples/too_shallow.cpp", said is not None and said[0].startswith("give `data` a depth of 2 (line ") and said[0].endswith("now 1): the least with which this run ends"), f"   {said}")
-
-
-def try_all(trial):
-    try_sources(trial)
-    try_networks(trial)
-    try_confirmed(trial)

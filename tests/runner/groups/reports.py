@@ -1,22 +1,12 @@
-"""What `tools/report.py` makes of runs: signs, shortened streams, ticks, accesses past a memory's end, JSON, and comparisons."""
+"""What `tools/report.py` makes of runs: signs, shortened streams, ticks, accesses past the end of a memory, JSON, and comparisons."""
 import json
 
-from runner.trial import ROOT
+from runner.trial import ROOT, read
 
 # Two detached tasks in a row, and a stream of a hundred tokens.
-DETACHED = """void Ask(tapa::ostream<int>& q, tapa::istream<int>& r) { for (int i = 0; i < 100; ++i) { q << -i; int x = r.read(); } }
-void Pass(tapa::istream<int>& a, tapa::ostream<int>& b) { for (;;) b << a.read(); }
-void T() { tapa::stream<int> q, between, r; tapa::task().invoke(Ask, q, r).invoke<tapa::detach>(Pass, q, between).invoke<tapa::detach>(Pass, between, r); }
-"""
+DETACHED = read("tests/cases/files/detached.cpp")
 # The last line reads past the end in the arm that is not chosen, which does not matter.
-ARRAY = """void F(tapa::mmap<int> m) {
-  int a[4];
-  for (int i = 0; i < 6; ++i) { a[i] = i; }
-  for (int i = 0; i < 6; ++i) { m[i] = a[i]; }
-  for (int i = 0; i < 6; ++i) { int x = i < 4 ? a[i] : 0; }
-}
-void T(tapa::mmap<int> m) { tapa::task().invoke(F, m); }
-"""
+ARRAY = read("tests/cases/files/past_the_end.cpp")
 VECTORS = ("examples/vector_add.cpp", "VecAdd", "examples/vector_add.json")
 
 
@@ -66,9 +56,3 @@ def try_json(trial):
     for words, status in ((["--help"], 0), ([], 2), (["a.cpp", "T", "--shrt"], 2), (["none.cpp", "T"], 1), ([*VECTORS, "--expect", trial.put("e.json", "[]")], 1)):
         ran = trial.tool("report.py", *words)
         trial.check(f"report.py {' '.join(words)}", ran[0] == status and "Traceback" not in ran[2], f"   {ran}")
-
-
-def try_all(trial):
-    try_lines(trial)
-    try_past_end(trial)
-    try_json(trial)

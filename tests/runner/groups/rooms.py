@@ -1,6 +1,8 @@
-"""The Python of `tools/` and `tests/`: imports go one way between the rooms of `tools/vechaqir`, as docs/ARCHITECTURE.md draws it; modules and functions are short, each module says what
-it is, and pyflakes is silent, where it is installed. The groups have their rows in tests/README.md."""
+"""The Python code of `tools/` and `tests/`: imports between the rooms go one way, as the page Architecture draws it, and modules and functions are short. Each module says
+what it is, each function of the package has types and is named somewhere, and pyflakes reports nothing. The groups have their rows in tests/README.md."""
 import ast
+import collections
+import re
 import shutil
 import subprocess
 
@@ -18,6 +20,11 @@ def modules():
     return {path: read(path) for path in sorted(set(kept))}
 
 
+def defined(kinds=ast.FunctionDef):
+    """Each function, or what else is defined, with its module's path."""
+    return [(path, it) for path, text in modules().items() for it in ast.walk(ast.parse(text)) if isinstance(it, kinds)]
+
+
 def try_rooms(trial):
     below = rooms.imports()
     trial.check_equal("rooms that import each other in a ring", sorted(set(below) - set(rooms.order(below))), [])
@@ -28,10 +35,23 @@ def try_rooms(trial):
 
 
 def try_sizes(trial):
-    found = modules()
-    trial.check_equal(f"modules of more than {MODULE} lines", [path for path, text in found.items() if text.count("\n") > MODULE], [])
-    functions = [(path, it) for path, text in found.items() for it in ast.walk(ast.parse(text)) if isinstance(it, ast.FunctionDef)]
-    trial.check_equal(f"functions of more than {FUNCTION} lines", [f"{path}: {it.name}" for path, it in functions if it.end_lineno - it.lineno >= FUNCTION], [])
+    trial.check_equal(f"modules of more than {MODULE} lines", [path for path, text in modules().items() if text.count("\n") > MODULE], [])
+    trial.check_equal(f"functions of more than {FUNCTION} lines", [f"{path}: {it.name}" for path, it in defined() if it.end_lineno - it.lineno >= FUNCTION], [])
+
+
+def try_named(trial):
+    """Each function and class is named besides where it is defined; those of tests/cases are found by unittest, and those that groups begin with `try_` by the runner."""
+    named = collections.Counter(word for text in modules().values() for word in re.findall(r"\w+", text))
+    called = {it.name for path, it in defined() if path.startswith("tests/runner/groups/") and it.name[:4] == "try_" and (it.decorator_list or len(it.args.args) == 1)}
+    alone = [f"{path}: {it.name}" for path, it in defined((ast.FunctionDef, ast.ClassDef)) if named[it.name] == 1 and it.name[:2] != "__" and not path.startswith("tests/cases/") and it.name not in called]
+    trial.check_equal("functions and classes that nobody names", alone, [])
+
+
+def try_types(trial):
+    """Each function of the package has types, which the group module checks by `mypy --strict`, where it is installed."""
+    own = [(path, it, it.args) for path, it in defined() if path.startswith(rooms.PACKAGE)]
+    bare = [f"{path}: {it.name}" for path, it, of in own if not it.returns or any(not one.annotation and one.arg not in ("self", "cls") for one in [*of.args, *of.kwonlyargs])]
+    trial.check_equal("functions of the package without types", bare, [])
 
 
 def try_pyflakes(trial):
@@ -43,9 +63,6 @@ def try_pyflakes(trial):
     trial.check_equal("what pyflakes says", said, [])
 
 
-def try_all(trial):
-    try_rooms(trial)
-    try_sizes(trial)
-    try_pyflakes(trial)
+def try_lists(trial):
     lists.check(trial, rooms.LISTS, "rooms")
     lists.check(trial, groups.LISTS, "groups")

@@ -1,4 +1,4 @@
-"""Commands on files, with all that they write: the cases `cases/runs/*.cases`."""
+"""Commands on files, with everything that they write, by the cases `cases/runs/*.cases`."""
 import os
 import re
 import shlex
@@ -66,8 +66,7 @@ def try_command(trial, name, command, folder=None):
 
 
 def try_all(trial):
-    folder = os.path.join(CASES, "runs")
-    for file in sorted(os.listdir(folder)):
+    for file in sorted(os.listdir(os.path.join(CASES, "runs"))):
         if file.endswith(".cases"):
             for name, files, commands in cases(f"tests/cases/runs/{file}"):
                 for path, text in files.items():

@@ -1,16 +1,18 @@
-"""Every script of tools/ is executable, answers `--help`, and ends in no traceback whatever its words, files and streams are."""
+"""Every script of tools/: it is executable, answers `--help`, and never ends in a traceback, whatever its words, files and streams are."""
 import glob
 import os
 import random
 import subprocess
 from pathlib import Path
 
-from runner.trial import ROOT, read
+from runner.trial import ROOT, each, read
 
 # Those that build, install or prove something whatever they are given, or run many circuits; only their `--help` is tried.
 LONG = ("unproved.py", "in_parts.py", "check_memories.py", "check_verilog.sh", "install", "release.sh")
 PIECES = ["void T(", "tapa::istream<int>& q", ") {", "}", "{", '{"rows": 1,', '"slots": [', "]", "stream q: 1 2", "slot 0 0: 1 2", "$var wire 1 ! x $end", "#0", "1!", "$enddefinitions $end", "module t_T (", "endmodule",
           "\xff", "\x00", "tapa: A$0 waits to read q", "tapa: x.cpp:1:1: P1 x", "done 3", "1e999", "-5", "[[", "#define N", "struct", "/*", "\"", "\n", "\n", "\n", " ", " "]
+# What some scripts say of no words at all.
+MISSING = {"floorplan": "F.plan, DEV", "graph": "F.v", "place": "SRC, TOP, DEV", "waves": "F.vcd", "written_out": "SRC"}
 WORDS = ["T", "--write", "--nets", "--fill", "-1", "3", "--json", "--top", "--", "", "x", "--plan", "--places"]
 
 
@@ -28,6 +30,7 @@ def run(trial, path, words, folder):
     return ran.returncode, ran.stderr.decode("utf-8", "replace"), ran.stdout
 
 
+@each(lambda: scripts())
 def try_help(trial, path):
     name = os.path.relpath(path, ROOT)
     trial.check(f"{name} is executable", os.access(path, os.X_OK))
@@ -36,6 +39,10 @@ def try_help(trial, path):
     trial.check(f"tools/README.md has a row of {name}", f"`{os.path.basename(path)}`" in read("tools/README.md"))
     status, err, out = run(trial, path, ["--help"], ROOT)
     trial.check(f"{name} answers --help", status == 0 and len(out) > 60 and not err, f"   {status} {err}")
+    trial.check(f"{name} --help names the script that was called", not path.endswith(".py") or out.count(name.encode()) == out.count(path.encode()), f"   {out.decode()}")
+    missing = MISSING.get(os.path.basename(name)[:-3])
+    if missing:
+        trial.check_equal(f"{name} names the words that are missing", run(trial, path, [], ROOT)[:2], (2, f"{name}: the following arguments are required: {missing} (--help says more)\n"))
     closed = subprocess.run(["sh", "-c", f"exec {path} --help | true"], cwd=ROOT, stdin=subprocess.DEVNULL, capture_output=True, check=False)
     trial.check(f"{name} --help ends where nobody reads it", b"Traceback" not in closed.stderr, f"   {closed.stderr[-300:]}")
     for stream in ("<&-", ">&-"):
@@ -57,6 +64,7 @@ def try_words(trial, path, words, folder):
     trial.check(f"{os.path.relpath(path, ROOT)} {' '.join(words)} has a plain answer", is_right, f"   {status} {err[-600:]}")
 
 
+@each(((1, 2),))
 def try_flood(trial, seed, count):
     """So many calls of each script with files and words made at random."""
     some = random.Random(f"scripts {seed}")
@@ -71,7 +79,8 @@ def try_flood(trial, seed, count):
             try_words(trial, path, words, folder)
 
 
-def try_all(trial):
-    for path in scripts():
-        try_help(trial, path)
-    try_flood(trial, 1, 2)
+def try_folder_that_is_gone(trial):
+    """A script that is called in a folder that is no more shows its page."""
+    path = os.path.join(ROOT, "tools", "waves.py")
+    ran = subprocess.run(["sh", "-c", 'mkdir gone; cd gone; rmdir ../gone; exec "$0" --help', path], cwd=trial.folder.name, stdin=subprocess.DEVNULL, capture_output=True, text=True, check=False)
+    trial.check("a script in a folder that is gone", ran.returncode == 0 and path in ran.stdout and not ran.stderr, f"   {ran}")

@@ -1,4 +1,5 @@
-"""Sources that are refused, each next to the nearest one that is accepted: the tables `cases/sources/*.rows`."""
+"""Sources that are refused, each next to the nearest source that is accepted, by the tables `cases/sources/*.rows`."""
+import functools
 import os
 import re
 
@@ -33,7 +34,17 @@ def table(path):
     return lines[0], lines[1:]
 
 
-def try_pair(trial, name, row):
+def try_rows(trial, folder, kinds):
+    """Each row of a folder's tables, by the function of its kind."""
+    for name in sorted(os.listdir(os.path.join(CASES, folder))):
+        if name.endswith(".rows"):
+            kind, rows = table(f"tests/cases/{folder}/{name}")
+            trial.check(f"tests/cases/{folder}/{name} is a table with rows", kind in kinds and rows)
+            for row in rows:
+                kinds[kind](trial, row)
+
+
+def try_pair(trial, row, name):
     """`CODE LINE:COL `refused` `accepted``, each of them in the context of that name."""
     before, after = context(name)
     wanted, (refused, accepted) = parts(row)
@@ -98,17 +109,9 @@ def try_prefixes(trial, row):
             trial.check(f"{name} before byte {end}", told.startswith(OF_TEXT) and not told.startswith("P2"), f"   {told}")
 
 
-KINDS = {"whole": try_whole, "bytes": try_bytes, "repeated": try_repeated, "grammar": try_grammar, "grown": try_grown, "prefixes": try_prefixes}
+KINDS = {f"in {name}": functools.partial(try_pair, name=name) for name in ("file", "leaf", "tasks")}
+KINDS |= {"whole": try_whole, "bytes": try_bytes, "repeated": try_repeated, "grammar": try_grammar, "grown": try_grown, "prefixes": try_prefixes}
 
 
 def try_all(trial):
-    folder = os.path.join(CASES, "sources")
-    for name in sorted(os.listdir(folder)):
-        if not name.endswith(".rows"):
-            continue
-        kind, rows = table(f"tests/cases/sources/{name}")
-        for row in rows:
-            if kind.startswith("in "):
-                try_pair(trial, kind[len("in "):], row)
-            else:
-                KINDS[kind](trial, row)
+    try_rows(trial, "sources", KINDS)

@@ -1,4 +1,5 @@
-"""`./tapa` on a terminal: explanations, how long a run has taken, Ctrl-C, the signals by which the program dies, and what is said of an unproved program."""
+"""`./tapa` on a terminal: explanations, how long a run has taken, Ctrl-C, the signals by which the program ends, and what is said of an unproved program."""
+import contextlib
 import os
 import pty
 import shutil
@@ -63,14 +64,9 @@ def with_terminal(words, folder):
     ran = subprocess.Popen(words, cwd=folder, stdin=subprocess.DEVNULL, stdout=subprocess.PIPE, stderr=theirs)
     os.close(theirs)
     out, shown = ran.stdout.read(), b""
-    while True:
-        try:
-            piece = os.read(ours, 4096)
-        except OSError:
-            break
-        if not piece:
-            break
-        shown += piece
+    with contextlib.suppress(OSError):
+        while piece := os.read(ours, 4096):
+            shown += piece
     os.close(ours)
     return ran.wait(), out.decode(), shown.decode().replace("\r\n", "\n")
 
@@ -106,8 +102,7 @@ def try_signals(trial, folder):
             os.write(shown.ours, b"\x03")
         else:
             os.kill(shown.number, number)
-        status, text = shown.end()
-        trial.check(f"{name} ends a run by its signal", os.WIFSIGNALED(status) and os.WTERMSIG(status) == number and "Traceback" not in text, f"   {status} {text!r}")
+        trial.check_that(f"{name} ends a run by its signal", shown.end(), lambda status, text: os.WIFSIGNALED(status) and os.WTERMSIG(status) == number and "Traceback" not in text)
 
 
 def try_messages(trial):

@@ -1,11 +1,11 @@
-"""Verilog texts: whether each is of the subset, and else the rule that it breaks, with the place or the name: the tables `cases/texts/*.rows`."""
+"""Verilog texts: whether each is a text of the subset, and otherwise the rule that it breaks, with the place or the name, by the tables `cases/texts/*.rows`."""
 import os
 import re
 import resource
 
 from runner.made import alike
 from runner.groups.sources import bytes_of, parts
-from runner.trial import read
+from runner.trial import each, read
 
 LETTERS = {"n": "\n", "r": "\r", "t": "\t", "s": " ", "b": "\\x5c"}
 # a text of which nothing is told, but perhaps that it wants data or is not done in one cycle
@@ -51,6 +51,7 @@ def try_case(trial, word, frame, own):
     trial.check_equal(own, told(trial, framed(frame, net, own)), wanted)
 
 
+@each(("tests/cases/texts/read.rows", "tests/cases/texts/rules.rows"))
 def try_table(trial, path):
     head, frame, gaps = "", "", []
     for row in read(path).splitlines():
@@ -146,11 +147,3 @@ def try_doubled(trial):
             return
         trial.check_equal(f"{what} in {megabytes} MB", (said.status, said.out, said.err), (9, b"", b"tapa: out of memory\n"))
         trial.check(f"{what} in {megabytes} MB, in time", taken < 0.5, f"   {taken} seconds of a processor")
-
-
-def try_all(trial):
-    try_table(trial, "tests/cases/texts/read.rows")
-    try_table(trial, "tests/cases/texts/rules.rows")
-    try_large(trial)
-    try_alike(trial)
-    try_doubled(trial)

@@ -1,4 +1,4 @@
-"""What the tools print for messages and sources of which it is known: explanations, written-out arrays, data files, signs, and where editors go."""
+"""What the tools print for messages and sources whose answer is known: explanations, written-out arrays, data files, signs, and the places to which editors go."""
 import json
 import os
 import re
@@ -9,26 +9,11 @@ from pathlib import Path
 from runner.copied import repository
 from runner.trial import ROOT, first_words, read, sources
 
-EXPLAINED = """tapa: examples/refused/conditional_read.cpp:8:31: C8 operation in a conditional place
-    8 |   while (!q.eot(nullptr) && q.peek(nullptr) == 0) { q.read(); }
-      |                               ^
-      = `q.peek` is right of `&&`, where C++ may skip it
-      = why: a circuit computes every expression whole, so it cannot skip an operation
-      = instead: do the operation before the expression, or in an `if` within an `if`
-      = for example:
-      |   bool over = i.eot(nullptr);
-      |   if (!over) { int next = i.peek(nullptr); if (next == n) { i.read(); } }
-      = docs/REFUSALS.md, C8
-"""
+EXPLAINED = read("tests/cases/files/conditional_read.told")
 
 
 # A source with streams of several kinds, one of them inside an upper-level task.
-SIGNS = """void P(tapa::ostream<int8_t>& x) { x << 255; x << 128; }
-void F(tapa::istream<int8_t>& x, tapa::ostream<uint8_t>& r) { x.read(); x.read(); r << 200; r.close(); }
-void C(tapa::istream<uint8_t>& r) { r.read(); r.open(); }
-void U(tapa::ostream<uint8_t>& r) { tapa::stream<int8_t, 4> x("x"); tapa::task().invoke(P, x).invoke(F, x, r); }
-void T() { tapa::stream<uint8_t> r; tapa::task().invoke(U, r).invoke(C, r); }
-"""
+SIGNS = read("tests/cases/files/signs.cpp")
 
 # A source whose second task is unknown, the place that is told, and what stands below the message.
 ARRAYS = """void C(tapa::istream<int>& q) { q.read(); }
@@ -42,8 +27,7 @@ ARRAYS_SHOWN = """    2 | void T() { tapa::streams<int, 3> s; tapa::task().invok
 
 
 def try_explain(trial):
-    first = EXPLAINED.split("\n")[0] + "\n"
-    trial.check_equal("explain.py on a place", trial.tool("explain.py", given=first)[1], EXPLAINED)
+    trial.check_equal("explain.py on a place", trial.tool("explain.py", given=EXPLAINED.split("\n")[0] + "\n")[1], EXPLAINED)
     lines = sorted(trial.lines)
     _, told, _ = trial.tool("explain.py", given="".join(line + "\n" for line in lines))
     kept = [line for line in told.splitlines() if not line.startswith("      ") and not re.match(r" +\d+ \| ", line)]
@@ -92,8 +76,7 @@ def try_data_tools(trial):
         said = trial.run(["run", source, top, trial.put("t.json", made), "--steps", "10000"], ROOT)
         trial.check(f"the template of {source} is a data file of it", said.status in (0, 7, 8), f"   {said} {err}")
     for words, status, part in ((["examples/vector_add.cpp", "Add"], 1, "Add invokes no task, so it is no top task: examples/vector_add.cpp has VecAdd"), (["examples/vector_add.cpp", "VecAdd", "65537"], 2, "CELLS: 65537 is no")):
-        said = trial.tool("template.py", *words)
-        trial.check(f"template.py {' '.join(words)}", said[:2] == (status, "") and part in said[2], f"   {said}")
+        trial.check_that(f"template.py {' '.join(words)}", trial.tool("template.py", *words), lambda *said: said[:2] == (status, "") and part in said[2])
     said = trial.run(["run", "examples/vector_add.cpp", "VecAdd", "examples/vector_add.json"], ROOT)
     _, shown, _ = trial.tool("signed.py", "examples/vector_add.cpp", "VecAdd", given=said.out.decode())
     wanted = said.out.decode().replace("4294967246", "-50").replace("4294967251", "-45")
@@ -133,10 +116,3 @@ def try_editors(trial):
     subprocess.run(words, cwd=folder, stdin=subprocess.DEVNULL, capture_output=True, timeout=20, check=False)
     text = open(told, encoding="utf-8").read() if os.path.exists(told) else "nothing"
     trial.check_equal("Vim's :make goes to the place in the source", text, "w.cpp 2 72\n")
-
-
-def try_all(trial):
-    try_explain(trial)
-    try_data_tools(trial)
-    try_written_out(trial)
-    try_editors(trial)

@@ -1,6 +1,6 @@
-"""Operators at the bounds of each kind, conversions, the kind in which operands meet: the tables `cases/values/*.rows`."""
+"""Operators at the bounds of each type, conversions, and the types to which operands are converted, by the tables `cases/values/*.rows`."""
 from runner.groups.data import run_on
-from runner.groups.sources import table
+from runner.groups.sources import try_rows
 
 PROGRAM = """const {left} A = ({left}) {a}; const {right} B = ({right}) {b};
 {constants}
@@ -71,7 +71,4 @@ KINDS = {"operators": try_operators, "conversions": try_conversions, "joined": t
 
 
 def try_all(trial):
-    for name in KINDS:
-        kind, rows = table(f"tests/cases/values/{name}.rows")
-        for row in rows:
-            KINDS[kind](trial, row)
+    try_rows(trial, "values", KINDS)

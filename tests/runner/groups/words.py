@@ -1,9 +1,9 @@
-"""The words of a command: what they say, and words that are none, in the tables `cases/words/*.rows`."""
+"""The words of a command: what they mean, and words that are not a command, by the tables `cases/words/*.rows`."""
 import os
 import random
 
 from runner.second import reader
-from runner.groups.sources import parts, table
+from runner.groups.sources import parts, try_rows
 
 ENDLESS = "void A() { while (true) {} } void T() { tapa::task().invoke(A); }\n"
 SHORT = "void A() { } void T() { tapa::task().invoke(A); }\n"
@@ -45,8 +45,7 @@ def try_refused(trial, row):
     _, (words,) = parts(row)
     for name in ("s", "d"):
         trial.put(name, SHORT)
-    said = trial.run(words.split("|"))
-    trial.check(row, (said.status, said.out.decode(), said.err.decode()) == (2, "", USAGE), f"   {said}")
+    trial.check_that(row, trial.run(words.split("|")), lambda said: (said.status, said.out.decode(), said.err.decode()) == (2, "", USAGE))
 
 
 # ---- random words, beside a second reader
@@ -55,6 +54,7 @@ def try_refused(trial, row):
 COUNTING = "void A() { for (int i = 0; i < 100; ++i) { } } void T() { tapa::task().invoke(A); }\n"
 TICKS = 203
 DEVICE = '{"rows":1,"cols":1,"slots":[{"LUT":1000,"FF":1000}]}'
+FILES = ("s.cpp", "d.json", "e.json", "x.v")
 RANDOM_LINES = 300
 
 NAMES = ["s.cpp", "s.cpp", "s.cpp", "T", "T", "d.json", "e.json", "x.v", "x.v", "none", "-", "", "7", "s.cpp=", "=5"]
@@ -90,47 +90,29 @@ def random_words(draw):
     return [command if draw.random() < 0.97 else draw.choice(["Run", "", "--", "walk"])] + [word for part in parts for word in part]
 
 
+def other_file(file, wanted, status):
+    """The status and the message where a file can't be read, or is another one than the good one of its place; or nothing."""
+    if file not in FILES:
+        return 5, f"tapa: cannot read {file}\n"
+    return None if file == wanted else (status, None)
+
+
 def source_wanted(source, top):
     """The status and the message that a source and its task get before anything else is read, or nothing."""
-    if source not in ("s.cpp", "d.json", "e.json", "x.v"):
-        return 5, f"tapa: cannot read {source}\n"
-    if source != "s.cpp":
-        return 1, None
-    return None if top == "T" else (1, None)
+    return other_file(source, "s.cpp", 1) or (None if top == "T" else (1, None))
 
 
-def run_wanted(positionals, said):
-    data = positionals[2] if len(positionals) == 3 else "d.json"
-    if data not in ("s.cpp", "d.json", "e.json", "x.v"):
-        return 5, f"tapa: cannot read {data}\n"
-    if data != "d.json":
-        return 3, None
-    return (0, "") if said["--steps"] >= TICKS else (7, f"tapa: more than {said['--steps']} ticks\n")
+def run_wanted(data, said):
+    return other_file(data, "d.json", 3) or ((0, "") if said["--steps"] >= TICKS else (7, f"tapa: more than {said['--steps']} ticks\n"))
 
 
 def plan_wanted(device):
-    if device not in ("s.cpp", "d.json", "e.json", "x.v"):
-        return 5, f"tapa: cannot read {device}\n"
-    return (0, "") if device == "e.json" else (3, None)
+    return other_file(device, "e.json", 3) or (0, "")
 
 
-def cosim_wanted(positionals, said, cycles):
-    if positionals[0] not in ("s.cpp", "d.json", "e.json", "x.v"):
-        return 5, f"tapa: cannot read {positionals[0]}\n"
-    if positionals[0] != "x.v":
-        return 1, None
-    data = positionals[1] if len(positionals) == 2 else "d.json"
-    if data not in ("s.cpp", "d.json", "e.json", "x.v"):
-        return 5, f"tapa: cannot read {data}\n"
-    if data != "d.json":
-        return 3, None
-    return (0, "") if said["--cycles"] >= cycles else (7, f"tapa: not done after {said['--cycles']} cycles\n")
-
-
-def vcd_wanted(file):
-    if file not in ("s.cpp", "d.json", "e.json", "x.v"):
-        return 5, f"tapa: cannot read {file}\n"
-    return 1, f"tapa: {file}:1:1: X1 no dump\n"
+def cosim_wanted(text, data, said, cycles):
+    done = (0, "") if said["--cycles"] >= cycles else (7, f"tapa: not done after {said['--cycles']} cycles\n")
+    return other_file(text, "x.v", 1) or other_file(data, "d.json", 3) or done
 
 
 def asked_wanted(words, cycles):
@@ -142,14 +124,14 @@ def asked_wanted(words, cycles):
     if command == "gen":
         return 0, ""
     if command == "cosim":
-        return cosim_wanted(positionals, said, cycles)
+        return cosim_wanted(*[*positionals, "d.json"][:2], said, cycles)
     if command == "vcd":
-        return vcd_wanted(positionals[0])
+        return other_file(positionals[0], positionals[0], 1) or (1, f"tapa: {positionals[0]}:1:1: X1 no dump\n")
     first = source_wanted(*positionals[:2])
     if first is not None:
         return first
     if command == "run":
-        return run_wanted(positionals, said)
+        return run_wanted([*positionals, "d.json"][2], said)
     if command == "plan":
         return plan_wanted(positionals[2])
     return (0, "") if said["--device"] is None else plan_wanted(said["--device"])
@@ -175,17 +157,8 @@ def try_random(trial):
 
 
 def try_all(trial):
-    kind, rows = table("tests/cases/words/read.rows")
-    trial.check("the table of words that are read", kind == "read")
-    for row in rows:
-        try_read(trial, row)
-    kind, rows = table("tests/cases/words/refused.rows")
-    trial.check("the table of words that are refused", kind == "refused")
-    for row in rows:
-        try_refused(trial, row)
-    said = trial.run([])
-    trial.check("no words", (said.status, said.err.decode()) == (2, USAGE), f"   {said}")
+    try_rows(trial, "words", {"read": try_read, "refused": try_refused})
+    trial.check_that("no words", trial.run([]), lambda said: (said.status, said.err.decode()) == (2, USAGE))
     trial.put("r.cpp", ENDLESS)
-    said = trial.run(["run", "r.cpp", "T"])
-    trial.check("without --steps", (said.status, said.err.decode()) == (7, f"tapa: more than {DEFAULT} ticks\n"), f"   {said}")
+    trial.check_that("without --steps", trial.run(["run", "r.cpp", "T"]), lambda said: (said.status, said.err.decode()) == (7, f"tapa: more than {DEFAULT} ticks\n"))
     try_random(trial)

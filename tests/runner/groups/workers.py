@@ -1,5 +1,6 @@
-"""`run` of 200 networks made at random, by 1, 2, 3 and 64 workers: one answer for all of them; together the networks end in each way. Of a run with two workers two threads work,
+"""`run` of 200 random networks by 1, 2, 3 and 64 workers: each network has one answer, and together the networks end in each way. Of a run with two workers two threads work,
 where there are two processors, and one of a run with one worker. `tests/stress/threads.py PROGRAM` tries more."""
+import contextlib
 import json
 import os
 import random
@@ -123,11 +124,9 @@ def busy(tasks, turns):
 def times_of(process):
     """How long each thread of a process has been on a processor, in nanoseconds by the thread's number; nothing once it has ended."""
     found = {}
-    try:
+    with contextlib.suppress(OSError, ValueError, IndexError):
         for thread in os.listdir(f"/proc/{process.pid}/task"):
             found[thread] = int(Path(f"/proc/{process.pid}/task/{thread}/schedstat").read_text(encoding="ascii").split()[0])
-    except (OSError, ValueError, IndexError):
-        pass
     return found
 
 
@@ -153,6 +152,18 @@ def try_threads(trial):
     trial.check_equal("threads that work in a run without --workers, and its status", working_threads(trial, words), (1, 0))
 
 
-def try_all(trial):
-    try_networks(trial)
-    try_threads(trial)
+# Two tasks that hand tokens to and fro, so that their batches are small, and then have much to do each by itself, twice.
+PHASES = """void A(tapa::istream<int>& p, tapa::ostream<int>& q) { int x = 1; for (int n = 0; n < 2; ++n) {
+  for (int i = 0; i < 4000; ++i) { q << x; x = x + p.read(); } for (int i = 0; i < 60000; ++i) { x = x * 5 + i; } } }
+void B(tapa::istream<int>& p, tapa::ostream<int>& q) { int x = 1; for (int n = 0; n < 2; ++n) {
+  for (int i = 0; i < 4000; ++i) { x = x + p.read(); q << x; } for (int i = 0; i < 60000; ++i) { x = x * 5 + i; } } }
+void T() { tapa::stream<int, 1> a; tapa::stream<int, 1> b; tapa::task().invoke(A, a, b).invoke(B, b, a); }
+"""
+
+
+def try_phases(trial):
+    """Workers share a network while its batches are large, and leave it to one thread while they are small: it ends as by one worker."""
+    trial.put("w.cpp", PHASES)
+    one, two = (trial.run(["run", "w.cpp", "T", "--workers", count]) for count in "12")
+    trial.check("small and large batches by turns", (one.status, one.out, one.err) == (two.status, two.out, two.err) and one.status == 0, f"   one: {one}   two: {two}")
+    trial.check_equal("ticks of small and large batches by turns", one.out.splitlines()[-1], b"done 800032")

@@ -4,7 +4,7 @@ import re
 import subprocess
 from pathlib import Path
 
-from runner.trial import ROOT
+from runner.trial import ROOT, read
 
 # The leaf tasks that are written by hand, each with the example whose circuit has its module, and the example's top task.
 TASKS = {"Mmap2Stream": ("vector_add", "VecAdd"), "Add": ("vector_add", "VecAdd"), "Tap": ("fir", "Fir")}
@@ -12,27 +12,7 @@ FOLDER = os.path.join(ROOT, "tests", "measure", "rtl")
 PORT = re.compile(r"(input|output) (?:\[ (\d+) : 0 \] )?(\w+)")
 
 # How an input is chosen: a scalar is small, one of eight tokens is an end of transaction.
-TEMPLATE = """module bench ;
-  reg clk = 0 ; reg rst = 1 ; integer seed = {seed} ; integer cycle ; integer wrong = 0 ; integer bits ;
-{registers}
-{wires}
-{instances}
-  initial begin
-    for ( cycle = 0 ; cycle < {cycles} ; cycle = cycle + 1 ) begin
-      rst = cycle % 997 == 0 ;
-{choices}
-      #1 ;
-      if ( cycle > 0 && ( {differs} ) ) begin
-        wrong = wrong + 1 ;
-        if ( wrong < 4 ) $display ( "cycle %0d differs" , cycle ) ;
-      end
-      #1 clk = 1 ; #1 clk = 0 ;
-    end
-    $display ( "%0d cycles, %0d differ" , cycle , wrong ) ;
-    $finish ;
-  end
-endmodule
-"""
+TEMPLATE = read("tests/measure/rtl/bench.template")
 
 
 def module_of(text, name):
@@ -94,6 +74,4 @@ def compare(circuit, name, folder, cycles, seed=1):
     path, program = os.path.join(folder, f"{name}_bench.v"), os.path.join(folder, f"{name}_bench")
     Path(path).write_text(printed + hand_text(name) + bench(ports_of(printed), name, cycles, seed), encoding="utf-8")
     built = subprocess.run(["iverilog", "-g2005", "-o", program, path], capture_output=True, text=True, check=False)
-    if built.returncode:
-        return built.stderr
-    return subprocess.run(["vvp", "-n", program], capture_output=True, text=True, check=False).stdout.strip()
+    return built.stderr if built.returncode else subprocess.run(["vvp", "-n", program], capture_output=True, text=True, check=False).stdout.strip()

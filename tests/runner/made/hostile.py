@@ -70,9 +70,7 @@ class Caller:
         _, status, used = os.wait4(self.child, 0)
         self.child = 0
         signal.setitimer(signal.ITIMER_REAL, 0)
-        outputs = []
-        for name in (".out", ".err"):
-            outputs.append(Path(name).read_bytes())
+        outputs = [Path(name).read_bytes() for name in (".out", ".err")]
         return Answer(os.waitstatus_to_exitcode(status), outputs, self.is_stopped, used)
 
 

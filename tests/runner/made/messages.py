@@ -1,6 +1,8 @@
 """Bytes for a language server, made at random: right requests, wrong ones, cut ones, and what is no message."""
 import json
 
+from runner.trial import read
+
 NOTES = ["textDocument/didOpen", "textDocument/didOpen", "textDocument/didChange", "textDocument/didChange", "textDocument/didChange", "textDocument/didSave", "textDocument/didClose"]
 REQUESTS = ["textDocument/hover", "textDocument/definition", "textDocument/references", "textDocument/documentHighlight", "textDocument/prepareRename", "textDocument/rename", "textDocument/completion",
             "textDocument/documentSymbol"]
@@ -14,11 +16,7 @@ HEADERS = [b"", b"Content-Length: 5\r\n\r\n", b"Content-Length: -1\r\n\r\n", b"C
            b"Content-Length: 2\r\n\r\n{", b"Content-Length: 2\r\nContent-Type: x\r\n\r\n{}", b"Content-Length: 0\r\n\r\n", b"Content-Length: 6\r\n\r\n[1, 2]", b"Content-Length: 4\r\n\r\nnull"]
 
 
-SOURCE = """const int N = 4;
-void P(tapa::mmap<const int> a, int n, tapa::ostream<int>& q) { for (int i = 0; i < n; ++i) { q.write(a[i] + N); } q.close(); }
-void C(tapa::istream<int>& q, int s) { int t = s; TAPA_WHILE_NOT_EOT(q) { t += q.read(); } q.open(); }
-void T(tapa::mmap<const int> a, int n) { tapa::streams<int, 2> q; tapa::stream<int, N> r; tapa::task().invoke(P, a, n, r).invoke<tapa::detach>(C, r, 1).invoke(C, q[0], 2); }
-"""
+SOURCE = read("tests/cases/files/messages.cpp")
 
 
 def text(some):

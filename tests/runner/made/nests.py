@@ -41,8 +41,7 @@ def deep(some: random.Random) -> str:
     openers = some.sample(OPENERS, some.randint(1, len(OPENERS)))
     if some.random() < 0.4:
         slot, open_ones = some.choice(SLOTS)
-        front = some.choice(["", "1 + ", "x * "])
-        return slot.replace("@", wrapped(some, openers, levels - open_ones, front + some.choice(MEMBERS)))
+        return slot.replace("@", wrapped(some, openers, levels - open_ones, some.choice(["", "1 + ", "x * "]) + some.choice(MEMBERS)))
     statements = some.sample(STATEMENTS, some.randint(1, len(STATEMENTS)))
     if some.random() < 0.5:
         return "void F() { " + wrapped(some, statements, levels - 1, some.choice(ENDS)) + " }"

@@ -38,7 +38,7 @@ class Maker:
     """A source in the making: its structs and helper functions so far, and numbers for names."""
 
     def __init__(self, some):
-        self.some, self.structs, self.values, self.changers, self.fillers, self.count = some, {}, [], {}, {}, 0
+        self.some, self.structs, self.values, self.changers, self.fillers, self.turners, self.packed, self.whole, self.count = some, {}, [], {}, {}, {}, set(), ("", ""), 0
 
     def name(self, front):
         self.count += 1
@@ -54,6 +54,12 @@ class Maker:
             for index in ([""] if not field.cells else [f"[{self.some.randrange(field.cells)}]"]):
                 found += self.places(at + index, field.kind)
         return found
+
+    def every(self, text, kind):
+        """All numbers within a variable."""
+        if kind not in self.structs:
+            return [Place(text, kind)]
+        return [place for field in self.structs[kind] for at in range(max(1, field.cells)) for place in self.every(f"{text}.{field.name}" + (f"[{at}]" if field.cells else ""), field.kind)]
 
     def read(self, place):
         """A number of a place."""
@@ -88,7 +94,8 @@ class Maker:
         if chance < 0.75:
             return some.choice((f"(({some.choice(PLAIN)}) {first})", f"static_cast<{some.choice(PLAIN[:5])}>({first})", f"(-{first})", f"(~{first})"))
         if chance < 0.82:
-            return f"({self.test(places, depth - 1)} ? {first} : {self.number(places, depth - 1)})"
+            # g++ gives a bit field that is a branch of `?:` its declared type, and Clang what it is promoted to
+            return f"({self.test(places, depth - 1)} ? +{first} : +{self.number(places, depth - 1)})"
         if chance < 0.88:
             return f"std::{some.choice(('min', 'max'))}<int>({first}, {self.number(places, depth - 1)})"
         if chance < 0.92:
@@ -107,14 +114,16 @@ class Maker:
     def struct(self):
         """A struct, whose fields may be structs and arrays."""
         some, name = self.some, self.name("Item")
-        kinds = [*SCALARS, *[it for it in self.structs if it.count("Item") == 1][:1] * 2]
+        kinds = [*SCALARS, *list(self.structs)[:2] * 2]
         fields = [Field(some.choice(kinds), f"f{at}", some.choice((0, 0, 0, 0, 2, 3))) for at in range(some.randrange(1, 5))]
-        fields = [Field(it.kind, it.name, 0 if it.kind in self.structs or ":" in it.kind else it.cells) for it in fields]
+        fields = [Field(it.kind, it.name, 0 if ":" in it.kind or it.kind in self.structs and some.random() < 0.7 else it.cells) for it in fields]
         self.structs[name] = fields
         starts = [f" = {some.randrange(9)}" if is_number(it.kind) and it.kind in PLAIN and not it.cells and some.random() < 0.2 else "" for it in fields]
         lines = "".join(f"  {it.kind.split(' :')[0]} {it.name}{f'[{it.cells}]' if it.cells else ''}{it.kind.partition(' ')[2] and ' ' + it.kind.partition(' ')[2]}{start};\n" for it, start in zip(fields, starts))
-        is_short = len(fields) <= 2 and not any(it.cells or it.kind in self.structs or "64" in it.kind for it in fields)   # no field across two words
-        packed = "__attribute__((packed)) " if is_short and some.random() < 0.5 else ""
+        # g++ does not pack those, and structs within them only if they are plain data
+        is_plain = not any("ap_" in it.kind for it in self.every("", name)) and not any(it.kind in self.structs for it in fields)
+        packed = "__attribute__((packed)) " if is_plain and some.random() < 0.25 else ""
+        self.packed |= {name} if packed or any(it.kind in self.packed for it in fields) else set()
         return f"struct {packed}{name} {{\n{lines}}};\n"
 
     def assign(self, places, all_places):
@@ -129,17 +138,24 @@ def make_filler(maker, kind):
     """A helper that makes a struct of a word."""
     name, places = maker.name("Make"), maker.places("it", kind)
     own = [Place("word", "uint64_t")]
-    every = [place for field in maker.structs[kind] for at in range(max(1, field.cells)) for place in maker.places(f"it.{field.name}" + (f"[{at}]" if field.cells else ""), field.kind)]
-    lines = "".join(f"  {place.text} = {maker.value(place.kind, own, 2)};\n" for place in every)
+    lines = "".join(f"  {place.text} = {maker.value(place.kind, own, 2)};\n" for place in maker.every("it", kind))
     maker.changers.setdefault(kind, [])
     return name, f"static inline {kind} {name}(uint64_t word) {{\n  {kind} it;\n{lines}  {maker.assign(places, [*places, *own])}\n  return it;\n}}\n"
+
+
+def make_turner(maker, kind):
+    """A helper that takes a struct by value and gives another one."""
+    name, some = maker.name("Turned"), maker.some
+    places, own = maker.places("it", kind), [Place("by", "int")]
+    early = f"  if ({maker.test([*places, *own], 2)}) return {some.choice(('it', 'old', f'{maker.fillers[kind]}(by)'))};\n" if some.random() < 0.5 else ""
+    lines = "".join(f"  {maker.assign(places, [*places, *own])}\n" for _ in range(some.randrange(1, 3)))
+    return name, f"{kind} {name}({kind} it, {some.choice(('int', 'const int', 'int64_t'))} by) {{\n  const {kind} old = it;\n{lines}{early}  return {maker.test([*places, *own], 1)} ? old : it;\n}}\n"
 
 
 def make_fold(maker, kind):
     """A helper that folds a struct into a word."""
     name = maker.name("Fold")
-    every = [place for field in maker.structs[kind] for at in range(max(1, field.cells)) for place in maker.places(f"it.{field.name}" + (f"[{at}]" if field.cells else ""), field.kind)]
-    lines = "".join(f"  sum = sum * 31 + (uint64_t) {maker.read(place)};\n" for place in every)
+    lines = "".join(f"  sum = sum * 31 + (uint64_t) {maker.read(place)};\n" for place in maker.every("it", kind))
     return name, f"uint64_t {name}(const {kind}& it) {{\n  uint64_t sum = 17;\n{lines}  return sum;\n}}\n"
 
 

@@ -1,5 +1,5 @@
 """The tasks of a source that is made at random for `tools/port.py`, and its data."""
-from runner.made import ported
+from runner.made import ported, ported_bodies, ported_stages
 from runner.made.ported import PLAIN, Maker, Place
 
 BOX = """template <class T, int N>
@@ -85,15 +85,18 @@ def statement(maker, places, seen, depth):
     if depth > 0 and chance < 0.4:
         other = f" else {{\n{indented(block(maker, places, seen, depth - 1))}}}" if some.random() < 0.5 else ""
         return f"if ({maker.test(seen, 2)}) {{\n{indented(block(maker, places, seen, depth - 1))}}}{other}\n"
-    if chance < 0.46:
+    if chance < 0.44:
         return listed(maker, places, seen)
-    if chance < 0.51:
+    if chance < 0.47:
         return boxed(maker, places, seen)
-    if chance < 0.56:
+    if chance < 0.5:
         return lambdas(maker, places, seen)
-    if chance < 0.62:
+    if chance < 0.74:
+        return ported_bodies.more(maker, places, seen, maker.whole)
+    if chance < 0.8:
         name = maker.name("x")
-        return f"const auto {name} = {maker.number(seen, 3)};\n{maker.assign(places, [*seen, Place(name, 'int')])}\n"
+        kind = "int64_t" if any(":" in it.kind for it in seen) else "auto"   # g++ 12 takes the type of a bit field for `auto` within a template, and not what it becomes
+        return f"const {kind} {name} = {maker.number(seen, 3)};\n{maker.assign(places, [*seen, Place(name, 'int')])}\n"
     return maker.assign(places, seen) + "\n"
 
 
@@ -103,82 +106,72 @@ def changed(maker, variable, kind, seen):
     return maker.some.choice((f"{called};\n", f"if ({called}) {{\n  {maker.assign(maker.places(variable, kind), seen)}\n}}\n", f"const bool is_{variable} = {called};\nif (!is_{variable}) {{\n  {maker.assign(maker.places(variable, kind), seen)}\n}}\n"))
 
 
-def worked(maker, taken, given, extra):
+def worked(maker, taken, given, extra, read="in.read(nullptr)"):
     """The body of a stage's loop: from a struct that it read to one that it writes."""
     some, one = maker.some, Place(extra, "int")
     places = maker.places("in_token", taken)
     seen = [*places, one]
-    lines = f"{taken} in_token = in.read({some.choice(('nullptr', ''))});\n"
+    maker.whole = ("in_token", taken)
+    lines = f"{taken} in_token = {read};\n"
     lines += changed(maker, "in_token", taken, seen) if maker.changers.get(taken) and some.random() < 0.7 else ""
     lines += "".join(statement(maker, places, seen, 2) for _ in range(some.randrange(1, 3)))
     if taken == given:
-        lines += f"{given} token = in_token;\n"
+        lines += f"{given} token = {some.choice(('in_token', f'{maker.turners[given]}(in_token, {maker.number(seen, 1)})'))};\n"
     else:
         lines += f"{given} token = {maker.fillers[given]}({maker.number(seen, 2)});\n"
+    maker.whole = ("token", given)
     own = maker.places("token", given)
     lines += "".join(statement(maker, own, [*seen, *own], 1) for _ in range(some.randrange(1, 3)))
-    return lines + f"{some.choice(('out.write(token)', 'out << token'))};\n"
+    lines += f"token = {maker.turners[given]}(token, {maker.number(seen, 1)});\n" if some.random() < 0.2 else ""
+    return lines + f"{some.choice(('out.write(token)', 'out << token', f'Sent<{given}>(out, token)'))};\n"
 
 
 def stage(maker, taken, given, name):
-    """A stage, a template over a number."""
-    return f"template <int K>\nvoid {name}(tapa::istream<{taken}>& in, tapa::ostream<{given}>& out) {{\n  int held = K;\n  TAPA_WHILE_NOT_EOT(in) {{\n{indented(indented(worked(maker, taken, given, 'held')))}    held += K;\n  }}\n  in.open();\n  out.close();\n}}\n"
-
-
-WORKERS = """void Spread(tapa::istream<{0}>& in, tapa::ostreams<{0}, kWays>& out) {{
-  int k = 0;
-  TAPA_WHILE_NOT_EOT(in) {{
-    out[k].write(in.read(nullptr));
-    k = (k + 1) % kWays;
-  }}
-  in.open();
-  for (int j = 0; j < kWays; ++j) out[j].close();
-}}
-void Worker(int id, tapa::istream<{0}>& in, tapa::ostream<{0}>& out) {{
-  TAPA_WHILE_NOT_EOT(in) {{
-{1}  }}
-  in.open();
-  out.close();
-}}
-void Gather(tapa::istreams<{0}, kWays>& in, tapa::ostream<{0}>& out, int n) {{
-  for (int i = 0; i < n; ++i) out << in[i % kWays].read();
-  for (int j = 0; j < kWays; ++j) in[j].open();
-  out.close();
-}}
-"""
-
-
-ENDS = """void Load(tapa::mmap<const uint64_t> m, int n, tapa::ostream<{0}>& out) {{
-  for (int i = 0; i < n; ++i) out << {1}(m[i]);
-  out.close();
-}}
-void Store(tapa::istream<{2}>& in, tapa::mmap<uint64_t> m) {{
-  int at = 0;
-  TAPA_WHILE_NOT_EOT(in) {{
-    m[at++] = {3}(in.read(nullptr));
-  }}
-  in.open();
-}}
-"""
+    """A stage, a template over a number; what it looks at before it reads goes to a stream of its own."""
+    some = maker.some
+    begin, read, end = some.choice(ported_stages.WAITS)
+    is_late = "late" in begin
+    early = f"  if (K == {some.randrange(5)}) {{\n    out.write({maker.fillers[given]}(K));\n    Drain<{taken}>(in);\n    out.close();\n{'    late.close();' if is_late else ''}    return;\n  }}\n" if some.random() < 0.3 else ""
+    body = worked(maker, taken, given, "held", read.format(taken))
+    last = f"  Finished<{taken}>(in, {'late' if is_late else 'out'});\n" if taken == given or is_late else "  in.open();\n  out.close();\n"
+    last += "  out.close();\n" if is_late else ""
+    more = f", tapa::ostream<{taken}>& late" if is_late else ""
+    inner = begin.format(taken) + indented(body) + "  held += K;\n" + end.format(taken)
+    return f"template <int K>\nvoid {name}(tapa::istream<{taken}>& in, tapa::ostream<{given}>& out{more}) {{\n  int held = K;\n{early}{indented(inner)}{last}}}\n", is_late
 
 
 def declared(maker):
     """Structs and helper functions."""
-    some, text = maker.some, ported.HEAD + BOX
+    some, text = maker.some, ported.HEAD + BOX + ported_bodies.LIBRARY + ported_stages.HELPERS
     for _ in range(some.randrange(2, 4)):
         text += maker.struct()
     for _ in range(some.randrange(1, 4)):
         text += some.choice((ported.make_template, ported.make_value))(maker)
     for kind in list(maker.structs):
         maker.fillers[kind], made = ported.make_filler(maker, kind)
-        text += made + (ported.make_changer(maker, kind) if some.random() < 0.6 else "")
+        maker.turners[kind], turner = ported.make_turner(maker, kind)
+        text += made + turner + (ported.make_changer(maker, kind) if some.random() < 0.6 else "")
     return text
 
 
-def top(streams, calls, more):
+def top(streams, calls, more, memories):
     """The top task."""
     lines = "".join(f'  tapa::stream<{kind}, {depth}> {name}("{name}");\n' for kind, depth, name in streams)
-    return f"void Top(tapa::mmap<const uint64_t> m, tapa::mmap<uint64_t> out, int n) {{\n{lines}{more}  tapa::task()\n" + "\n".join(f"      .{it}" for it in calls) + ";\n}\n"
+    return f"void Top({memories}, int n) {{\n{lines}{more}  tapa::task()\n" + "\n".join(f"      .{it}" for it in calls) + ";\n}\n"
+
+
+def staged(maker, chain, streams, calls):
+    """The stages of a chain of structs."""
+    some, text = maker.some, ""
+    for at, (taken, given) in enumerate(zip(chain, chain[1:])):
+        made, is_late = stage(maker, taken, given, f"Stage{at}")
+        text += made
+        streams.append((given, some.randrange(1, 5), f"q{at + 1}"))
+        calls.append(f"invoke(Stage{at}<{some.randrange(5)}>, q{at}, q{at + 1}{f', late{at}' if is_late else ''})")
+        if is_late:
+            streams.append((taken, some.randrange(1, 5), f"late{at}"))
+            calls.append(f"invoke(Drain<{taken}>, late{at})")
+    return text
 
 
 def source(some):
@@ -187,22 +180,24 @@ def source(some):
     text = declared(maker)
     chain = [some.choice(list(maker.structs)) for _ in range(some.randrange(2, 4))]
     fold, made = ported.make_fold(maker, chain[-1])
-    text += made + ENDS.format(chain[0], maker.fillers[chain[0]], chain[-1], fold)
+    ends, memories = ported_stages.ends(some, (chain[0], maker.fillers[chain[0]], chain[-1], fold))
+    text += made + ends
     streams, calls = [(chain[0], some.randrange(1, 5), "q0")], ["invoke(Load, m, n, q0)"]
-    for at, (taken, given) in enumerate(zip(chain, chain[1:])):
-        text += stage(maker, taken, given, f"Stage{at}")
-        streams.append((given, some.randrange(1, 5), f"q{at + 1}"))
-        calls.append(f"invoke(Stage{at}<{some.randrange(5)}>, q{at}, q{at + 1})")
-    last, _, name = streams[-1]
-    more = ""
+    text += staged(maker, chain, streams, calls)
+    last, name = chain[-1], f"q{len(chain) - 1}"
+    more, parameters = "", f"tapa::{memories[0][:-1] or 'mmap<const uint64_t>'}{'&' if memories[0] else ''} m, tapa::{memories[1] or 'mmap<uint64_t>'} out"
     if some.random() < 0.5:
-        text += WORKERS.format(last, indented(indented(worked(maker, last, last, "id"))))
-        more = f'  tapa::streams<{last}, kWays> qs("qs"), rs("rs");\n  tapa::stream<{last}> done("done");\n'
-        calls += [f"invoke(Spread, {name}, qs)", "invoke<tapa::join, kWays>(Worker, tapa::seq(), qs, rs)", "invoke(Gather, rs, done, n)"]
-        name = "done"
+        lane = maker.number(maker.places("it", last), 1)
+        made, more, name = ported_stages.middle(some, last, indented(indented(worked(maker, last, last, "id"))), lane, calls, name)
+        text += made
+    if some.random() < 0.3:
+        text += ported_stages.KEEP.format(last)
+        streams.append((last, 2, "again"))
+        calls.append(f"invoke(Keep, {name}, kept, again)")
+        name, parameters = "again", f"{parameters}, tapa::mmap<{last}> kept"
     calls.append(f"invoke(Store, {name}, out)")
-    return text + top(streams, calls, more), [data(some, count) for count in (0, 1, some.randrange(2, 6))]
+    return text + top(streams, calls, more, parameters), [data(some, count) for count in (0, 1, some.randrange(2, 6))]
 
 
 def data(some, count):
-    return {"scalars": {"n": count}, "memories": {"m": [some.choice((some.getrandbits(64), some.getrandbits(16), some.getrandbits(64))) for _ in range(count)], "out": [0] * count}}
+    return {"scalars": {"n": count}, "memories": {"m": [some.choice((some.getrandbits(64), some.getrandbits(16), some.getrandbits(64))) for _ in range(count)], "out": [0] * 8}}

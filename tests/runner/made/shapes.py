@@ -17,8 +17,7 @@ def zigzag(count, some):
 
 
 def ladder(count, some):
-    rails = [(at, at + 2) for at in range(count - 2)]
-    return rails + [(at, at + 1) for at in range(0, count - 1, 2)]
+    return [(at, at + 2) for at in range(count - 2)] + [(at, at + 1) for at in range(0, count - 1, 2)]
 
 
 def crossed_ladder(count, some):
@@ -81,8 +80,7 @@ def trees(count, some):
 
 def grid(count, some):
     side = int(count**0.5)
-    places = itertools.product(range(side), repeat=2)
-    return [pair for row, col in places for pair in grid_steps(row, col, side)]
+    return [pair for row, col in itertools.product(range(side), repeat=2) for pair in grid_steps(row, col, side)]
 
 
 def grid_steps(row, col, side):

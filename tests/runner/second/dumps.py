@@ -1,5 +1,7 @@
 """A second writer and a second reader of value change dumps, made from docs/COMMAND.md, "The dump", and IEEE 1364-2005, clause 18, alone. Places of faults are found as each line that
 may come next goes along with the text."""
+import collections
+import os
 import re
 
 KEYWORDS = set(
@@ -40,10 +42,7 @@ def written(top, nets, rows):
 
 
 def common(a, b):
-    n = 0
-    while n < min(len(a), len(b)) and a[n] == b[n]:
-        n += 1
-    return n
+    return len(os.path.commonprefix([a, b]))
 
 
 def along(rest, parts):
@@ -134,8 +133,7 @@ class Reading:
         if not is_first:
             yield None, [f"#{self.cycle + 1}\n"]
         for k in range(following, following + 1 if is_first else len(self.nets)):
-            for parts in changes_of(k, self.nets[k][1], values[k]):
-                yield k, parts
+            yield from ((k, parts) for parts in changes_of(k, self.nets[k][1], values[k]))
 
     def read(self):
         """The nets with their bits, the last cycle, and the changes, each a cycle, a net and a value."""
@@ -154,11 +152,11 @@ class Reading:
 def rows_of(nets, last, changes):
     """The values of all nets in each cycle."""
     rows, values = [], [0] * len(nets)
-    by_cycle = {}
+    by_cycle = collections.defaultdict(dict)
     for cycle, k, value in changes:
-        by_cycle.setdefault(cycle, []).append((k, value))
+        by_cycle[cycle][k] = value
     for cycle in range(last + 1):
-        for k, value in by_cycle.get(cycle, []):
+        for k, value in by_cycle[cycle].items():
             values[k] = value
         rows.append(list(values))
     return rows

@@ -106,7 +106,7 @@ def grammar() -> Grammar:
     notation = Notation(block)
     levels = [level.split() for level in re.findall(r"`([^`]*)`", found_in(page, r"loosest first: (.*?);")[0])]
     binary = put_operators(notation.productions, levels)
-    always, never, behind = found_in(page, r"Reserved, so never a name: `(.*?)`, and, in no\s+production, `(.*?)`. The words `(.*?)` are reserved after")
+    always, never, behind = found_in(page, r"never names: `([^`]*)`\. These are\s+reserved too, and occur in no production: `([^`]*)`\. The words `([^`]*)` are reserved after")
     first, last = found_in(page, r"`fixed` are the eight types `(\w+)` to `(\w+)`")
     reserved = always.split()
     fixed = reserved[reserved.index(first):reserved.index(last) + 1]

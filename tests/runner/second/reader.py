@@ -67,6 +67,4 @@ def read(words):
         said[name] = number(value, *RANGES[name]) if name in RANGES else value
         if said[name] is None or (name == "--plan" and value not in ("exact", "fit", "split")):
             return None
-    if command == "gen" and number(positionals[0], 0, 126) is None:
-        return None
-    return command, positionals, said
+    return None if command == "gen" and number(positionals[0], 0, 126) is None else (command, positionals, said)

@@ -77,8 +77,7 @@ class Recogniser:
         if word.kind == "number" or word.kind == "text":
             return "literal" if word.kind == "number" else "string"
         texts = [it.text for it in words[max(at - 2, 0):at]]
-        is_behind = texts[-1:] == ["."] or texts == ["tapa", "::"]
-        is_word = word.text in self.of.reserved or is_behind and word.text in self.of.reserved_behind
+        is_word = word.text in self.of.reserved or (texts[-1:] == ["."] or texts == ["tapa", "::"]) and word.text in self.of.reserved_behind
         return "name" if word.kind == "name" and not is_word else f'"{word.text}"'
 
     def told(self, source: bytes) -> str:

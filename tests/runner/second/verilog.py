@@ -1,23 +1,12 @@
 """A second reader of the Verilog subset, written from docs/SUBSET.md ("Grammar") and from nothing else: the modules of a text, for cycles.py."""
+import operator
 import re
 
 TOKEN = re.compile(r"\s*(\d+'[dhb][0-9a-fA-F]+|\d+|[A-Za-z_][\w$]*|<=|<<|>>|==|!=|[^\s\w])")
 BASES = {"d": 10, "h": 16, "b": 2}
-OPERATORS = {
-    "+": lambda a, b: a + b,
-    "-": lambda a, b: a - b,
-    "*": lambda a, b: a * b,
-    "/": lambda a, b: a // b,
-    "%": lambda a, b: a % b,
-    "&": lambda a, b: a & b,
-    "|": lambda a, b: a | b,
-    "^": lambda a, b: a ^ b,
-    "<<": lambda a, b: a << b if b < 128 else 0,
-    ">>": lambda a, b: a >> b,
-    "==": lambda a, b: int(a == b),
-    "!=": lambda a, b: int(a != b),
-    "<": lambda a, b: int(a < b),
-}
+OPERATORS = {"+": operator.add, "-": operator.sub, "*": operator.mul, "/": operator.floordiv, "%": operator.mod, "&": operator.and_, "|": operator.or_, "^": operator.xor, ">>": operator.rshift}
+OPERATORS["<<"] = lambda a, b: a << b if b < 128 else 0
+OPERATORS |= {sign: lambda a, b, holds=holds: int(holds(a, b)) for sign, holds in (("==", operator.eq), ("!=", operator.ne), ("<", operator.lt))}
 
 
 class Module:

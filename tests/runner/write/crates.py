@@ -3,6 +3,7 @@ size besides.
 
 The runner checks that the lists there are these.
 """
+import itertools
 import os
 import re
 from pathlib import Path
@@ -29,12 +30,7 @@ def what_it_is(crate):
         path = os.path.join(ROOT, "crates", crate, "src", name)
         if os.path.exists(path):
             lines = Path(path).read_text(encoding="utf-8").splitlines()
-            comment = []
-            for line in lines:
-                if not line.startswith("//"):
-                    break
-                comment.append(line.lstrip("/!").strip())
-            return lists.sentence(" ".join(comment))
+            return lists.sentence(" ".join(line.lstrip("/!").strip() for line in itertools.takewhile(lambda line: line.startswith("//"), lines)))
     return ""
 
 
@@ -49,22 +45,13 @@ def text():
 
 def lines_in(crate, folder, is_code=False):
     """How many lines the files of a folder of a crate have; of code those that are not empty and not a comment."""
-    count = 0
-    for at, _, names in os.walk(os.path.join(ROOT, "crates", crate, folder)):
-        for name in names:
-            if name.endswith((".rt", ".antt")):
-                with open(os.path.join(at, name), encoding="utf-8") as file:
-                    count += sum(1 for line in file if not is_code or line.strip() and not line.lstrip().startswith("//"))
-    return count
+    lines = [line for path in Path(ROOT, "crates", crate, folder).rglob("*") if path.suffix in (".rt", ".antt") for line in path.read_text(encoding="utf-8").splitlines()]
+    return sum(not is_code or bool(line.strip()) and not line.lstrip().startswith("//") for line in lines)
 
 
 def theorems(crate):
     """How many laws a crate has."""
-    count = 0
-    for at, _, names in os.walk(os.path.join(ROOT, "crates", crate, "src")):
-        for name in names:
-            count += len(re.findall(r"^pub fn law_\w+\(", Path(at, name).read_text(encoding="utf-8"), re.M))
-    return count
+    return sum(len(re.findall(r"^pub fn law_\w+\(", path.read_text(encoding="utf-8"), re.M)) for path in Path(ROOT, "crates", crate, "src").rglob("*.rt"))
 
 
 def sized(crate):

@@ -1,13 +1,13 @@
 """The laws of the crates, as docs/THEOREMS.md lists them: by room from the last to the first, of each law what it says and where it stands.
 
-A law is a function `law_*` that does nothing: its contract is what is proved, and the first sentence of its `///` lines says it in words.
+A law is a function `law_*` that does nothing: its contract is what is proved, and its `///` lines say it in words.
 """
 import collections
 import os
 import re
 
 from runner.trial import ROOT, read
-from runner.write import crates, lists
+from runner.write import crates
 
 Law = collections.namedtuple("Law", "name crate path sentence clauses")
 CONTRACT = re.compile(r"((?:^///[^\n]*\n)*)^pub fn (law_\w+)\(\)\n(.*?)^\{", re.M | re.S)
@@ -29,11 +29,10 @@ def cited(clause):
 
 def laws_in(path):
     """The laws of a file."""
-    text = read(path)
-    for found in CONTRACT.finditer(text):
+    for found in CONTRACT.finditer(read(path)):
         comment = " ".join(line[3:].strip() for line in found.group(1).splitlines())
         clauses = [cited(it) for it in re.split(r"^ {4}ensures", found.group(3), flags=re.M)[1:]]
-        yield Law(found.group(2), path.split("/")[1], path, lists.sentence(comment), [it for it in clauses if it])
+        yield Law(found.group(2), path.split("/")[1], path, comment, [it for it in clauses if it])
 
 
 def laws(crate):

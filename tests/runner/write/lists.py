@@ -11,11 +11,6 @@ def begin(name):
     return f"<!-- {name}: written by tests/run.py write {name} -->\n"
 
 
-def on_page(page, name):
-    """The list of this name on a page."""
-    return read(page).partition(begin(name))[2].partition(END)[0]
-
-
 def put(page, name, text):
     """Puts a list in place of the one on a page."""
     before, _, after = read(page).partition(begin(name))
@@ -32,4 +27,4 @@ def sentence(text):
 def check(trial, pages, name):
     """Each of these pages has its list; `pages` are what is listed on each."""
     for page, text in pages.items():
-        trial.check_equal(f"{page} has the list of tests/run.py write {name}", on_page(page, name), text())
+        trial.check_equal(f"{page} has the list of tests/run.py write {name}", read(page).partition(begin(name))[2].partition(END)[0], text())

@@ -186,7 +186,7 @@ template <class T, unsigned long N> struct given<mmaps<T, N>> {
   template <class A> static mmaps<T, N> of(A& it) { mmaps<T, N> made; for (unsigned long at = 0; at < N; ++at) made.each[at] = given<mmap<T>>::of(it); return made; }
 };
 template <class T, unsigned long N> struct given<mmaps<T, N>&> { template <class A> static mmaps<T, N>& of(A& it) { return *new mmaps<T, N>(given<mmaps<T, N>>::of(it)); } };
-template <class T> struct given<async_mmap<T>&> { template <class A> static async_mmap<T>& of(A& it) { return *served<T>(given<mmap<T>>::of(it)); } };
+template <class T> struct given<async_mmap<T>&> { static async_mmap<T>& of(async_mmap<T>& it) { return it; } template <class A> static async_mmap<T>& of(A& it) { return *served<T>(given<mmap<T>>::of(it)); } };
 template <class T> struct given<async_mmap<T>> { template <class A> static async_mmap<T> of(A& it) { return *served<T>(given<mmap<T>>::of(it)); } };
 template <class T, unsigned long N> struct given<async_mmaps<T, N>&> {
   template <class A> static async_mmaps<T, N>& of(A& it) { auto* made = new async_mmaps<T, N>; for (unsigned long at = 0; at < N; ++at) made->each[at] = *served<T>(given<mmap<T>>::of(it)); return *made; }

@@ -35,6 +35,10 @@ template <class T, size_t N> struct array {
   const T& operator[](size_t at) const { return cells[at]; }
   constexpr size_t size() const { return N; }
   void fill(T value) { for (size_t at = 0; at < N; ++at) cells[at] = value; }
+  T* begin();
+  T* end();
+  const T* begin() const;
+  const T* end() const;
 };
 template <class A, class B> struct is_same { static constexpr bool value = false; };
 template <class A> struct is_same<A, A> { static constexpr bool value = true; };

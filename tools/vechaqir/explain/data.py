@@ -198,6 +198,3 @@ def why(code: str, key: str, given: Given) -> Optional[Why]:
     """Why a data file is refused."""
     found = {"J2": shape, "J3": not_whole, "J4": too_many}
     return no_json(given) if code == "J1" else found[code](given, key) if code in found else None
-
-
-__all__: List[str] = ["Given", "located", "node_of", "tree", "why"]

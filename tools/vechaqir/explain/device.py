@@ -77,6 +77,3 @@ def why(code: str, key: str, given: Given) -> Optional[Why]:
 
 def looks_like_device(key: str) -> bool:
     return key.split(".")[0] in DEVICE_KEYS
-
-
-__all__ = ["looks_like_device", "why"]

@@ -183,8 +183,7 @@ def run(given: BinaryIO, out: Callable[[bytes], None], command: Command) -> None
     explainer = Explainer(command)
     for line in given:
         out(line if line.endswith(b"\n") else line + b"\n")
-        told = line.decode("utf-8", "surrogateescape").rstrip("\n")
-        for it in explainer.safely(told):
+        for it in explainer.safely(line.decode("utf-8", "surrogateescape").rstrip("\n")):
             out((it + "\n").encode("utf-8", "replace"))
     for it in explainer.ended():
         out((it + "\n").encode("utf-8", "replace"))

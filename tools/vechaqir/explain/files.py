@@ -3,30 +3,14 @@ import os
 import re
 from typing import List, Optional
 
+from .. import tables
 from . import pages
 
 SOURCE, DATA, DEVICE, VERILOG, DUMP = "a TAPA source", "a data file", "a device file", "a Verilog text", "a value change dump"
 # What a command takes where it reports a code, by the first letter of the code.
 BY_LETTER = {"L": SOURCE, "A": SOURCE, "P": SOURCE, "C": SOURCE, "V": VERILOG, "X": DUMP}
-READS = {
-    SOURCE: "`run`, `build` and `plan` read a source, and take the name of its top task as the next word",
-    DATA: "`run` and `cosim` read the values of parameters from JSON",
-    DEVICE: "a plan needs the slots of a device",
-    VERILOG: "`cosim` simulates a Verilog text",
-    DUMP: "`vcd` reads a dump",
-}
-
-
-def takes(sort: str) -> str:
-    """How a file of a sort is come by."""
-    command = pages.command()
-    return {
-        SOURCE: f"give the source and its top task: `{command} run F.cpp TOP`",
-        DATA: f"write one by `{pages.tool('template.py')} SRC TOP > F.json`",
-        DEVICE: "write one as docs/DEVICE.md says, or take one of examples/devices",
-        VERILOG: f"write one by `{command} build SRC TOP > F.v`",
-        DUMP: f"write one by `{command} cosim F.v DATA --vcd > F.vcd`",
-    }[sort]
+# Why a command reads a file of a sort, and how one is come by.
+READS = {sort: (reason, instead) for sort, reason, instead in tables.rows("explain/files.rows")}
 
 
 def sort_of(text: bytes) -> Optional[str]:
@@ -45,7 +29,8 @@ def other_sort(wanted: str, text: Optional[bytes], instead: str = "") -> List[st
     found = sort_of(text) if text else None
     if found in (None, wanted):
         return []
-    return [f"      = this looks like {found}, and {wanted} is needed here", f"      = why: {READS[wanted]}", f"      = instead: {instead or takes(wanted)}"]
+    reason, by = READS[wanted][0], READS[wanted][1].format(command=pages.command(), template=pages.tool("template.py"))
+    return [f"      = this looks like {found}, and {wanted} is needed here", f"      = why: {reason}", f"      = instead: {instead or by}"]
 
 
 def swapped(words: List[str], names: List[str]) -> List[str]:

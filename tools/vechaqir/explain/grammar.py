@@ -13,6 +13,8 @@ ENDS = ("number", "name", "text")
 PAIRS = "brackets come in pairs, and the first that is left open ends at the end of the file"
 WHOLE = "a statement is read as a whole, up to its end"
 QUALIFIED = "the words of TAPA are in the namespace `tapa`"
+# Constructs whose accepted text in docs/FROM_TAPA.md shows nothing that takes their place.
+WITHOUT_EXAMPLE = ("`main`", "a name for a type")
 TYPES = ("istream", "ostream", "stream", "streams", "mmap")
 
 
@@ -23,13 +25,26 @@ def of_row(construct: str, before: Optional[List[str]] = None, word: str = "") -
     reason = reasons.of("", construct)
     if row is None:
         return Why([what, *(before or [])], reason=reason)
-    return Why([what, *(before or [])], f"write {row.first}", [row.accepted], f'{FROM_TAPA}, "{row.section}"', reason)
+    return Why([what, *(before or [])], f"write {row.first}", [] if construct in WITHOUT_EXAMPLE else [row.accepted], f'{FROM_TAPA}, "{row.section}"', reason)
 
 
 def found_row(case: Case) -> Optional[Why]:
     """The row of the construct whose pattern stands at the place."""
     pattern = patterns.found(case.view, case.at, case.code)
-    return of_row(pattern.construct, named(case, pattern.construct), own_word(case, pattern.construct)) if pattern else None
+    if pattern is None:
+        return None
+    why = of_row(pattern.construct, named(case, pattern.construct), own_word(case, pattern.construct))
+    return by_reference(case, why) if pattern.construct == "a stream parameter without `&`" else why
+
+
+def by_reference(case: Case, why: Why) -> Why:
+    """The stream parameter at the place with its `&`, in the reader's words."""
+    view, at = case.view, case.at
+    first = next((it for it in range(at, max(at - 12, 0), -1) if view.text(it) == "tapa"), None)
+    if first is None or not view.is_name(at):
+        return why
+    kind = view.source.text[view.words[first].begin:view.words[at - 1].end].decode("utf-8", "replace")
+    return why._replace(instead=f"write `{kind}& {view.text(at)}`", example=[])
 
 
 def named(case: Case, construct: str) -> List[str]:
@@ -76,8 +91,7 @@ def byte(case: Case) -> Why:
 
 def opened(case: Case) -> Why:
     """A comment or a string without an end."""
-    offset = case.view.source.lines.offset(case.place)
-    text = case.view.source.text[offset:]
+    text = case.view.source.text[case.view.source.lines.offset(case.place):]
     if text.startswith(b"/*"):
         return Why(["this comment has no end"], "write `*/` after it")
     line = text.split(b"\n")[0]
@@ -131,8 +145,7 @@ def arrays_of(case: Case) -> List[str]:
 
 def other_length(case: Case) -> Why:
     length, view = array_of(case), case.view
-    opening = view.enclosing(case.at) or 0
-    count = view.text(opening - 2)
+    count = view.text((view.enclosing(case.at) or 0) - 2)
     number = view.source.counts.get(count, count)
     row = of_row("a counted invoke of a longer array")
     says = [f"`{case.word()}` has {counted(length or 0, 'element')}, and this invoke makes {number} instances"]
@@ -210,6 +223,8 @@ def unqualified(case: Case) -> Optional[Why]:
 def unexpected(case: Case) -> Why:
     """Another token than the grammar continues with."""
     word, before = case.word(), case.word(-1)
+    if (before, word) == ("if", "constexpr"):
+        return Why(["`if constexpr` is not in the language"], f"write `if` without `constexpr`; `{pages.porting()}` keeps the branch that each instance of a template takes", reason="it chooses in a template, and the language has none")
     if before in ("if", "while", "for") and word != "(":
         return Why([f"after `{before}` its condition is missing, which is in parentheses"], "write parentheses around it", reason=WHOLE)
     why = unqualified(case) or found_row(case) or missing(case)
@@ -242,6 +257,3 @@ def why(case: Case) -> Optional[Why]:
     if case.code == "L3":
         return found_row(case) or number(case)
     return CAUSES[case.code](case) if case.code in CAUSES else None
-
-
-__all__ = ["found_row", "listed", "of_row", "why"]

@@ -3,7 +3,7 @@ import os
 import re
 from typing import Dict, List, Optional, Tuple
 
-from ..language import kinds, lexemes, scopes, source
+from ..language import kinds, scopes, source
 from ..language.matching import SORTS, View, matches
 from ..language.scopes import Name
 from .base import Case, Why, few, listed
@@ -215,8 +215,7 @@ def operand_end(view: View, at: int) -> int:
 def divisor(case: Case) -> Why:
     """A divisor that is no constant expression, or is 0."""
     view = case.view
-    end = operand_end(view, case.at + 1)
-    words = view.words[case.at + 1:end]
+    words = view.words[case.at + 1:operand_end(view, case.at + 1)]
     value = kinds.evaluated(words, view.source.values)
     if value and value[0] == 0:
         return Why([f"the divisor `{source.joined_words(words)}` is 0"], "write another constant", reason="a division by 0 has no value")
@@ -227,6 +226,3 @@ def divisor(case: Case) -> Why:
     sort = f", {DIVISORS.get(variable.sort, 'a variable')}" if variable else ""
     return Why([f"the divisor `{source.joined_words(words)}`{sort} is known only at run time"],
                "divide by a constant of the file, shift by a power of two, or subtract in a loop", ["int quotient = 0;", "while (n >= k) { n -= k; ++quotient; }"])
-
-
-__all__ = ["conditional", "divisor", "doubled", "lexemes", "method", "unknown", "unknown_top", "wrong_kind"]

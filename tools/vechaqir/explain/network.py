@@ -266,6 +266,5 @@ def of_program(case: Case, most: str) -> Why:
 def constant_at(case: Case) -> Optional[int]:
     """The value of the constant that begins at the place."""
     view, at = case.view, case.at
-    end = view.close.get(at, at) + 1
-    value = kinds.evaluated(view.words[at:end], view.source.values)
+    value = kinds.evaluated(view.words[at:view.close.get(at, at) + 1], view.source.values)
     return value[0] if value else None

@@ -29,9 +29,7 @@ def declared(view: View, at: int) -> str:
         there -= 1
     opening = next((it for it in range(there, there + 4) if view.text(it) == "<"), None)
     end = angle(view, opening) if opening is not None else None
-    if end is None:
-        return ""
-    return next((own(view, it) for it in range(end + 1, end + 4) if view.text(it) not in ("&", "*", "&&")), "")
+    return "" if end is None else next((own(view, it) for it in range(end + 1, end + 4) if view.text(it) not in ("&", "*", "&&")), "")
 
 
 def item(view: View, at: int) -> str:

@@ -17,9 +17,12 @@ def command() -> str:
 
 
 def tool(name: str) -> str:
-    """The path of a script of tools/ as a person types it where this runs."""
+    """The path of a script of tools/ as a person types it where this runs, which may be a folder that is gone."""
     path = os.path.join(ROOT, "tools", name)
-    near = os.path.relpath(path)
+    try:
+        near = os.path.relpath(path)
+    except OSError:
+        return path
     return near if near.count("..") <= 2 and len(near) < len(path) else path
 
 

@@ -25,14 +25,14 @@ def cause(case: Case) -> Optional[Why]:
     return grammar.why(case)
 
 
-def lines_of(why: Why, code: str) -> List[str]:
-    """An explanation as lines below a message."""
+def lines_of(why: Why, code: str, ported: str = "F.cpp TOP") -> List[str]:
+    """An explanation as lines below a message; `ported` are the words with which the source is ported."""
     reason = why.reason or reasons.of(code)
     lines = [f"      = {it}" for it in why.says] + [f"      = why: {reason}"] * bool(reason)
     lines += [f"      = instead: {why.instead}"] * bool(why.instead)
     lines += ["      = for example:"] * bool(why.example) + [f"      |   {it}" for it in why.example]
     if why.page.startswith("docs/FROM_TAPA.md"):
-        lines.append(f"      = to port a whole TAPA source: `{pages.porting()} F.cpp TOP`")
+        lines.append(f"      = to port a whole TAPA source: `{pages.porting()} {ported}`")
     return lines + [f"      = {why.page or f'docs/REFUSALS.md, {code}'}"]
 
 
@@ -61,7 +61,6 @@ def general(code: str, name: str = "") -> List[str]:
 
 def explained(source: Source, place: Place, code: str, text: str, top: Optional[str] = None, written: str = "") -> Tuple[Optional[Why], List[str]]:
     """The explanation of a refusal at a place of a source, and its lines."""
-    view = View(source)
-    case = Case(view, source.index_at(source.lines.offset(place)), code, text, top, written, place)
+    case = Case(View(source), source.index_at(source.lines.offset(place)), code, text, top, written, place)
     why = cause(case)
-    return why, lines_of(why, code) if why else general(code)
+    return why, lines_of(why, code, f"{source.path or 'F.cpp'} {top if top in source.tasks else 'TOP'}") if why else general(code)

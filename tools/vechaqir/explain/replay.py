@@ -68,5 +68,4 @@ def writes_end(view: View, task: str, stream: str) -> bool:
     found = view.source.tasks.get(task)
     if found is None:
         return False
-    body = view.source.text[found.body[0]:found.body[1]]
-    return re.search(rb"\b" + stream.encode() + rb"\s*\.\s*close\b", body) is not None
+    return re.search(rb"\b" + stream.encode() + rb"\s*\.\s*close\b", view.source.text[found.body[0]:found.body[1]]) is not None

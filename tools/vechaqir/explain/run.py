@@ -57,9 +57,7 @@ class Explanations:
 
     def ended(self, status: int) -> List[str]:
         """What is said after the end; of a run that is done too, which had no message."""
-        if self.explainer is None and (status != 0 or self.words[:1] != ["run"]):
-            return []
-        return self.made().ended(status)
+        return [] if self.explainer is None and (status != 0 or self.words[:1] != ["run"]) else self.made().ended(status)
 
     def made(self) -> "Explainer":
         if self.explainer is None:

@@ -160,10 +160,7 @@ def explained(words: Optional[List[str]]) -> List[str]:
     fault = wrong(words) if words is not None else None
     lines = [f"      = {fault}"] if fault else []
     own = known.get(words[0]) or known.get(OF_TAPA.get(words[0], "")) if words else None
-    if own:
-        lines += [f"      = {own.synopsis}"] + [f"      |   {it}" for it in about(own)]
-    else:
-        lines += [f"      = {it.synopsis}" for it in known.values()]
+    lines += [f"      = {own.synopsis}"] + [f"      |   {it}" for it in about(own)] if own else [f"      = {it.synopsis}" for it in known.values()]
     if not words or words[0] in ASKED:
         told = {line.split("  ")[0]: line for it in known.values() for line in about(it)}
         lines += [f"      |   {line}" for line in told.values()]

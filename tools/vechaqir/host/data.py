@@ -2,23 +2,13 @@
 import json
 from dataclasses import dataclass, field
 from pathlib import Path
-from typing import Dict, List, Protocol, Sequence
+from typing import Dict, List, Mapping, Tuple, cast
+
+from ..language.syntax import Task
 
 
 class BadData(ValueError):
     """A file that is no data file; the text says in a line which file, what and where."""
-
-
-class _Parameter(Protocol):
-    @property
-    def name(self) -> str: ...
-    @property
-    def direction(self) -> str: ...
-
-
-class _Task(Protocol):
-    @property
-    def parameters(self) -> Sequence[_Parameter]: ...
 
 
 @dataclass
@@ -61,15 +51,10 @@ def read(path: str) -> Data:
 
 def text_of(data: Data) -> str:
     """The text of a data file: a line for each scalar and each memory, groups that are empty left out."""
-    members = (
-        ("scalars", {name: json.dumps(value) for name, value in data.scalars.items()}),
-        ("memories", {name: json.dumps(cells) for name, cells in data.memories.items()}),
-        ("waits", {name: json.dumps(bits) for name, bits in data.ready.items()}),
-    )
-    groups = []
-    for group, values in members:
+    groups, members = [], cast(Tuple[Mapping[str, object], ...], (data.scalars, data.memories, data.ready))
+    for group, values in zip(GROUPS, members):
         if values:
-            lines = ",\n".join(f"    {json.dumps(name)}: {value}" for name, value in values.items())
+            lines = ",\n".join(f"    {json.dumps(name)}: {json.dumps(value)}" for name, value in values.items())
             groups.append(f'  "{group}": {{\n{lines}\n  }}')
     return "{\n" + ",\n".join(groups) + "\n}\n" if groups else "{}\n"
 
@@ -79,7 +64,7 @@ def write(path: str, data: Data) -> None:
     Path(path).write_text(text_of(data), encoding="utf-8")
 
 
-def template(task: _Task, cells: int = 4) -> Data:
+def template(task: Task, cells: int = 4) -> Data:
     """Data for a top task, to be filled in: each scalar 0, each memory with this many cells of 0."""
     scalars = {it.name: 0 for it in task.parameters if it.direction == "scalar"}
     return Data(scalars, {it.name: [0] * cells for it in task.parameters if it.direction == "mmap"})

@@ -58,9 +58,7 @@ class Device:
 
     def room(self, number: int) -> Amounts:
         """What tasks may use of a slot: whole units within `percent` of its capacity, and nothing of a forbidden slot."""
-        if self.is_forbidden(number):
-            return [0] * len(RESOURCES)
-        return [has * self.percent // 100 for has in self.slots[number]]
+        return [0] * len(RESOURCES) if self.is_forbidden(number) else [has * self.percent // 100 for has in self.slots[number]]
 
     def distance(self, one: int, other: int) -> int:
         """The borders that a wire between two slots crosses."""
@@ -118,8 +116,7 @@ def _amounts(given: Any) -> Amounts:
 def parse(text: Union[str, bytes]) -> Device:
     """The device of a file's text. DeviceFault where it has not the shape of one; what `tapa plan` takes is read as it reads it."""
     try:
-        given = json.loads(text)
-        return _device(given)
+        return _device(json.loads(text))
     except DeviceFault:
         raise
     except RecursionError:

@@ -1,12 +1,14 @@
 """Value change dumps (IEEE 1364-2005, clause 18), read as a stream, so that a dump of 100 MB needs no more memory than its nets.
 
 Both kinds of dump are read: that of `tapa cosim --vcd`, where a unit of time is a cycle, and that of `tools/icarus.py --dump`, where a cycle is ten units and holds the nets
-inside of tasks and FIFOs too.
+inside of tasks and FIFOs too. A variable of the type `string`, as in a dump of `tools/names.py --waves`, has texts: its value is the number of a text in `Dump.texts`.
 """
 from __future__ import annotations
 
 from typing import Dict, IO, Iterable, Iterator, List, NamedTuple, Optional, Tuple
 
+# The most cycles between two times of a dump, in each of which at least a clock changes or a time is written.
+MOST_GAP = 10_000
 # A value of a net: a number, or None where a bit of it is unknown (`x`) or undriven (`z`).
 Value = Optional[int]
 
@@ -16,7 +18,7 @@ class NotADump(ValueError):
 
 
 class Net(NamedTuple):
-    """A net of a dump. Its name is hierarchical, with a dot between a scope and what is in it: `t_VecAdd.s_a_q_wr`."""
+    """A net of a dump, whose width is 0 if it has texts. Its name is hierarchical, with a dot between a scope and what is in it: `t_VecAdd.s_a_q_wr`."""
 
     name: str
     width: int
@@ -30,6 +32,7 @@ class Dump:
         """Reads the head of a file alone. Raises OSError where it cannot be read, and NotADump where it is no dump."""
         self.path = path
         self.nets: Dict[str, Net] = {}
+        self.texts: Dict[str, int] = {}
         self.top = ""
         with open(path, encoding="latin-1") as file:
             self._read_head(file)
@@ -49,7 +52,7 @@ class Dump:
                 scopes.pop()
             elif words[0] == "$var" and len(words) > 4 and words[2].isdecimal():
                 name = ".".join([*scopes, words[4].lstrip("\\")])
-                self.nets[name] = Net(name, int(words[2]), words[3])
+                self.nets[name] = Net(name, 0 if words[1] == "string" else int(words[2]), words[3])
             elif words[0] == "$enddefinitions":
                 return
             elif words[0] not in ("$timescale", "$date", "$version", "$comment"):
@@ -72,8 +75,7 @@ class Dump:
         for time, key, digits in self._raw_changes():
             if key in wanted:
                 value = _number(digits)
-                for name in wanted[key]:
-                    yield time, name, value
+                yield from ((time, name, value) for name in wanted[key])
 
     def cycles(self, names: Optional[Iterable[str]] = None) -> Iterator[Tuple[int, Dict[str, Value]]]:
         """Each cycle of the dump with the values that its nets have once they have settled. The dictionary is the same object in each step: copy what is to be kept.
@@ -85,6 +87,8 @@ class Dump:
         values: Dict[str, Value] = {name: None for name in chosen}
         cycle, time = 0, 0
         for time, key, digits in self._raw_changes():
+            if time > (cycle + MOST_GAP) * self.period:
+                raise NotADump(f"{self.path}: no net changes for more than {MOST_GAP:,} cycles before the time {time}: this is no dump of a clocked circuit")
             while time > cycle * self.period + self.sample:
                 yield cycle, values
                 cycle += 1
@@ -112,6 +116,9 @@ class Dump:
                 elif first == "#":
                     time = _time(line)
                     yield time, "", "0"
+                elif first in "sS":
+                    words, _, key = line[1:].rstrip().rpartition(" ")
+                    yield time, key, f"{self.texts.setdefault(words, len(self.texts)):b}"
 
 
 def _time(line: str) -> int:

@@ -64,8 +64,7 @@ def estimate(program: Program, source: str, top: str, fixed: Optional[Mapping[st
         if task in given:
             found.tasks[task] = list(given[task])
             continue
-        others = {other: NOTHING for other in counts if other != task}
-        alone = plans.ask(program, source, top, devices.one_slot(others).text())
+        alone = plans.ask(program, source, top, devices.one_slot({other: NOTHING for other in counts if other != task}).text())
         found.tasks[task] = [use // count for use in alone.used()]
     return found
 
@@ -76,8 +75,7 @@ def shortage(program: Program, source: str, top: str, device: str) -> List[str]:
     try:
         known = devices.read(device)
         found = estimate(program, source, top, known.tasks)
-        joined = slot_groups.links(source, top, found.labels, found.widths)
-        groups = slot_groups.groups(found.labels, joined)
+        groups = slot_groups.groups(found.labels, slot_groups.links(source, top, found.labels, found.widths))
         return (shortages(found, known, groups) or crowded(found, known, groups))[:LINES]
     except (Fault, OSError, ValueError, LookupError):
         return []

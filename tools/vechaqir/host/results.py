@@ -80,8 +80,7 @@ class Failure(Exception):
     @property
     def explanation(self) -> str:
         """The messages with the lines that they speak of, what is wrong, why, and what to write instead, as `./tapa` shows them on a terminal."""
-        explaining = importlib.import_module("vechaqir.explain.module")
-        return "".join(f"{line}\n" for line in explaining.explained(self.lines, self.call))
+        return "".join(f"{line}\n" for line in importlib.import_module("vechaqir.explain.module").explained(self.lines, self.call))
 
 
 class PastEnd(UserWarning):

@@ -273,14 +273,9 @@ def place_of(text: bytes, at: int) -> Tuple[int, int]:
     return 1 + text.count(b"\n", 0, at), at - text.rfind(b"\n", 0, at)
 
 
-def offset_of(text: bytes, line: int, col: int) -> int:
-    """How many bytes stand before a place."""
-    return sum(len(it) + 1 for it in text.split(b"\n")[: line - 1]) + col - 1
-
-
 def source_place(source: bytes, line: int, col: int) -> Tuple[int, int]:
     """The place in a source of a place of its written-out text."""
     out, pieces = Writer(source).written()
-    at = offset_of(out, line, col)
+    at = sum(len(it) + 1 for it in out.split(b"\n")[: line - 1]) + col - 1
     begin, there, length = pieces[max(bisect.bisect_right([piece[0] for piece in pieces], at) - 1, 0)]
     return place_of(source, there + min(at - begin, max(length - 1, 0)))

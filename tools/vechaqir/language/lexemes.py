@@ -51,9 +51,7 @@ class Lines:
 
     def offset(self, place: Place) -> int:
         """The offset of a place; one past the text is its end."""
-        if place.line > len(self.starts):
-            return len(self.text)
-        return min(self.starts[max(place.line, 1) - 1] + place.column - 1, len(self.text))
+        return len(self.text) if place.line > len(self.starts) else min(self.starts[max(place.line, 1) - 1] + place.column - 1, len(self.text))
 
     def line(self, number: int) -> bytes:
         """The bytes of a line without its end; a line that is not there has none."""

@@ -54,8 +54,7 @@ def locals_of(view: View, begin: int, end: int) -> List[Name]:
     at = begin
     while at < end:
         is_const = view.text(at) in ("const", "constexpr")
-        start = at + is_const
-        declared = kinds.kind_at(view.words, start)
+        declared = kinds.kind_at(view.words, at + is_const)
         if not declared or not (view.starts(at) or view.text(at - 1) == "(" and view.text(at - 2) == "for"):
             at += 1
             continue

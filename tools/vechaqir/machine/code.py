@@ -130,8 +130,7 @@ class Actions(Words):
         target, index = self.target()
         if self.text() in ("++", "--"):
             sign = self.take()
-            one = number(1, promoted(target.kind))
-            self.assign(target, index, sign[0] + "=", one, first)
+            self.assign(target, index, sign[0] + "=", number(1, promoted(target.kind)), first)
         else:
             sign = self.take(*ASSIGNMENTS)
             self.assign(target, index, sign, self.expression(), first)
@@ -179,8 +178,7 @@ class Actions(Words):
         if self.takes("."):
             self.method(stream, first)
         while self.takes("<<"):
-            value = self.level(8)
-            self.write(stream, value, first)
+            self.write(stream, self.level(8), first)
             first = self.position
         while self.takes(">>"):
             self.read_into(stream, first)

@@ -4,6 +4,7 @@ from __future__ import annotations
 import os
 from typing import Any, Dict, Iterator, List, Tuple
 
+from ..host.columns import columns
 from ..host.dump import Dump
 from ..language.network import Network
 from ..language.source import Source
@@ -76,28 +77,22 @@ def text(found: Table) -> Iterator[str]:
     """The lines of a table for people."""
     for module in found["modules"]:
         yield f"module {module['module']}: task {module['task']}, line {module['line']}, instances {' '.join(module['instances'])}"
-        yield from _columns(
-            [(it["net"], it["name"] or "(clears arrays)", it["kind"], it["role"], "" if it["role"] == "counter" else f"{it['line']}:{it['column']}") for it in module["registers"]]
+        yield from columns(
+            [(it["net"], it["name"] or ("(clears arrays)" if module["arrays"] else "(no array to clear)"), it["kind"], it["role"], "" if it["role"] == "counter" else f"{it['line']}:{it['column']}") for it in module["registers"]]
             + [(it["net"], it["name"], f"{it['kind']}[{it['cells']}]", "array", f"{it['line']}:{it['column']}") for it in module["arrays"]]
-            + [(it["nets"], it["name"], it["kind"], it["direction"], "") for it in module["ports"]]
+            + [(it["nets"], it["name"], it["kind"], it["direction"], "") for it in module["ports"]],
+            "  "
         )
-        yield from _columns([(f"state {it['state']}", f"{it['line']}:{it['column']}", _says(it), "-> " + " or ".join(map(str, it["next"])) if it["next"] else "") for it in module["states"]])
+        yield from columns([(f"state {it['state']}", f"{it['line']}:{it['column']}", _says(it), "-> " + " or ".join(map(str, it["next"])) if it["next"] else "") for it in module["states"]], "  ")
         yield ""
     yield f"module {found['module']}: the top"
-    yield from _columns([(it["instance"], it["module"], it["ended"] + (", detached" if it["detached"] else ""), " ".join(f"{a}={b}" for a, b in it["bindings"].items())) for it in found["instances"]])
-    yield from _columns([(it["instance"], it["nets"], f"{it['kind']}, depth {it['depth']}", f"{it['writer']} -> {it['reader']}") for it in found["channels"]])
+    yield from columns([(it["instance"], it["module"], it["ended"] + (", detached" if it["detached"] else ""), " ".join(f"{a}={b}" for a, b in it["bindings"].items())) for it in found["instances"]], "  ")
+    yield from columns([(it["instance"], it["nets"], f"{it['kind']}, depth {it['depth']}", f"{it['writer']} -> {it['reader']}") for it in found["channels"]], "  ")
 
 
 def _says(state: Table) -> str:
     """A state in words: its act, and what it is written as."""
     return f"{state['act']} {state['of']}".strip() + (f": {state['text']}" if state["act"] != "end" else "")
-
-
-def _columns(rows: List[Tuple[str, ...]]) -> Iterator[str]:
-    """Rows as lines, each column but the last as wide as its widest cell."""
-    widths = [max(map(len, column)) for column in zip(*rows)]
-    for row in rows:
-        yield "  " + "  ".join(cell.ljust(width) for cell, width in zip(row, widths)).rstrip()
 
 
 # ---- for GTKWave
@@ -124,8 +119,7 @@ def save_file(found: Table, dump: Dump, folder: str, stem: str) -> Iterator[str]
         yield from _group(f"stream {channel['stream']}: {channel['writer']} to {channel['reader']}", [(net, net, BINARY if net[-3:] != "din" else DECIMAL, "") for net in nets], dump)
     for instance in found["instances"]:
         module, label = kinds[instance["module"]], instance["label"]
-        states = os.path.join(folder, f"{stem}.{module['module']}.states")
-        rows = [(f"t_{label}.state", "line", TRANSLATED, states)]
+        rows = [(f"t_{label}.state", "line", TRANSLATED, os.path.join(folder, f"{stem}.{module['module']}.states"))]
         rows += [(f"t_{label}.{it['net']}", it["name"], SIGNED if it["signed"] else DECIMAL, "") for it in module["registers"] if it["role"] != "counter"]
         yield from _group(f"{label} ({module['task']})", [*rows, (instance["ended"], "ended", BINARY, "")], dump)
 

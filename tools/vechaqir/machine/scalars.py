@@ -30,11 +30,7 @@ def _enter(source: Source, task: Task, front: str, known: Mapping[str, int], fou
             if called.is_upper:
                 _enter(source, called, label + "$", here, found, level + 1)
             else:
-                found[label] = [_bits(here[name], kind) for name, kind, _ in given]
-
-
-def _bits(value: int, kind: Kind) -> int:
-    return value & (1 << kind.bits) - 1
+                found[label] = [here[name] & (1 << kind.bits) - 1 for name, kind, _ in given]
 
 
 def _value(source: Source, text: str, known: Mapping[str, int]) -> int:

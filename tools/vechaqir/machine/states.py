@@ -73,9 +73,7 @@ class Machine:
 
     def says(self, state: State) -> str:
         """A state in words: `read q`, `set i`, `test i < n`, `end`."""
-        if state.act == "test":
-            return f"test {self.text(state)}"
-        return f"{state.act} {self.subject(state)}".rstrip()
+        return f"test {self.text(state)}" if state.act == "test" else f"{state.act} {self.subject(state)}".rstrip()
 
 
 def machine(source: Source, task: Task) -> Machine:

@@ -50,7 +50,7 @@ def dump(run: Run) -> Iterator[str]:
 def _variables(follower: Follower) -> Iterator[_Variable]:
     machine = follower.machine
     lines = [machine.place(it).line for it in machine.states]
-    says = [_word(machine.says(it)) for it in machine.states]
+    says = [machine.says(it).replace(" ", "_") for it in machine.states]
     yield _Variable("integer", 32, "line", lambda it: lines[it.at])
     yield _Variable("string", 1, "act", lambda it: says[it.at] if it.status != "ended" else "ended")
     yield _Variable("wire", 1, "waits", lambda it: int(it.status in ("waits", "bad token")))
@@ -60,16 +60,7 @@ def _variables(follower: Follower) -> Iterator[_Variable]:
             # variables of one name in two blocks are told apart by their lines
             name = register.name if register.name not in names else f"{register.name}@{register.place.line}"
             names.append(register.name)
-            yield _Variable("wire", register.kind.bits, name, _reads(register.number))
-
-
-def _reads(number: int) -> Callable[[Follower], int]:
-    return lambda follower: follower.registers[number]
-
-
-def _word(text: str) -> str:
-    """A text without blanks, which a value of a string may not have."""
-    return text.replace(" ", "_")
+            yield _Variable("wire", register.kind.bits, name, lambda follower: follower.registers[register.number])
 
 
 def _key(number: int) -> str:

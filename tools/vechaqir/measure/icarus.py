@@ -62,8 +62,7 @@ def bench(text: str, data: Groups, cycles: int, dump: Optional[str] = None) -> I
     yield "initial begin clk = 0; cycle = 0; while (1) begin"
     yield "  rst = cycle == 0;"
     for _, label in memories:
-        long = len(waits.get(label, []))
-        yield f"  m_{label}_ack = cycle == 0 ? 1'd0 : cycle <= {long} ? ready_{label}[cycle - 1] : 1'd1;"
+        yield f"  m_{label}_ack = cycle == 0 ? 1'd0 : cycle <= {len(waits.get(label, []))} ? ready_{label}[cycle - 1] : 1'd1;"
     yield "  #4;"
     for label in streams:
         bits = wires[f"s_{label}_din"]

@@ -6,7 +6,7 @@ from dataclasses import dataclass
 from typing import Iterator, List, Sequence, Tuple
 
 from ..host.data import Data
-from ..host.report import Eot, Report, Token
+from ..host.report import Eot, Report
 from ..language.network import Network
 
 # How memories answer: within the cycle, a cycle later as a block RAM, in random cycles with noise in the others, or by the ready lists of the data.
@@ -46,24 +46,18 @@ class Bench:
     limit: int
 
 
-def token_bits(token: Token, bits: int) -> int:
-    """A token as it stands on `din`: an end of transaction has the highest bit."""
-    return 1 << (bits - 1) if isinstance(token, Eot) else token & ((1 << (bits - 1)) - 1)
-
-
 def made_of(network: Network, given: Data, report: Report, limit: int) -> Bench:
     """The bench of a run's data and its report, whose numbers are unsigned."""
     detached = {it.label: it.detached for it in network.instances}
     streams = []
     for channel in network.streams:
         bits = channel.kind.bits + 1
-        tokens = [token_bits(it, bits) for it in report.streams.get(channel.name, [])]
+        tokens = [1 << (bits - 1) if isinstance(it, Eot) else it & ((1 << (bits - 1)) - 1) for it in report.streams.get(channel.name, [])]
         streams.append(Stream(channel.name, bits, tokens, report.end == "done" and detached.get(channel.writer or "", False)))
     memories = []
     for it in network.memories:
         first = [number & ((1 << it.kind.bits) - 1) for number in given.memories.get(it.name, [])]
-        last = report.memories.get(it.name, first)
-        memories.append(Memory(it.name, it.kind.bits, first, last, given.ready.get(it.name, [])))
+        memories.append(Memory(it.name, it.kind.bits, first, report.memories.get(it.name, first), given.ready.get(it.name, [])))
     scalars = [(it.name, it.kind.bits, given.scalars.get(it.name, 0) & ((1 << it.kind.bits) - 1)) for it in network.scalars]
     return Bench(network.top, scalars, streams, memories, report.end == "done", limit)
 

@@ -3,6 +3,7 @@ from __future__ import annotations
 
 from typing import Any, Dict, Iterator, List, Optional, Sequence, Tuple
 
+from ..host.columns import columns
 from ..language.source import Source
 from .bounds import Bound, circle, waiting_for
 from .profile import Profile
@@ -23,7 +24,7 @@ def lines(found: Profile, source: Source, bounds: Bound, changes: Optional[Seque
     yield from _streams(found)
     yield ""
     if found.is_done:
-        yield from _bounds(found, source, bounds)
+        yield from _bounds(source, bounds)
     else:
         yield from _standstill(found)
     yield from _changes(found, bounds, changes)
@@ -34,7 +35,7 @@ def _tasks(found: Profile) -> Iterator[str]:
     for label, it in found.tasks.items():
         waits = [f"{cycles} {wait}" for wait, cycles in sorted(it.waits.items(), key=lambda pair: -pair[1])] + ([f"{it.bad} before a wrong token"] if it.bad else [])
         rows.append((label, str(it.ticks), str(it.waited + it.bad), str(it.ended), ", ".join(waits)))
-    yield from table(rows)
+    yield from columns(rows)
 
 
 def _lines(found: Profile, source: Source) -> Iterator[str]:
@@ -42,7 +43,7 @@ def _lines(found: Profile, source: Source) -> Iterator[str]:
     shown = sorted(sorted(costs, key=lambda line: -costs[line].all)[:ROWS])
     rows = [("line", "cycles", "ticks", "waits", "text")]
     rows += [(str(line), str(costs[line].all), str(costs[line].ticks), str(costs[line].waits), line_text(source, line)) for line in shown]
-    yield from table(rows)
+    yield from columns(rows)
     if len(costs) > len(shown):
         yield f".. {len(costs) - len(shown)} lines of fewer cycles"
 
@@ -51,16 +52,16 @@ def _streams(found: Profile) -> Iterator[str]:
     rows = [("stream", "depth", "tokens", "least", "mean", "most", "held its writer", "held its reader")]
     for name, it in found.streams.items():
         rows.append((name, str(it.channel.depth), str(it.tokens), str(it.least), f"{it.mean:.2f}", str(it.most), str(it.holds_writer), str(it.holds_reader)))
-    yield from table(rows)
+    yield from columns(rows)
 
 
-def _bounds(found: Profile, source: Source, bounds: Bound) -> Iterator[str]:
+def _bounds(source: Source, bounds: Bound) -> Iterator[str]:
     yield f"What bounds it: {bounds.cycles} cycles in a row, each of which had to wait for the one before"
     rows = [(label, str(cycles), "ticks of this task") for label, cycles in list(bounds.tasks.items())[:PARTS]]
     rows += [(f"memory {name}", str(cycles), "cycles in which it was not ready") for name, cycles in bounds.memories.items()]
     rows += [(f"stream {name}", str(bounds.rooms[name]), "times a place had to become free") for name in list(bounds.rooms)[:PARTS]]
     rows += [(f"line {line}", str(cycles), line_text(source, line)) for line, cycles in list(bounds.lines.items())[:PARTS]]
-    yield from table([("of these", "", ""), *rows])
+    yield from columns([("of these", "", ""), *rows])
 
 
 def _standstill(found: Profile) -> Iterator[str]:
@@ -83,7 +84,7 @@ def _changes(found: Profile, bounds: Bound, changes: Optional[Sequence[Change]])
     if changes is not None:
         yield ""
         yield "Changes that were tried"
-        yield from table([(change.text + ":", f"done in cycle {change.cycles}", f"{found.cycles - change.cycles} fewer" if found.is_done else "") for change in changes] or [("no depth and no memory makes it faster", "", "")])
+        yield from columns([(change.text + ":", f"done in cycle {change.cycles}", f"{found.cycles - change.cycles} fewer" if found.is_done else "") for change in changes] or [("no depth and no memory makes it faster", "", "")])
     for line, turns, cycles in shorter_turns(found, bounds):
         yield f"Not tried: a tick less in each of the {turns} turns at line {line} gives {cycles} cycles, as long as nothing else bounds it"
 
@@ -98,15 +99,6 @@ def shorter_turns(found: Profile, bounds: Bound) -> List[Tuple[int, int, int]]:
 def line_text(source: Source, line: int) -> str:
     """A line of the source without the blanks around it."""
     return source.lines.line(line).decode("utf-8", "replace").strip()
-
-
-def table(rows: Sequence[Tuple[str, ...]]) -> Iterator[str]:
-    """Rows as lines, numbers to the right; the last column is as wide as it is."""
-    widths = [max(map(len, column)) for column in zip(*rows)]
-    right = [all(row[at].replace(".", "").isdecimal() or not row[at] for row in rows[1:]) for at in range(len(widths))]
-    for row in rows:
-        cells = [cell.rjust(width) if is_right else cell.ljust(width) for cell, width, is_right in zip(row, widths, right)]
-        yield "  ".join(cells).rstrip()
 
 
 def as_json(found: Profile, bounds: Bound, changes: Optional[Sequence[Change]]) -> Dict[str, Any]:

@@ -144,8 +144,7 @@ def _smallest(bench: Bench, source: Source, depths: Dict[Declared, int], name: D
     low, high = own, depths[name]
     while low < high:
         middle = (low + high) // 2
-        tried = _with(depths, name, middle if middle > own else None)
-        if bench.cycles(with_depths(source, tried)) == cycles:
+        if bench.cycles(with_depths(source, _with(depths, name, middle if middle > own else None))) == cycles:
             high = middle
         else:
             low = middle + 1

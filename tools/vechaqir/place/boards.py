@@ -51,8 +51,7 @@ def _paired(apart: Sequence[Sequence[float]], some: random.Random) -> List[List[
     for far, _, one, other in pairs:
         if one not in taken and other not in taken and far <= 1.5 * pairs[0][0]:
             taken[one] = taken[other] = [one, other]
-    alone = [[one] for one in range(len(apart)) if one not in taken]
-    return alone + [pair for one, pair in taken.items() if pair[0] == one]
+    return [[one] for one in range(len(apart)) if one not in taken] + [pair for one, pair in taken.items() if pair[0] == one]
 
 
 def _joined(board: Board, members: Sequence[Sequence[int]], full: float) -> Board:

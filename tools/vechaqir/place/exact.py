@@ -54,7 +54,7 @@ class Search:
             if self.steps < STEPS and all(need <= free for need, free in zip(self.graph.needs[node], self.free[slot])):
                 self.steps += 1
                 self._step(node, slot, 1)
-                if self.best is None or cost + pull[slot] + self._least(depth + 1) < self.best.cost:
+                if self.best is None or cost + pull[slot] + sum(min(self.pull[node]) for node in self.order[depth + 1:]) < self.best.cost:
                     self.place(depth + 1, cost + pull[slot])
                 self._step(node, slot, -1)
 
@@ -65,10 +65,6 @@ class Search:
         for other, bits in self.graph.near[node]:
             if self.at[other] < 0:
                 self.pull[other] = [cost + sign * bits * far for cost, far in zip(self.pull[other], self.board.distance[slot])]
-
-    def _least(self, depth: int) -> int:
-        """What the nodes from `depth` on cost at least, each beside those that are placed."""
-        return sum(min(self.pull[node]) for node in self.order[depth:])
 
 
 def search(graph: Graph, board: Board, best: Optional[Found]) -> Searched:

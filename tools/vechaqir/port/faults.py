@@ -5,7 +5,7 @@ from typing import NamedTuple
 class Refused(Exception):
     """A construct that cannot be ported exactly: its offset in the expanded text, the reason, and what to write instead."""
 
-    def __init__(self, at: int, why: str, instead: str = ""):
+    def __init__(self, at: int, why: str, instead: str = "") -> None:
         super().__init__(why)
         self.at, self.why, self.instead = at, why, instead
 

@@ -30,6 +30,9 @@ def leaves(program: Program, originals: Set[Variable], bits: Optional[int]) -> N
             splitting.run(program, function)
             arrays.run(program, function)
     packed_statements.run(program)
+    for function in program.tasks:
+        if function.body is not None:
+            function.body = splitting.cells(function.body, True)
     fixed.run(program, bits)
     narrow.run(program)
     for function in program.tasks:
@@ -37,6 +40,8 @@ def leaves(program: Program, originals: Set[Variable], bits: Optional[int]) -> N
     for function in program.tasks:
         if not upper.is_upper(function):
             shortening.run(program, function, originals)
+            if unrolling.sums(function):
+                shortening.run(program, function, originals)
 
 
 def changed(program: Program, bits: Optional[int]) -> None:

@@ -9,6 +9,7 @@ from ..host.device import RESOURCES, Device
 from ..host.estimate import Estimate
 from ..host.plan import Plan
 from ..host.report import Report
+from ..host.slot_groups import Link
 from ..language.network import Network
 from ..language.source import Source
 from ..machine.run import BAD, ENDED, TICK
@@ -17,6 +18,7 @@ from ..measure.profile import CODES, Profile, StreamProfile, TaskProfile
 from ..measure.text import shorter_turns
 from ..measure.tries import Change
 from .dot import by_graphviz
+from .floorplan import bundles
 from .folding import folded
 from .graph import lay_out
 from .report import Row, past_end, shortened
@@ -115,8 +117,10 @@ def uses_data(found: Estimate) -> List[List[Any]]:
     return [[task, count, *found.tasks[task]] for task, count in found.counts().items()]
 
 
-def plan_data(plan: Plan, device: Device) -> Dict[str, Any]:
-    """A plan with its device."""
+def plan_data(plan: Plan, device: Device, network: Network) -> Dict[str, Any]:
+    """A plan with its device, and the streams over each border."""
+    widths = {it.name: it.width for it in plan.streams}
+    links = [Link(it.name, it.writer or "", it.reader or "", widths[it.name]) for it in network.streams]
     return {
         "rows": device.rows, "cols": device.cols, "percent": device.percent, "resources": list(RESOURCES),
         "slots": [
@@ -125,6 +129,7 @@ def plan_data(plan: Plan, device: Device) -> Dict[str, Any]:
         ],
         "tasks": {label: list(place) for label, place in plan.tasks.items()},
         "streams": {it.name: [it.width, it.latency, it.balance, it.flow] for it in plan.streams},
+        "bundles": [[here, there, it.bits, it.streams] for (here, there), it in sorted(bundles(plan, links).items())],
         "cost": plan.cost, "registers": plan.registers, "dual": plan.dual,
     }
 

@@ -7,7 +7,9 @@ import subprocess
 from typing import Any, Dict, Iterator, List, Optional, Tuple
 
 from ..language.network import Instance, Network
-from .graph import GAP, NODE, PILL, SIZE, SMALL, TITLE, Box, Picture, Wire
+from . import labels
+from .frames import GAP, PAD
+from .graph import NODE, PILL, SIZE, SMALL, TITLE, Box, Picture, Wire, name_of, short
 from .svg import text_width
 
 # The most instances that are given to it, and the seconds that it may take.
@@ -16,11 +18,16 @@ POINTS = 72.0
 
 
 def by_graphviz(network: Network, facts: Dict[str, str]) -> Optional[Picture]:
-    """The picture, or None where there is no `dot`, where it takes too long, or where the network is large."""
+    """The picture, or None if there is no `dot`, if it takes too long, if the network is large, or if a label has no room."""
     if not shutil.which("dot") or len(network.instances) > MOST:
         return None
+    return _laid_out(network, facts, False) or (_laid_out(network, facts, True) if network.uppers else None)
+
+
+def _laid_out(network: Network, facts: Dict[str, str], is_level: bool) -> Optional[Picture]:
+    """The picture of one call of `dot`, or None. If `is_level`, streams end at the left and right sides of tasks: then names above these tasks have room."""
     try:
-        ran = subprocess.run(["dot", "-Tjson0"], input="\n".join(_graph(network, facts)).encode(), capture_output=True, timeout=SECONDS, check=True)
+        ran = subprocess.run(["dot", "-Tjson0"], input="\n".join(_graph(network, facts, is_level)).encode(), capture_output=True, timeout=SECONDS, check=True)
         return _picture(network, facts, json.loads(ran.stdout))
     except (OSError, subprocess.SubprocessError, ValueError, KeyError):
         return None
@@ -35,23 +42,20 @@ def _size(network: Network, instance: Instance) -> Tuple[float, float]:
     """Width and height of a task's box with its memories below."""
     memories = _memories(network, instance)
     pills = sum(text_width(name, SMALL) + 16 for name in memories)
-    return max(text_width(_name(instance), SIZE) + 24, pills + 4, 70), NODE + (PILL + 6 if memories else 0)
+    return max(text_width(short(instance), SIZE) + 24, pills + 4, 70), NODE + (PILL + 6 if memories else 0)
 
 
-def _name(instance: Instance) -> str:
-    return instance.label.split("$", 2 * len(instance.path))[-1]
-
-
-def _graph(network: Network, facts: Dict[str, str]) -> Iterator[str]:
+def _graph(network: Network, facts: Dict[str, str], is_level: bool) -> Iterator[str]:
     """The network in Graphviz's language: a cluster for each upper-level task."""
+    writer, reader = (":e", ":w") if is_level else ("", "")
     yield f'digraph G {{ rankdir=LR; nodesep={GAP / POINTS:.2f}; ranksep=0.5; node [shape=plain]; edge [fontname="DejaVu Sans", fontsize={SMALL}];'
     yield from _cluster(network, ())
     for stream in network.streams:
         if stream.writer and stream.reader:
             width = max(text_width(stream.name.rsplit("$", 1)[-1], SMALL, True), text_width(facts.get(stream.name, ""), SMALL)) + 12
             # a table of the label's size, whose words are written by whoever draws the picture
-            label = f'<<table border="0" fixedsize="true" width="{width:.0f}" height="28"><tr><td></td></tr></table>>'
-            yield f'"{stream.writer}":t -> "{stream.reader}":t [id="{stream.name}", label={label}];'
+            label = f'<<table border="0" fixedsize="true" width="{width:.0f}" height="30"><tr><td></td></tr></table>>'
+            yield f'"{stream.writer}":t{writer} -> "{stream.reader}":t{reader} [id="{stream.name}", label={label}];'
     yield "}"
 
 
@@ -68,13 +72,13 @@ def _cluster(network: Network, path: Tuple[str, ...]) -> Iterator[str]:
             yield f'"{instance.label}" [label=<{_cells(width, height)}>];'
     for upper in network.uppers:
         if upper.path == path:
-            label = f'<<table border="0" fixedsize="true" width="{text_width(_name(upper), SMALL) + 12:.0f}" height="{TITLE}"><tr><td></td></tr></table>>'
-            yield f'subgraph "cluster_{upper.label}" {{ margin=10; label={label}; labeljust=l;'
+            label = f'<<table border="0" fixedsize="true" width="{text_width(name_of(upper.label, path), SMALL) + 12:.0f}" height="{TITLE}"><tr><td></td></tr></table>>'
+            yield f'subgraph "cluster_{upper.label}" {{ margin={PAD}; label={label}; labeljust=l;'
             yield from _cluster(network, (*path, upper.label))
             yield "}"
 
 
-def _picture(network: Network, facts: Dict[str, str], made: Dict[str, Any]) -> Picture:
+def _picture(network: Network, facts: Dict[str, str], made: Dict[str, Any]) -> Optional[Picture]:
     left, bottom, right, top = (float(number) for number in made["bb"].split(","))
     margin = 20.0
     found = Picture(right - left + 2 * margin, top - bottom + 2 * margin)
@@ -88,33 +92,40 @@ def _picture(network: Network, facts: Dict[str, str], made: Dict[str, Any]) -> P
         it = objects.get(f"cluster_{upper.label}")
         if it and "bb" in it:
             one, other = place(",".join(it["bb"].split(",")[:2])), place(",".join(it["bb"].split(",")[2:]))
-            found.boxes.append(Box("upper", upper.label, _name(upper), one[0], other[1], other[0] - one[0], one[1] - other[1]))
+            found.boxes.append(Box("upper", upper.label, name_of(upper.label, upper.path), one[0], other[1], other[0] - one[0], one[1] - other[1]))
     for instance in network.instances:
         found.boxes += _boxes(network, instance, *place(objects[instance.label]["pos"]))
+    lines = []
     for edge in made.get("edges", []):
         x, y = place(edge.get("lp", edge["pos"].split()[-1]))
-        width = max(text_width(edge["id"].rsplit("$", 1)[-1], SMALL, True), text_width(facts.get(edge["id"], ""), SMALL))
-        found.wires.append(Wire(edge["id"], _way(edge["pos"], place), edge["id"].rsplit("$", 1)[-1], facts.get(edge["id"], ""), x - width / 2, y))
-    return found
+        curve = _curve(edge["pos"], place)
+        wire = Wire(edge["id"], _way(curve), edge["id"].rsplit("$", 1)[-1], facts.get(edge["id"], ""), 0, y - 2)
+        found.wires.append(wire._replace(label_x=x - labels.width_of(wire) / 2))
+        lines.append(labels.points_of(curve))
+    return labels.with_room(found, lines)
 
 
 def _boxes(network: Network, instance: Instance, x: float, y: float) -> Iterator[Box]:
     """A task's box and its memories, around a middle."""
     width, height = _size(network, instance)
     at, memories = x - width / 2, _memories(network, instance)
-    yield Box("task", instance.label, _name(instance), at, y - height / 2, width, NODE)
+    yield Box("task", instance.label, short(instance), at, y - height / 2, width, NODE)
     for name in memories:
         wide = text_width(name, SMALL) + 12
         yield Box("memory", name, name, at + 2, y - height / 2 + NODE + 6, wide, PILL)
         at += wide + 4
 
 
-def _way(pos: str, place: Any) -> str:
-    """A spline of Graphviz as a path of SVG: the end of its arrow comes first, then a point and groups of three."""
+def _curve(pos: str, place: Any) -> List[Tuple[float, float]]:
+    """The points of a spline of Graphviz: the end of its arrow comes first, then a point and groups of three."""
     words = pos.split()
-    end = next((it for it in words if it.startswith("e,")), None)
-    points = [place(it) for it in words if not it.startswith(("e,", "s,"))]
-    text = f"M{points[0][0]:.1f} {points[0][1]:.1f}"
-    for number in range(1, len(points) - 2, 3):
-        text += " C" + " ".join(f"{x:.1f} {y:.1f}" for x, y in points[number:number + 3])
-    return text + (" L{:.1f} {:.1f}".format(*place(end)) if end else "")
+    ends = [it for it in words if it.startswith("e,")]
+    return [place(it) for it in [*(it for it in words if not it.startswith(("e,", "s,"))), *ends]]
+
+
+def _way(curve: List[Tuple[float, float]]) -> str:
+    """The points as a path of SVG: cubic curves, and a straight line to the end of the arrow."""
+    text = "M{:.1f} {:.1f}".format(*curve[0])
+    for number in range(1, len(curve) - 2, 3):
+        text += " C" + " ".join(f"{x:.1f} {y:.1f}" for x, y in curve[number:number + 3])
+    return text + (" L{:.1f} {:.1f}".format(*curve[-1]) if len(curve) % 3 == 2 else "")

@@ -15,6 +15,8 @@ from . import svg
 # Slots and the gaps between them, in which the bundles stand; what is inside a slot keeps this distance to its frame.
 WIDTH, ACROSS, DOWN, MARGIN, INSIDE = 300, 130, 64, 36, 10
 BAR, LABELLED, ROW = 14, 12, 20
+# How high a row of empty slots is.
+EMPTY = 24
 # The sides of the small boxes of slots with many tasks, the largest that does is taken; and how high they may stand.
 SIDES, HIGH = (22, 18, 15, 12, 10, 8), 170
 # The most streams that are told one by one below.
@@ -50,7 +52,7 @@ class Scene:
         self.side = next((side for side in SIDES if self._high(self.most, side) <= HIGH), SIDES[-1])
         self.top = 12 + BAR * len(self.resources)
         # a row of slots is as high as its fullest slot needs
-        self.heights = [self.top + max(ROW, self._tasks(row)) + INSIDE for row in range(self.device.rows)]
+        self.heights = [self.top + max(ROW, self._tasks(row)) + INSIDE if self._tasks(row) else EMPTY for row in range(self.device.rows)]
 
     def _tasks(self, row: int) -> int:
         """How high the boxes of the fullest slot of a row stand."""
@@ -128,7 +130,7 @@ def slot(scene: Scene, place: SlotPlace, used: Amounts) -> Iterator[str]:
     yield svg.box(x, y, WIDTH, scene.height(place), SHUT if is_shut else svg.PAPER)
     yield svg.text(x + 2, y - 6, f"slot {place[0]} {place[1]}", 12, is_bold=True)
     yield svg.text(x + WIDTH - 2, y - 6, tasks, 11, "end", colour=svg.QUIET)
-    for at, resource in enumerate(scene.resources):
+    for at, resource in enumerate(scene.resources if scene.height(place) > EMPTY else []):
         yield from bar(x, y + 8 + BAR * at, RESOURCES[resource], used[resource], scene.device.slots[number][resource], scene.device.percent)
     yield from (labelled if scene.most <= LABELLED else small)(x, y + scene.top, labels, scene)
 

@@ -6,15 +6,10 @@ from typing import Dict, List
 from ..language.network import Channel, Instance, Network
 
 
-def outermost(instance: Instance) -> str:
-    """The box of an instance: the upper-level task of the top around it, or itself."""
-    return instance.path[0] if instance.path else instance.label
-
-
 def folded(network: Network) -> Network:
     """The network with the streams between its boxes; what is inside an upper-level task is left out."""
     uppers = {it.label: it for it in network.uppers}
-    home = {it.label: outermost(it) for it in network.instances}
+    home = {it.label: it.path[0] if it.path else it.label for it in network.instances}
     memories = {it.name for it in network.memories}
     made: Dict[str, Instance] = {}
     for it in network.instances:

@@ -1,7 +1,7 @@
 """Where the tasks, streams and memories of a network stand in a picture: tasks in columns by how far they are from those that read nothing, streams from left to right.
 
 Each stream leaves its writer and reaches its reader at a height of its own, its label stands over its first part, and where it passes a column it has a row of its own there. So
-no label lies over another or over a box. What is inside an upper-level task stands in a band of rows of its own, around which its box is drawn.
+no label lies over another or over a box. An upper-level task has rows of its own, around which its box is drawn, with its name above them.
 """
 from __future__ import annotations
 
@@ -9,15 +9,19 @@ from dataclasses import dataclass, field
 from typing import Dict, List, NamedTuple, Optional, Sequence, Tuple
 
 from ..language.network import Channel, Instance, Network
-from .svg import text_width
+from .frames import GAP, Stop, common, frames_of
+from .layers import columns
+from .svg import cut_name, text_width
 
 SIZE, SMALL = 12, 10
-PORT, NODE, GAP, MARGIN, PILL, TITLE = 30, 34, 22, 26, 18, 20
+PORT, NODE, MARGIN, PILL, TITLE = 30, 34, 26, 18, 20
 TURN = 60
+# The most width of the name of an upper-level task, and how far its base line is below the border.
+NAME, NAME_DOWN = 160, 14
 
 
 class Box(NamedTuple):
-    """A box: `kind` is `task`, `memory` or `upper`, `name` what it stands for, `label` what is written in it."""
+    """A box: `kind` is `task`, `memory` or `upper`, `name` what it stands for, `label` what is written in it: in the middle, or for an upper-level task from `label_x` on, with its base line at `label_y`."""
 
     kind: str
     name: str
@@ -26,6 +30,8 @@ class Box(NamedTuple):
     y: float
     width: float
     height: float
+    label_x: float = 0
+    label_y: float = 0
 
 
 class Wire(NamedTuple):
@@ -49,19 +55,6 @@ class Picture:
     wires: List[Wire] = field(default_factory=list)
 
 
-@dataclass
-class Stop:
-    """Where a stream passes or touches a column: at a task, or alone. `row` counts the rows of the column in its band."""
-
-    label: Optional[str]
-    column: int
-    band: int
-    height: float
-    inputs: List[str] = field(default_factory=list)
-    outputs: List[str] = field(default_factory=list)
-    y: float = 0
-
-
 class Layout:
     """Finds the places. `facts` has a second line of text for a stream."""
 
@@ -70,8 +63,9 @@ class Layout:
         self.streams = [it for it in network.streams if it.writer and it.reader]
         self.columns = columns(network.instances, self.streams)
         self.by_label = {it.label: it for it in network.instances}
-        self.bands = _bands(network.instances)
-        self.stops = {it.label: Stop(it.label, self.columns[it.label], self.bands[it.label], 0) for it in network.instances}
+        self.frames = frames_of(list(self.by_label.values()))
+        self.stops = {it.label: Stop(it.label, self.columns[it.label], 0) for it in network.instances}
+        self.width = self._widths()
         # of each stream that goes forward the stops on its way, and those that lead back
         self.ways: Dict[str, List[Stop]] = {}
         self.back: List[Channel] = []
@@ -88,7 +82,7 @@ class Layout:
             if reader.column <= writer.column:
                 self.back.append(stream)
                 continue
-            between = [Stop(None, column, reader.band if column > writer.column + 1 else writer.band, 14) for column in range(writer.column + 1, reader.column)]
+            between = [Stop(None, column, 14) for column in range(writer.column + 1, reader.column)]
             self.ways[stream.name] = [writer, *between, reader]
         for instance in self.network.instances:
             stop = self.stops[instance.label]
@@ -101,65 +95,46 @@ class Layout:
     # ---- rows
 
     def _order(self) -> None:
-        """Puts the stops of each band and column in rows: near to those before them."""
-        stops = list(self.stops.values()) + [it for way in self.ways.values() for it in way[1:-1]]
-        self.all = stops
-        top = float(MARGIN + TITLE + TITLE * self._depth())
+        """Puts the stops in rows: a task in its own frame, and where a stream passes a column in the innermost frame around its ends."""
+        for instance in self.by_label.values():
+            self.frames[instance.path].stops.append(self.stops[instance.label])
         before: Dict[int, List[Stop]] = {}
         for way in self.ways.values():
+            ends = [self.by_label[it.label or ""].path for it in (way[0], way[-1])]
+            self.frames[common(*ends)].stops += way[1:-1]
             for one, other in zip(way, way[1:]):
                 before.setdefault(id(other), []).append(one)
-        for band in sorted({it.band for it in stops}):
-            here = [it for it in stops if it.band == band]
-            bottom = top
-            for column in sorted({it.column for it in here}):
-                rows = [it for it in here if it.column == column]
-                bottom = max(bottom, self._stack(rows, before, top))
-            self._centre(here, top, bottom)
-            top = bottom + GAP + (TITLE if self._deeper(band) else 0)
-        self.bottom = top
-
-    @staticmethod
-    def _stack(rows: List[Stop], before: Dict[int, List[Stop]], top: float) -> float:
-        def wanted(stop: Stop) -> float:
-            found = before.get(id(stop), [])
-            return sum(it.y for it in found) / len(found) if found else top
-
-        rows.sort(key=wanted)
-        y = top
-        for it in rows:
-            it.y = y
-            y += it.height + GAP
-        return y
-
-    @staticmethod
-    def _centre(here: List[Stop], top: float, bottom: float) -> None:
-        """Moves each column of a band to its middle."""
-        for column in {it.column for it in here}:
-            rows = [it for it in here if it.column == column]
-            shift = (bottom - max(it.y + it.height for it in rows) - GAP) / 2
-            for it in rows:
-                it.y += max(0.0, shift)
-
-    def _deeper(self, band: int) -> bool:
-        return any(it.path for it in self.network.instances if self.bands[it.label] in (band, band + 1))
+        top = self.frames[()]
+        top.lay(before)
+        top.move(MARGIN + TITLE)
+        self.bottom = top.top + top.height + GAP
 
     # ---- places
 
+    def _widths(self) -> Dict[str, float]:
+        """The width of each task's box. Those of a column in one upper-level task of the top have the same width, which is enough for the names around them."""
+        own: Dict[str, float] = {}
+        groups: Dict[Tuple[int, str], List[str]] = {}
+        for it in self.network.instances:
+            pills = sum(text_width(name, SMALL) + 16 for name in self.memories(it))
+            names = [text_width(name_of(upper, it.path[:at]), SMALL) for at, upper in enumerate(it.path)]
+            own[it.label] = max([text_width(short(it), SIZE) + 24, pills + 4, 70, *names])
+            groups.setdefault((self.columns[it.label], it.path[0] if it.path else it.label), []).append(it.label)
+        return {label: max(own[it] for it in labels) for labels in groups.values() for label in labels}
+
     def width_of(self, instance: Instance) -> float:
-        pills = sum(text_width(name, SMALL) + 16 for name in self.memories(instance))
-        return max(text_width(instance.label.split("$", 2 * len(instance.path))[-1], SIZE) + 24, pills + 4, 70)
+        return self.width[instance.label]
 
     def picture(self) -> Picture:
         count = max(self.columns.values(), default=0) + 1
         widths = [max([self.width_of(it) for it in self.network.instances if self.columns[it.label] == column] or [40]) for column in range(count)]
         labels = [self._labels_of(column) for column in range(count)]
-        self.left, x = [], float(MARGIN + 12 * self._depth() + (TURN if self.back else 0))
-        for width, room in zip(widths, labels):
-            self.left.append(x)
-            x += width + room + TURN
+        self.left, x = [], float(MARGIN + (TURN if self.back else 0))
+        for column, (width, room) in enumerate(zip(widths, labels)):
+            self.left.append(x + max((it.left_pad() for it in self.frames[()].frames if it.first == column), default=0.0))
+            x = self.left[-1] + width + room + TURN
         self.widths, self.rooms = widths, labels
-        found = Picture(x - TURN + (TURN if self.back else 0) + MARGIN + 12 * self._depth(), self.bottom + 14 * len(self.back) + MARGIN)
+        found = Picture(x - TURN + (TURN if self.back else 0) + MARGIN, self.bottom + 14 * len(self.back) + MARGIN)
         for number, stream in enumerate(self.back):
             found.wires.append(self._back(stream, self.bottom + 14 * number))
         found.wires += [self._wire(name) for name in self.ways]
@@ -167,20 +142,19 @@ class Layout:
         found.boxes = [*self._uppers(tasks), *tasks]
         return found
 
-    def _depth(self) -> int:
-        return max((len(it.path) for it in self.network.instances), default=0)
-
     def _labels_of(self, column: int) -> float:
-        """The room that labels take behind a column."""
+        """The room that borders and labels take after a column."""
         rooms = [0.0]
         for label, stop in self.stops.items():
             if stop.column == column:
-                rooms += [max(text_width(_short(name), SMALL, True), text_width(self.facts.get(name, ""), SMALL)) + self._indent(label) + 8 for name in stop.outputs]
+                rooms += [self._pad(label), *(max(text_width(_short(name), SMALL, True), text_width(self.facts.get(name, ""), SMALL)) + self._pad(label) + 14 for name in stop.outputs)]
         return max(rooms)
 
-    def _indent(self, label: str) -> float:
-        """How far behind a task its labels begin: behind the borders of the boxes around it."""
-        return 6 + 10 * len(self.by_label[label].path)
+    def _pad(self, label: str) -> float:
+        """The room that the borders around a task take right of it."""
+        path = self.by_label[label].path
+        around = [self.frames[path[:length]] for length in range(1, len(path) + 1)]
+        return max((it.right_pad() for it in around if it.last == self.columns[label]), default=0.0)
 
     def _port(self, stop: Stop, name: str, is_output: bool) -> float:
         if stop.label is None:
@@ -203,7 +177,12 @@ class Layout:
             bend = (to_x - begin) / 2
             text += f" H{begin:.1f} C{begin + bend:.1f} {y:.1f} {to_x - bend:.1f} {to_y:.1f} {to_x:.1f} {to_y:.1f}"
             y = to_y
-        return Wire(name, text, _short(name), self.facts.get(name, ""), self._side(way[0], True) + self._indent(way[0].label or ""), self._port(way[0], name, True))
+        return self._labelled(name, text, way[0])
+
+    def _labelled(self, name: str, way: str, writer: Stop) -> Wire:
+        """A wire whose label begins right of the borders around its writer."""
+        x = self._side(writer, True) + self._pad(writer.label or "") + 6
+        return Wire(name, way, _short(name), self.facts.get(name, ""), x, self._port(writer, name, True))
 
     def _back(self, stream: Channel, lane: float) -> Wire:
         """A stream that leads back: below all boxes."""
@@ -213,14 +192,13 @@ class Layout:
         to_x, to_y = self._side(reader, False), self._port(reader, stream.name, False)
         rise = to_x - 14 - 4 * self.back.index(stream) % 30
         text = f"M{x:.1f} {y:.1f} H{turn:.1f} V{lane:.1f} H{rise:.1f} V{to_y:.1f} H{to_x:.1f}"
-        return Wire(stream.name, text, _short(stream.name), self.facts.get(stream.name, ""), x + self._indent(writer.label or ""), y)
+        return self._labelled(stream.name, text, writer)
 
     def _boxes(self, instance: Instance) -> List[Box]:
         stop, x = self.stops[instance.label], self.left[self.columns[instance.label]]
         memories = self.memories(instance)
         height = stop.height - (PILL + 6 if memories else 0)
-        label = instance.label.split("$", 2 * len(instance.path))[-1]
-        found = [Box("task", instance.label, label, x, stop.y, self.width_of(instance), height)]
+        found = [Box("task", instance.label, short(instance), x, stop.y, self.width_of(instance), height)]
         for name in memories:
             width = text_width(name, SMALL) + 12
             found.append(Box("memory", name, name, x + 2, stop.y + height + 6, width, PILL))
@@ -231,14 +209,12 @@ class Layout:
         """The boxes of upper-level tasks, the outer ones first."""
         found = []
         for upper in self.network.uppers:
-            inside = [box for box in tasks if box.kind == "task" and upper.label in self.by_label[box.name].path]
-            if inside:
-                deep = 1 + max(len(self.by_label[box.name].path) - len(upper.path) - 1 for box in inside)
-                pad = 10.0 * deep
-                left, top = min(it.x for it in inside) - pad, min(it.y for it in inside) - pad - TITLE * deep * 0.8
-                right, bottom = max(it.x + it.width for it in inside) + pad, max(self.stops[it.name].y + self.stops[it.name].height for it in inside) + pad
-                name = upper.label.split("$", 2 * len(upper.path))[-1]
-                found.append(Box("upper", upper.label, name, left, top, right - left, bottom - top))
+            frame = self.frames.get((*upper.path, upper.label))
+            if frame:
+                left = self.left[frame.first]
+                right = max(it.x + it.width for it in tasks if it.kind == "task" and self.by_label[it.name].path[:len(frame.path)] == frame.path)
+                x, y = left - frame.left_pad(), frame.upper
+                found.append(Box("upper", upper.label, name_of(upper.label, upper.path), x, y, right + frame.right_pad() - x, frame.lower - y, left, y + NAME_DOWN))
         return found
 
 
@@ -247,48 +223,14 @@ def _short(name: str) -> str:
     return name.rsplit("$", 1)[-1]
 
 
-def _bands(instances: Sequence[Instance]) -> Dict[str, int]:
-    """The band of each instance: one for each upper-level task, and one for those of the top that stand between two of them."""
-    found: Dict[str, int] = {}
-    paths: Dict[Tuple[str, ...], int] = {}
-    for it in instances:
-        found[it.label] = paths.setdefault(it.path, len(paths))
-    return found
+def short(instance: Instance) -> str:
+    """An instance's label without the upper-level tasks around it."""
+    return instance.label.split("$", 2 * len(instance.path))[-1]
 
 
-def columns(instances: Sequence[Instance], streams: Sequence[Channel]) -> Dict[str, int]:
-    """How far each task is from those that read no stream; streams that lead back do not count."""
-    after: Dict[str, List[str]] = {it.label: [] for it in instances}
-    for stream in streams:
-        after[stream.writer or ""].append(stream.reader or "")
-    sources = set(after) - {reader for stream in streams for reader in [stream.reader] if stream.reader != stream.writer}
-    order = _before_their_readers([*(it for it in after if it in sources), *after], after)
-    place = {label: number for number, label in enumerate(order)}
-    found = {label: 0 for label in after}
-    for label in order:
-        for other in after[label]:
-            if place[other] > place[label]:
-                found[other] = max(found[other], found[label] + 1)
-    return found
-
-
-def _before_their_readers(starts: Sequence[str], after: Dict[str, List[str]]) -> List[str]:
-    """All tasks, each before those that read what it writes where no circle hinders it."""
-    done: Dict[str, None] = {}
-    seen = set()
-    for start in starts:
-        waiting = [(start, iter(after[start]))] if start not in seen else []
-        seen.add(start)
-        while waiting:
-            label, rest = waiting[-1]
-            other = next((it for it in rest if it not in seen), None)
-            if other is None:
-                done[label] = None
-                waiting.pop()
-            else:
-                seen.add(other)
-                waiting.append((other, iter(after[other])))
-    return list(done)[::-1]
+def name_of(label: str, path: Sequence[str]) -> str:
+    """What is written on the box of an upper-level task that has this path: no more of its label than has room."""
+    return cut_name(label.split("$", 2 * len(path))[-1], SMALL, NAME)
 
 
 def lay_out(network: Network, facts: Optional[Dict[str, str]] = None) -> Picture:

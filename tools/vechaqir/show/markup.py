@@ -5,7 +5,7 @@ import re
 from dataclasses import dataclass, field
 from typing import List, Optional
 
-INLINE = re.compile(r"``(?P<wide>.+?)``|`(?P<code>[^`]+)`|\*\*(?P<bold>.+?)\*\*|\*(?P<slanted>[^*\s][^*]*)\*|!\[(?P<alt>[^\]]*)\]\((?P<image>[^)]+)\)|\[(?P<text>[^\]]+)\]\((?P<link>[^)]+)\)", re.S)
+INLINE = re.compile(r"``(?P<wide>.+?)``|`(?P<code>[^`]+)`|\*\*(?P<bold>.+?)\*\*|\*(?P<slanted>[^*\s][^*]*)\*|!\[(?P<alt>[^\[\]]*)\]\((?P<image>[^()]+)\)|\[(?P<text>[^\[\]]+)\]\((?P<link>[^()]+)\)", re.S)
 ITEM = re.compile(r"(?:- |\d+\. )")
 
 
@@ -48,7 +48,7 @@ class Reader:
 
     def block(self) -> Block:
         line = self.lines[self.at]
-        heading = re.match(r"(#+) (.*)", line)
+        heading = re.match(r"(#{1,6}) (.*)", line)
         if heading:
             self.at += 1
             return Block("heading", heading[2], len(heading[1]))
@@ -64,7 +64,8 @@ class Reader:
             return Block("table", rows=[row for row in rows if not all(re.fullmatch(r":?-+:?", cell) for cell in row)])
         if ITEM.match(line):
             return self.items()
-        return Block("text", "\n".join(self.while_lines(r"(?!    |\||#|```|- |\d+\. )\S")))
+        self.at += 1
+        return Block("text", "\n".join([line, *self.while_lines(r"(?!    |\||#|```|- |\d+\. )\S")]))
 
     def items(self) -> Block:
         is_numbered = self.lines[self.at][0].isdigit()
@@ -95,8 +96,7 @@ TOP = ("README.md", "CHANGELOG.md", "SECURITY.md", "VERSION", "tapa", "docs", "e
 
 def anchor(heading: str) -> str:
     """The name by which a heading is linked, as GitHub makes it."""
-    words = re.sub(r"\[([^\]]*)\]\([^)]*\)", r"\1", heading).lower()
-    return re.sub(r"[^\w\- ]", "", words).replace(" ", "-")
+    return re.sub(r"[^\w\- ]", "", re.sub(r"\[([^\[\]]*)\]\([^()]*\)", r"\1", heading).lower()).replace(" ", "-")
 
 
 def html_path(page: str) -> str:
@@ -146,7 +146,7 @@ def html_of(block: Block, page: str) -> str:
         return f"<{word}>\n" + "\n".join(f"<li>{inline_html(row[0], page)}</li>" for row in block.rows) + f"\n</{word}>"
     if block.sort == "table":
         rows = [[inline_html(cell, page) for cell in row] for row in block.rows]
-        head = "<tr>" + "".join(f"<th>{cell}</th>" for cell in rows[0]) + "</tr>\n" if any(rows[0]) else ""
+        head = "<tr>" + "".join(f"<th>{cell}</th>" for cell in rows[0]) + "</tr>\n" if rows and any(rows[0]) else ""
         return f"<table>\n{head}" + "\n".join("<tr>" + "".join(f"<td>{cell}</td>" for cell in row) + "</tr>" for row in rows[1:]) + "\n</table>"
     return f"<p>{inline_html(block.text, page)}</p>"
 

@@ -7,7 +7,7 @@ from typing import Dict, Iterator, List, Mapping, Tuple
 from ..explain.messages import parse
 from ..language.kinds import Kind
 from ..language.lexemes import Place
-from ..language.network import Channel, Instance, Network
+from ..language.network import LEVELS, Channel, Instance, Network
 from ..language.syntax import Parameter
 from .graph import SIZE, SMALL, Box, Picture, Wire, lay_out
 from .svg import INK, LINE, PAPER, QUIET, box, path, picture, text, text_width
@@ -47,7 +47,7 @@ def of_circuit(circuit: str) -> Tuple[Network, Dict[str, str], List[str]]:
 def _join(network: Network, label: str, task: str, links: Mapping[str, str]) -> None:
     """Adds an instance, with the streams and memories that its ports are joined to, and the upper-level tasks around it."""
     parts = label.split("$")
-    around = tuple("$".join(parts[:at]) for at in range(2, len(parts) - 1, 2))
+    around = tuple("$".join(parts[:at]) for at in range(2, min(len(parts) - 1, 2 * LEVELS), 2))
     for number, upper in enumerate(around):
         if all(it.label != upper for it in network.uppers):
             network.uppers.append(Instance(upper, upper.split("$")[-2], False, around[:number], {}))
@@ -100,7 +100,7 @@ def _parts(found: Picture, title: str, late: List[str]) -> Iterator[str]:
     for it in found.boxes:
         if it.kind == "upper":
             yield box(it.x, it.y, it.width, it.height, "none", LINE, 6, "4 3")
-            yield text(it.x + 8, it.y + 14, it.label, SMALL, colour=QUIET)
+            yield text(it.label_x, it.label_y, it.label, SMALL, colour=QUIET)
     for wire in found.wires:
         yield path(wire.way, LATE if wire.name in late else LINE, 2 if wire.name in late else 1.2)
     for it in found.boxes:

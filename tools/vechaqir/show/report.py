@@ -113,9 +113,7 @@ def first_difference(made: Mapping[str, Any], expected: Mapping[str, Any]) -> Op
                 return f"{name}: {word} {at} is {got[at]}, and {wanted[at]} is expected"
             if len(got) != len(wanted):
                 return f"{name}: {len(got)} {word}s, and {len(wanted)} are expected"
-    if "end" in expected and made["end"] != expected["end"]:
-        return f"the end is {made['end']}, and {expected['end']} is expected"
-    return None
+    return f"the end is {made['end']}, and {expected['end']} is expected" if "end" in expected and made["end"] != expected["end"] else None
 
 
 def signed_lines(network: Network, text: str) -> str:

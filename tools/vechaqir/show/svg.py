@@ -25,10 +25,16 @@ def text_width(words: str, size: float, is_bold: bool = False) -> float:
     return sum(widths[ord(it) - 32] if 32 <= ord(it) <= 126 else 1000 for it in words) * size / 1000
 
 
+def most_signs(size: float, width: float) -> int:
+    """No more characters than these have room in a width."""
+    return int(max(width, 0) * 1000 / (min(PLAIN) * size)) + 1
+
+
 def cut(words: str, size: float, width: float, is_bold: bool = False) -> str:
     """A text, or the front of it and two dots where it is wider than this."""
     if text_width(words, size, is_bold) <= width:
         return words
+    words = words[:most_signs(size, width)]
     while words and text_width(words + "..", size, is_bold) > width:
         words = words[:-1]
     return words + ".."
@@ -38,6 +44,7 @@ def cut_name(name: str, size: float, width: float, is_bold: bool = False) -> str
     """A name, or two dots and its end if it is wider than this: names of one upper-level task begin with the same words."""
     if text_width(name, size, is_bold) <= width:
         return name
+    name = name[-most_signs(size, width):]
     while name and text_width(".." + name, size, is_bold) > width:
         name = name[1:]
     return ".." + name

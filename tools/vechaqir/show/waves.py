@@ -1,10 +1,11 @@
 """Waveforms of a dump as the lines of an SVG file that is as wide as a page: nets by hierarchical names, or how full each stream is."""
 from __future__ import annotations
 
+from html import escape
 from typing import Dict, Iterator, List, NamedTuple, Optional, Sequence, Tuple
 
 from ..host.dump import Dump, Value
-from .svg import QUIET, cut_name, line, picture, text, text_width
+from .svg import QUIET, cut, cut_name, line, picture, text, text_width
 
 # The width of a picture, the height of a row and of a wave in it, the most nets that are drawn unasked, and the widest column of names.
 WIDTH, ROW, HIGH, MOST, NAMES = 960, 26, 14, 40, 260
@@ -25,11 +26,12 @@ class Run(NamedTuple):
 
 
 class Row(NamedTuple):
-    """A row of a picture: what stands before it, its bits, and its runs."""
+    """A row of a picture: what stands before it, its bits, its runs, and the texts whose numbers its values are, if any."""
 
     name: str
     width: int
     runs: List[Run]
+    texts: Sequence[str] = ()
 
 
 def found_name(dump: Dump, asked: str) -> str:
@@ -60,7 +62,8 @@ def rows_of_nets(dump: Dump, names: Sequence[str], first: int, last: Optional[in
                 runs[name][-1] = before._replace(behind=cycle + 1)
             else:
                 runs[name].append(Run(cycle, cycle + 1, values[name]))
-    return [Row(_short(name, dump), dump.nets[name].width, runs[name]) for name in names], at
+    texts = [it.replace("_", " ") for it in dump.texts]
+    return [Row(_short(name, dump), dump.nets[name].width, runs[name], () if dump.nets[name].width else texts) for name in names], at
 
 
 def _short(name: str, dump: Dump) -> str:
@@ -168,7 +171,7 @@ def _unknown(run: Run, y: float, scale: Scale) -> Iterator[str]:
 
 
 def _word(row: Row, y: float, scale: Scale) -> Iterator[str]:
-    """A lozenge for each value, with its number where there is room."""
+    """A lozenge for each value, with its number where there is room, or with its text or the front of it."""
     for run in row.runs:
         if run.value is None:
             yield from _unknown(run, y, scale)
@@ -176,9 +179,11 @@ def _word(row: Row, y: float, scale: Scale) -> Iterator[str]:
         x, z = scale.x(run.first), scale.x(run.behind)
         slant, middle = min(2.0, (z - x) / 2), y + HIGH / 2
         shape = f"{x:.1f},{middle} {x + slant:.1f},{y} {z - slant:.1f},{y} {z:.1f},{middle} {z - slant:.1f},{y + HIGH} {x + slant:.1f},{y + HIGH}"
-        yield f'<polygon points="{shape}" fill="#eef3f7" stroke="{STROKE}" stroke-width="0.8"/>'
-        if text_width(str(run.value), 10) < z - x - 6:
-            yield text((x + z) / 2, y + 11, str(run.value), 10, "middle")
+        shown = row.texts[run.value] if row.texts else str(run.value)
+        yield f'<polygon points="{shape}" fill="#eef3f7" stroke="{STROKE}" stroke-width="0.8"><title>{escape(shown)}</title></polygon>'
+        shown = cut(shown, 10, z - x - 6) if row.texts else shown
+        if len(shown) > (4 if shown.endswith("..") else 0) and text_width(shown, 10) < z - x - 6:
+            yield text((x + z) / 2, y + 11, shown, 10, "middle")
 
 
 def _fill(row: Row, most: int, y: float, scale: Scale) -> Iterator[str]:

@@ -11,7 +11,6 @@ use Rattle.vlog_tree.specs.Form.{ModuleTree}
 use Rattle.tapa_base.specs.Lists.{Has}
 use Rattle.vlog_tree.specs.Table.{Name, clk, module_named}
 use Rattle.vlog_module_laws.specs.Ranks.{HaveRanks}
-use Rattle.vlog_module_laws.proofs.Lists.{both_true}
 use Rattle.vlog_module_laws.proofs.Ranks.{loopless}
 use Rattle.hw_channel_lines.specs.Names.{channel_name, relay_name}
 use Rattle.hw_channel_lines.specs.Texts.{step_tree, even_tree, odd_tree, fifo_tree, plain_tree, relayed_tree, AreRelays, One, More, AreModules, Alone, Relayed}
@@ -19,6 +18,7 @@ use Rattle.hw_channel_laws.specs.modules.Rules.{OfFirst, IsOutermost, HasNoWayTh
 use Rattle.hw_channel_laws.proofs.modules.Parts.{part_of, IsPart, Outer, Queue, Part}
 use Rattle.hw_channel_laws.proofs.modules.Ranks.{rank, IsCut, no_way, cut_step, cut_fifo, cut_even, cut_odd, cut_plain, cut_relayed}
 use Rattle.hw_channel_laws.proofs.modules.Together.{finds, modules_apart, head_of, has_step, level_in, lower_level, modules_later}
+use Rattle.tapa_base.proofs.Tests.{both_true}
 
 pub outermost : (bits depth late : ℕ) (ms : List ModuleTree) → AreModules bits depth late ms → OfFirst (IsOutermost bits depth late) ms
 outermost bits depth late ms (Alone k e) = (ap (channel_name bits depth) (sym e), refl)

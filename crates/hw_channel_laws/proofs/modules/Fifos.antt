@@ -15,13 +15,14 @@ use Rattle.vlog_tree.specs.Cycle.{Cycle, Follows}
 use Rattle.vlog_tree.specs.V4.{step_assigns, is_block_of}
 use Rattle.vlog_module_laws.specs.Blocks.{IsOwnBlock}
 use Rattle.hw_build.specs.Elements.{built, reset_or_set, stored}
-use Rattle.hw_build.proofs.Meaning.{has_got, driven_is, wire_width, memory_cells, reset_set_is, stored_is}
+use Rattle.hw_build.proofs.Meaning.{driven_is, wire_width, memory_cells, reset_set_is, stored_is}
 use Rattle.hw_channel_laws.specs.signals.Signals.{Resets, Signal}
 use Rattle.hw_channel_laws.specs.signals.Fifo.{FifoSizes, IsFifo, next_place, next_count}
 use Rattle.hw_channel_laws.proofs.signals.Pointers.{bit_is}
 use Rattle.hw_channel_laws.proofs.signals.Lines.{bits, stores}
 use Rattle.hw_channel_lines.specs.Texts.{fifo_elements, of_net, two, with_number}
 use Rattle.hw_channel_laws.specs.modules.Ports.{fifo_ports}
+use Rattle.tapa_base.proofs.Lists.{has_got}
 
 pub small_bit : (t : Bool) → bit t < 2
 small_bit true = omega arith

@@ -2,7 +2,7 @@
 use Rattle.std.proofs.Common.{◌≡◌, ℕ, ◌+◌, ◌-◌, ◌*◌, ◌/◌, ◌%◌, ◌^◌, ◌<◌, ◌≤◌, Bool, true, false, cond, eqb, List, [], ◌∷◌, Some, inl, inr, refl, sym, ap, subst, ◌∙◌, arith, rules, ⊎_elim, map}
 use Rattle.std.specs.Prelude.{codes, nat_le}
 use Rattle.std.specs.Int.Count.{count_leading_zeros}
-use Rattle.std.proofs.lemmas.Bool.{eq-eqb, ne_eqb, cases_eq, le-leb}
+use Rattle.std.proofs.lemmas.Bool.{eq-eqb, ne_eqb, cases_eq, le-leb, and_from as yes_and}
 use Rattle.vlog_tree.specs.Form.{ModuleTree}
 use Rattle.tapa_base.specs.Lists.{Has}
 use Rattle.vlog_tree.specs.Table.{Name, clk, ports_of, module_named, is_module_name, module_declared, is_doubled_name}
@@ -15,7 +15,6 @@ use Rattle.vlog_module_laws.proofs.Larger.{known_by, sound_of}
 use Rattle.vlog_tree.specs.Refused.{IsSound}
 use Rattle.hw_build.specs.Elements.{Instance}
 use Rattle.hw_build.specs.Fitting.{AreFitting}
-use Rattle.hw_build.proofs.Forms.{yes_and}
 use Rattle.hw_build.proofs.Right.{built_right}
 use Rattle.hw_channel_lines.specs.Names.{channel_name, fifo_name, relay_name}
 use Rattle.hw_channel_lines.specs.Texts.{step_elements, even_elements, odd_elements, fifo_elements, channel_ports, relayed_inside, step_tree, even_tree, odd_tree, row_tree, fifo_tree, plain_tree, relayed_tree, AreRelays, One, More, AreModules, Alone, Relayed}

@@ -3,7 +3,7 @@ use Rattle.std.proofs.Common.{◌≡◌, ℕ, ◌+◌, ◌-◌, ◌*◌, ◌%◌
 use Rattle.std.specs.Prelude.{codes, decimal, nat_le}
 use Rattle.std.specs.List.{list_all}
 use Rattle.std.specs.Int.Count.{count_leading_zeros}
-use Rattle.std.proofs.lemmas.Bool.{le-leb, eq-eqb, ne_eqb, cases_eq}
+use Rattle.std.proofs.lemmas.Bool.{le-leb, eq-eqb, ne_eqb, cases_eq, and_from as yes_and}
 use Rattle.std.proofs.lemmas.Nat.{leading_top}
 use Rattle.std.proofs.lemmas.Fmt.{decimal_by_steps}
 use Rattle.vlog_tree.specs.Names.{is_name, within, starts_name, goes_on, is_keyword, always_to_default, defparam_to_event, for_to_input, instance_to_not, notif0_to_real, realtime_to_strong0, strong1_to_unsigned, use_to_xor}
@@ -13,16 +13,13 @@ use Rattle.vlog_tree.specs.Labels.{rst}
 use Rattle.vlog_module_laws.proofs.Labelled.{early_name}
 use Rattle.hw_build.specs.Elements.{Element, Instance, built}
 use Rattle.hw_build.specs.Forms.{is_element}
-use Rattle.hw_build.proofs.Forms.{built_form, all_append, yes_and}
+use Rattle.hw_build.proofs.Forms.{built_form, all_append, built_form as form_of}
 use Rattle.hw_channel_lines.specs.Names.{channel_name, fifo_name, relay_name}
 use Rattle.hw_channel_lines.specs.Texts.{step_elements, step_tree, even_elements, even_tree, odd_elements, odd_tree, fifo_elements, fifo_tree, plain_tree, relayed_tree, channel_ports, fifo_connections, relayed_inside}
 use Rattle.hw_build.specs.Widths.{bits_for}
+use Rattle.tapa_base.proofs.Tests.{middle}
 
 -- names that end in numbers
-
-middle : (a b c : Bool) → b ≡ true → (a || b || c) ≡ true
-middle true b c e = refl
-middle false b c e = ap (λ x. x || c) e
 
 digit_goes_on : (c : ℕ) → 48 ≤ c → c ≤ 57 → goes_on c ≡ true
 unfolding goes_on
@@ -56,9 +53,6 @@ channel_is_name bits depth late h k l =
     (all_append goes_on (decimal bits ++ 95 ∷ decimal depth) (95 ∷ decimal late) (all_append goes_on (decimal bits) (95 ∷ decimal depth) (number_goes_on bits h) (next_goes_on depth k)) (next_goes_on late l))
 
 -- elements one after another: but for widths and the names of other modules all is computed
-
-form_of : (name : Name) (elements : List Element) → is_name name ≡ true → list_all is_element elements ≡ true → IsModule (built name elements)
-form_of name elements h e = built_form name elements h e
 
 step_forms : (bits : ℕ) → nat_le 1 bits ≡ true → list_all is_element (step_elements bits) ≡ true
 unfolding starts_name goes_on is_keyword always_to_default defparam_to_event for_to_input instance_to_not notif0_to_real realtime_to_strong0 strong1_to_unsigned use_to_xor rst

@@ -2,12 +2,12 @@
 use Rattle.std.proofs.Common.{◌≡◌, ℕ, ◌+◌, ◌%◌, ◌^◌, ◌<◌, Bool, true, ltb, List, [], ◌∷◌, ◌++◌, get_or, drop, append_assoc, refl, sym, ap, ◌∙◌, arith}
 use Rattle.std.specs.Prelude.{codes, decimal}
 use Rattle.std.specs.List.{list_all}
-use Rattle.std.proofs.lemmas.Bool.{lt-ltb}
+use Rattle.std.proofs.lemmas.Bool.{lt-ltb, and_from as yes_and}
 use Rattle.std.proofs.lemmas.Fmt.{decimal_by_steps, decimal_injective}
 use Rattle.vlog_tree.specs.Table.{Name}
-use Rattle.vlog_module_laws.proofs.Lists.{both_true}
-use Rattle.hw_build.proofs.Forms.{all_append, yes_and}
+use Rattle.hw_build.proofs.Forms.{all_append}
 use Rattle.hw_channel_lines.specs.Names.{channel_name, fifo_name, relay_name}
+use Rattle.tapa_base.proofs.Tests.{both_true}
 
 -- below `_`, as digits are
 abbrev below : ℕ → Bool

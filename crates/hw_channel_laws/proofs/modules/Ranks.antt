@@ -17,13 +17,13 @@ use Rattle.vlog_tree.specs.Table.{Name, clk, port_declared, find_name, net_kind_
 use Rattle.vlog_tree.specs.Labels.{rst, rdata_of, m_addr, label_in}
 use Rattle.vlog_tree.specs.Loops.{Rests, line_edges, connection_edge, memory_edges, direct_edges, instances, port_of}
 use Rattle.vlog_module_laws.specs.Ranks.{FallsBy}
-use Rattle.vlog_module_laws.proofs.Lists.{both_true}
 use Rattle.vlog_module_laws.proofs.Ranks.{lower}
 use Rattle.vlog_module_laws.proofs.Larger.{known_by}
 use Rattle.hw_build.proofs.Forms.{all_append}
 use Rattle.hw_channel_lines.specs.Names.{fifo_name, relay_name}
 use Rattle.hw_channel_lines.specs.Texts.{step_tree, even_tree, odd_tree, fifo_tree, plain_tree, relayed_tree, first_part, second_of_two, second_of_three, third_part, relay_connections, fifo_connections}
 use Rattle.hw_channel_laws.specs.modules.Rules.{outer_ports}
+use Rattle.tapa_base.proofs.Tests.{both_true}
 
 abbrev firsts : List Name
 firsts = codes "put_late" ∷ codes "din_late" ∷ codes "put_1" ∷ codes "din_1" ∷ codes "rdy_1" ∷ codes "put_2" ∷ codes "din_2" ∷ codes "rdy_2" ∷ codes "ready" ∷ codes "some" ∷ codes "dout" ∷ codes "more" ∷ codes "fewer" ∷ codes "head_up" ∷ codes "head_last" ∷ codes "tail_up" ∷ codes "tail_last" ∷ []

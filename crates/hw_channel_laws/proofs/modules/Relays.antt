@@ -19,12 +19,13 @@ use Rattle.vlog_tree.specs.V4.{step_assigns, is_block_of}
 use Rattle.vlog_module_laws.specs.Blocks.{IsOwnBlock}
 use Rattle.vlog_module_laws.proofs.Lines.{line, connection_holds, register_takes}
 use Rattle.hw_build.specs.Elements.{built, reset_or}
-use Rattle.hw_build.proofs.Meaning.{has_got, driven_is, reset_is}
+use Rattle.hw_build.proofs.Meaning.{driven_is, reset_is}
 use Rattle.hw_channel_laws.specs.signals.Signals.{Signal}
 use Rattle.hw_channel_laws.specs.signals.Relay.{RelayPorts, IsStep, IsRow, IsRelay, Step as OneStep, Row as TwoParts}
 use Rattle.hw_channel_lines.specs.Names.{relay_name}
 use Rattle.hw_channel_lines.specs.Texts.{set_where, step_elements, step_tree, even_tree, odd_tree, row_tree, of_net, first_part, second_of_two, second_of_three, third_part, AreRelays, One, More}
 use Rattle.hw_channel_laws.specs.modules.Ports.{relay_ports, AreFoundIn}
+use Rattle.tapa_base.proofs.Lists.{has_got}
 
 -- a register that is set where a bit is 1 keeps its number in other cycles
 set_net : (s : Sizes) (old : Cycle) (x : Name) (next : Atom) (b : Bool) → (run_steps s old (b ∷ []) (NonblockingAssign x next ∷ End ∷ []) old).net x ≡ cond b (atom_value old next) (old.net x)

@@ -15,6 +15,7 @@ use Rattle.hw_channel_laws.proofs.modules.Numbers.{relay_numbers, letter, channe
 use Rattle.hw_channel_laws.proofs.modules.Relays.{row_name}
 use Rattle.hw_channel_laws.proofs.modules.Parts.{relay_of, relay_tree_name}
 use Rattle.hw_channel_laws.proofs.modules.Ranks.{relay_ports}
+use Rattle.hw_build.proofs.Drivers.{few_blocks as not_two}
 
 -- the names of these modules differ
 abbrev pub AreApart : List ModuleTree → Type 0
@@ -58,9 +59,6 @@ one (n ∷ ms) a m (inr h) =
     let z : one_if (bytes_eq n.name m.name) ≡ 0 = ap one_if (differ n.name m.name (a.0 m h)) in
     let r = one ms a.1 m h in
     omega (arith, c, z, r)
-
-not_two : (n : ℕ) → n ≤ 1 → nat_le 2 n ≡ false
-not_two n h = grind (arith, nat_tests)
 
 pub single : (ms : List ModuleTree) → AreApart ms → (m : ModuleTree) → Has ms m → is_doubled_name (map module_declared ms) m.name ≡ false
 single ms a m h = not_two (how_many ms m.name) (one ms a m h)

@@ -6,7 +6,7 @@ use Rattle.std.specs.Cmp.Lexicographic.{bytes_decides}
 use Rattle.vlog_tree.specs.Names.{is_name, is_among, starts_name, goes_on, is_keyword, always_to_default, defparam_to_event, for_to_input, instance_to_not, notif0_to_real, realtime_to_strong0, strong1_to_unsigned, use_to_xor}
 use Rattle.vlog_tree.specs.Table.{Name}
 use Rattle.vlog_tree.specs.Labels.{rst}
-use Rattle.vlog_module_laws.proofs.Lists.{both_true}
+use Rattle.tapa_base.proofs.Tests.{both_true}
 
 abbrev pub relay_words : List Name
 relay_words = codes "clk" ∷ codes "rst" ∷ codes "put" ∷ codes "din" ∷ codes "rdy_early" ∷ codes "put_late" ∷ codes "din_late" ∷ codes "rdy" ∷ codes "full" ∷ codes "token" ∷ codes "room" ∷ codes "put_1" ∷ codes "din_1" ∷ codes "rdy_1" ∷ codes "put_2" ∷ codes "din_2" ∷ codes "rdy_2" ∷ codes "part_0" ∷ codes "part_1" ∷ codes "part_2" ∷ []

@@ -1,5 +1,6 @@
 -- A FIFO by its printed lines, and what it guarantees as long as it is never written while it is full.
-use Rattle.std.specs.Prelude.{◌≡◌, ℕ, suc, ◌+◌, ◌-◌, ◌%◌, ◌^◌, ◌<◌, ◌≤◌, Bool, true, false, not, List, length, slice_get, Some, nat_lt, ◌==◌, ◌&&◌, if◌then◌else◌}
+use Rattle.std.specs.Prelude.{◌≡◌, ◌+◌, ◌-◌, ◌%◌, ◌^◌, ◌<◌, ◌≤◌, ◌==◌, ◌&&◌, if◌then◌else◌}
+use Rattle.std.specs.Prelude.{ℕ, suc, Bool, true, false, not, List, length, slice_get, Some, nat_lt}
 use Rattle.tapa_base.specs.Operators.{bit}
 use Rattle.hw_channel_laws.specs.signals.Signals.{Signal, both, Resets, carried_before, times}
 

@@ -8,17 +8,17 @@ use Rattle.tapa_base.specs.declared.token.Token.{Token}
 use Rattle.vlog_tree.specs.Environment.{token_of}
 use Rattle.kahn_model.specs.declared.tick.StreamOperation.{StreamOperation}
 use Rattle.kahn_model.specs.Behavior.{on_offer, takes}
-use Rattle.kahn_model.proofs.Clocked.{and_parts}
 use Rattle.hw_channel_laws.specs.signals.Signals.{both}
 use Rattle.hw_channel_laws.specs.signals.Contract.{ChannelPorts, MeetsContract as OwesContract, written, taken}
 use Rattle.hw_channel_laws.proofs.signals.Pointers.{bit_is, fewer_than}
-use Rattle.task_fsm.specs.Run.{StateStep, Performs, Awaits, Completes, Halts}
+use Rattle.task_fsm.specs.Run.{StateStep, Awaits}
 use Rattle.hw_lines.specs.Signals.{Streams, History, Part}
 use Rattle.hw_lines.specs.Machine.{RunsMachine, offered, allows, takes_of, step_in, steps, put_in}
 use Rattle.hw_network_laws.specs.network.Channel.{carried, drawn, took_in, KeepsContract}
 use Rattle.hw_network_laws.specs.modules.Channels.{AreSignals, TakesOffers, IsStill}
+use Rattle.tapa_base.proofs.Tests.{both_true as and_parts}
 
-push : (f : ℕ → Token) (b : Bool) (l : List ℕ) (d : ℕ) → map f l ++ (if b then f d ∷ [] else []) ≡ map f (if b then l ++ d ∷ [] else l)
+pub push : (f : ℕ → Token) (b : Bool) (l : List ℕ) (d : ℕ) → map f l ++ (if b then f d ∷ [] else []) ≡ map f (if b then l ++ d ∷ [] else l)
 push f true l d = sym (map-append f l (d ∷ []))
 push f false l d = append-nil (map f l)
 
@@ -103,12 +103,10 @@ offer_there true how d e = refl
 offer_there false how d e = cc
 
 step_takes : (S : Streams) (answers : ℕ → ℕ → Bool) (f : ℕ → ℕ) (n s : ℕ) (x : StateStep) → allows S answers f n x ≡ true → takes_of f s x ≡ true → S.has s n ≡ true
-step_takes S answers f n s (Performs b pc σ) e t = cc
 step_takes S answers f n s (Awaits p how pc into) e t =
     let same : f p ≡ s = eqb-true (f p) s (and_parts (takes how) (f p == s) t).1 in
     subst (λ r. S.has r n ≡ true) same (offer_there (S.has (f p) n) how (S.dout (f p) n) e)
-step_takes S answers f n s Completes e t = cc
-step_takes S answers f n s Halts e t = cc
+step_takes S answers f n s _ e t = cc
 
 pub takes_offers : (part : Part) (S : Streams) (answers : ℕ → ℕ → Bool) (Reads Writes : ℕ → Type 0) (h : History) → RunsMachine part S answers Reads Writes h → (s : ℕ) → Reads s → TakesOffers s S
 takes_offers part S answers Reads Writes h r s own n e =

@@ -24,7 +24,8 @@ use Rattle.hw_network_laws.specs.modules.Channels.{TakesOffers}
 use Rattle.hw_network_laws.specs.modules.Tasks.{part_in, IsInstanceOf}
 use Rattle.hw_network_laws.specs.modules.Designs.{IsDesignOf, AreMachines, clock_of}
 use Rattle.hw_network_laws.proofs.modules.Channels.{meets, takes_offers, none_put, still_meets}
-use Rattle.hw_network_laws.proofs.modules.Tasks.{there_at, instance_is}
+use Rattle.hw_network_laws.proofs.modules.Tasks.{instance_is}
+use Rattle.tapa_base.proofs.Got.{some_at as there_at}
 
 -- the ends and the depth of a stream
 module _ (program : Program) (scalars : List ℕ) (memories : List (List ℕ)) where

@@ -29,6 +29,7 @@ use Rattle.hw_network_laws.proofs.network.Linked.{at_streams}
 use Rattle.hw_network_laws.proofs.network.Parts.{parts}
 use Rattle.hw_network_laws.proofs.network.Ports.{is_instance, lowered_uses, linked}
 use Rattle.hw_network_laws.specs.modules.Tasks.{BeginsAs, shape_for, part_in, IsInstanceOf}
+use Rattle.tapa_base.proofs.Got.{some_at as there_at}
 
 -- ---- values of some variables
 
@@ -57,11 +58,6 @@ zeros_more : (xs : List ℕ) (n k : ℕ) → get_or (xs ++ replicate n 0) k 0 �
 zeros_more [] n k = zeros_at n k
 zeros_more (x ∷ xs) n zero = refl
 zeros_more (x ∷ xs) n (suc k) = zeros_more xs n k
-
-pub there_at : {A : Type 0} (xs : List A) (k : ℕ) → k < length xs → (x : A) × (slice_get xs k ≡ Some x)
-there_at [] k l = absurd (omega arith)
-there_at (x ∷ xs) zero l = (x, refl)
-there_at (x ∷ xs) (suc k) l = there_at xs k (omega arith)
 
 -- the values at the ports are those of the variables: of several for one variable the last
 module _ (S : Shape) (run : ℕ → Cycle) (vs zs : List ℕ) (r : ℕ) (same : length S.scalars ≡ length vs) (low : (p x : ℕ) → slice_get S.scalars p ≡ Some x → x < length zs) (none : get_or zs r 0 ≡ 0) (ports : (p : ℕ) → p < length vs → get_or vs p 0 ≡ number_at run (Scalar p) 0) where

@@ -3,18 +3,19 @@ use Rattle.std.proofs.Common.{◌≡◌, ℕ, zero, suc, ◌<◌, ◌≤◌, Lis
 use Rattle.std.specs.Prelude.{slice_get, nat_lt}
 use Rattle.std.proofs.lemmas.Bool.{lt-ltb, ltb-true}
 use Rattle.kahn_model.specs.declared.tick.Tick.{Tick}
-use Rattle.kahn_model.specs.declared.tick.Tick.TheVariants.{Did, Take, See, End}
+use Rattle.kahn_model.specs.declared.tick.Tick.TheVariants.{Take, See}
 use Rattle.tapa_base.specs.declared.token.Token.{Token}
-use Rattle.kahn_model.specs.Behavior.{Behavior, Finished, OutOfTurns, Act, Await, Offer, NoToken, WrongToken, Answer, on_offer, ticks}
+use Rattle.kahn_model.specs.Behavior.{Behavior, Finished, OutOfTurns, Act, Await, Offer, Answer, on_offer, ticks}
 use Rattle.kahn_model.specs.Network.{Network, IsNetwork, Owns}
 use Rattle.kahn_model.specs.Counts.{round_of, ticks_made, written, taken, next, HasToken, IsSupplied, IsFounded}
 use Rattle.kahn_model.specs.Timed.{Clock, tick_moves, next_moves, moves, past_of, count_at}
 use Rattle.kahn_model.proofs.Count.{written_le}
 use Rattle.kahn_model.proofs.Reach.{all_made, total_has}
 use Rattle.kahn_model.proofs.Local.{fed_is_here, here_is_fed}
-use Rattle.kahn_model.proofs.Clocked.{and_parts, clock_founded, past_below}
+use Rattle.kahn_model.proofs.Clocked.{clock_founded, past_below}
 use Rattle.hw_network_laws.proofs.network.Made.{made_here}
 use Rattle.hw_network_laws.proofs.network.Rest.{offer_by, after, ticks_left, left, split, IsAlive, alive}
+use Rattle.tapa_base.proofs.Tests.{both_true as and_parts}
 
 -- the streams of what is left are the instance's
 abbrev pub OwnsRest : (ℕ → ℕ) → (ℕ → ℕ) → ℕ → Option Behavior → Type 0
@@ -22,9 +23,8 @@ OwnsRest p c i None = Unit {0}
 OwnsRest p c i (Some b) = Owns p c i b
 
 owns_offer : (p c : ℕ → ℕ) (i : ℕ) (o : Offer) (k : ℕ → Behavior) (ts : List Tick) → ((v : ℕ) → OwnsRest p c i (after (k v) ts)) → OwnsRest p c i (on_offer o (Some OutOfTurns) (Some OutOfTurns) (λ t v. after (k v) ts))
-owns_offer p c i NoToken k ts h = tt
-owns_offer p c i WrongToken k ts h = tt
 owns_offer p c i (Answer t v) k ts h = h v
+owns_offer p c i _ k ts h = tt
 
 pub owns_after : (p c : ℕ → ℕ) (i : ℕ) (b : Behavior) (ts : List Tick) → Owns p c i b → OwnsRest p c i (after b ts)
 owns_after p c i b [] h = h
@@ -71,8 +71,7 @@ token_there net ok clock n i (Take s t) e =
 token_there net ok clock n i (See s t) e =
     let l = ltb-true _ _ e in
     let w = written_le net ok _ _ (past_below net clock n (clock.latency s)) s in omega arith
-token_there net ok clock n i (Did a) e = tt
-token_there net ok clock n i End e = tt
+token_there net ok clock n i _ e = tt
 
 module _ (net : Network) (ok : IsNetwork net) (clock : Clock) (n i : ℕ) where
   abbrev now : ℕ → ℕ

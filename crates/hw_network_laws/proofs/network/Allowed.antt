@@ -45,15 +45,13 @@ awaited how s g o = on_offer o [] [] (λ t v. tick_of how s t ∷ g t v)
 
 -- no token is offered
 not_offered : (how : StreamOperation) (s : ℕ) (g : Token → ℕ → List Tick) (may : Tick → Bool) (mt : Bool) (o : Offer) → ((t : Token) → may (tick_of how s t) ≡ false) → IsMade (awaited how s g o) may mt → false ≡ mt
-not_offered how s g may mt NoToken w m = sym (m.1 refl)
-not_offered how s g may mt WrongToken w m = sym (m.1 refl)
 not_offered how s g may mt (Answer t v) w m = sym (m.0 (tick_of how s t) refl ∙ w t)
+not_offered how s g may mt _ w m = sym (m.1 refl)
 
 -- a token is offered, right or wrong
 is_offered : (how : StreamOperation) (s : ℕ) (g : Token → ℕ → List Tick) (may : Tick → Bool) (mt : Bool) (o : Offer) → ((t : Token) → may (tick_of how s t) ≡ true) → IsMade (awaited how s g o) may mt → on_offer o false false (λ t v. true) ≡ mt
-is_offered how s g may mt NoToken w m = sym (m.1 refl)
-is_offered how s g may mt WrongToken w m = sym (m.1 refl)
 is_offered how s g may mt (Answer t v) w m = sym (m.0 (tick_of how s t) refl ∙ w t)
+is_offered how s g may mt _ w m = sym (m.1 refl)
 
 await_allowed : (how : StreamOperation) (s : ℕ) (g : Token → ℕ → List Tick) (may : Tick → Bool) (mt : Bool) (l : List Token) (d : Token) (b : Bool) → (b ≡ true → slice_get l 0 ≡ Some d) → ((t : Token) → may (tick_of how s t) ≡ b) → IsMade (awaited how s g (first_offer how l)) may mt → on_offer (offered b how d) false false (λ t v. true) ≡ mt
 await_allowed how s g may mt l d false front w m = not_offered how s g may mt (first_offer how l) w m

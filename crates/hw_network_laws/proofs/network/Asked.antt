@@ -3,12 +3,12 @@ use Rattle.std.proofs.Common.{◌≡◌, ℕ, suc, ◌<◌, List, [], ◌∷◌,
 use Rattle.std.specs.Prelude.{slice_get, nat_lt, if◌then◌else◌}
 use Rattle.tapa_base.specs.declared.token.Token.{Token}
 use Rattle.kahn_model.specs.declared.tick.Action.{Action}
-use Rattle.kahn_model.specs.declared.tick.Action.TheVariants.{Local, Put, Load, Store}
+use Rattle.kahn_model.specs.declared.tick.Action.TheVariants.{Load, Store}
 use Rattle.kahn_model.specs.declared.tick.StreamOperation.{StreamOperation}
-use Rattle.kahn_model.specs.declared.tick.StreamOperation.TheVariants.{Read, Peek, TestEot, Open}
+use Rattle.kahn_model.specs.declared.tick.StreamOperation.TheVariants.{Read}
 use Rattle.kahn_model.specs.declared.tick.Tick.{Tick}
-use Rattle.kahn_model.specs.declared.tick.Tick.TheVariants.{Did, Take, See, End}
-use Rattle.kahn_model.specs.Behavior.{Behavior, Finished, OutOfTurns, Act, Await, Offer, NoToken, WrongToken, Answer, first_offer, on_offer, tick_of, lists_after, ticks}
+use Rattle.kahn_model.specs.declared.tick.Tick.TheVariants.{Did}
+use Rattle.kahn_model.specs.Behavior.{Behavior, Finished, OutOfTurns, Act, Await, Offer, Answer, first_offer, on_offer, tick_of, lists_after, ticks}
 use Rattle.kahn_model.specs.Counts.{next, IsSupplied}
 use Rattle.kahn_model.specs.Network.{Network, IsNetwork}
 use Rattle.kahn_model.specs.Timed.{Clock, moves, next_moves, tick_moves, past_of, count_at}
@@ -30,28 +30,20 @@ use Rattle.hw_network_laws.proofs.network.Together.{whole}
 
 abbrev act_left : Option Behavior → Option Action
 act_left None = None
-act_left (Some Finished) = None
-act_left (Some OutOfTurns) = None
 act_left (Some (Act a rest)) = Some a
-act_left (Some (Await s how k)) = None
+act_left _ = None
 
 no_act : (how : StreamOperation) (s : ℕ) (t : Token) → act_of_tick (Some (tick_of how s t)) ≡ None
 no_act Read s t = refl
-no_act Peek s t = refl
-no_act TestEot s t = refl
-no_act Open s t = refl
+no_act _ s t = refl
 
 awaits_none : (how : StreamOperation) (s : ℕ) (o : Offer) (f : ℕ → List Tick) → act_of_tick (slice_get (on_offer o [] [] (λ t v. tick_of how s t ∷ f v)) 0) ≡ None
-awaits_none how s NoToken f = refl
-awaits_none how s WrongToken f = refl
 awaits_none how s (Answer t v) f = no_act how s t
+awaits_none how s _ f = refl
 
 first_act : (q : Option Behavior) (ins : ℕ → List Token) → act_of_tick (slice_get (ticks_left q ins) 0) ≡ act_left q
-first_act None ins = refl
-first_act (Some Finished) ins = refl
-first_act (Some OutOfTurns) ins = refl
-first_act (Some (Act a rest)) ins = refl
 first_act (Some (Await s how k)) ins = awaits_none how s (first_offer how (ins s)) (λ v. ticks (k v) (lists_after how s ins))
+first_act _ ins = refl
 
 -- ---- the next tick of a count is the first of what is left, where it is an act
 
@@ -65,11 +57,8 @@ module _ (net : Network) (ok : IsNetwork net) (clock : Clock) (n i : ℕ) (insid
       sym (first_is net ok count (clock_founded net ok clock (suc n)) i) ∙ fed_is_here net ok count (clock_founded net ok clock (suc n)) i u
 
   none_there : (o : Option Tick) → next net count i ≡ o → first_tick net count i ≡ None → act_of_tick o ≡ None
-  none_there None e f = refl
   none_there (Some (Did a)) e f = let bad : Some (Did a) ≡ None = sym (act_there a e) ∙ f in cc
-  none_there (Some (Take s t)) e f = refl
-  none_there (Some (See s t)) e f = refl
-  none_there (Some End) e f = refl
+  none_there _ e f = refl
 
   next_act_by : (o : Option Tick) → first_tick net count i ≡ o → act_of_tick (next net count i) ≡ act_of_tick o
   next_act_by None e = none_there (next net count i) refl e
@@ -113,13 +102,9 @@ both_off false b c e = refl
 
 module _ (net : Network) (clock : Clock) (n i : ℕ) where
   by_answer : (x : ℕ) (t : Tick) → memory_of t ≡ Some x → tick_moves net clock n (past_of net clock n) i t ≡ clock.answers i x n
-  by_answer x (Did Local) e = cc
-  by_answer x (Did (Put s t)) e = cc
   by_answer x (Did (Load y a)) e = let q : y ≡ x = cc in ap (λ z. clock.answers i z n) q
   by_answer x (Did (Store y a v)) e = let q : y ≡ x = cc in ap (λ z. clock.answers i z n) q
-  by_answer x (Take s t) e = cc
-  by_answer x (See s t) e = cc
-  by_answer x End e = cc
+  by_answer x _ e = cc
 
   same_count : (t : Tick) → next net (count_at net clock n) i ≡ Some t → tick_moves net clock n (past_of net clock n) i t ≡ false → count_at net clock (suc n) i ≡ count_at net clock n i
   same_count t e f =

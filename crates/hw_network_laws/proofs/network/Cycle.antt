@@ -1,14 +1,14 @@
 -- One cycle of one instance: its machine makes the next tick of the count, or neither does anything.
-use Rattle.std.proofs.Common.{◌≡◌, ℕ, zero, suc, ◌<◌, ◌≤◌, List, [], ◌∷◌, ◌++◌, length, Bool, true, false, ◌&&◌, Option, Some, None, ◌⊎◌, inl, inr, ⊎_elim, refl, sym, ap, ◌∙◌, subst, arith}
+use Rattle.std.proofs.Common.{◌≡◌, ℕ, zero, suc, ◌<◌, ◌≤◌, List, [], ◌∷◌, ◌++◌, length, Bool, true, false, ◌&&◌, Option, Some, ◌⊎◌, inl, inr, ⊎_elim, refl, sym, ap, ◌∙◌, subst, arith}
 use Rattle.std.specs.Prelude.{slice_get, not, if◌then◌else◌}
 use Rattle.kahn_model.specs.declared.tick.Tick.{Tick}
 use Rattle.kahn_model.specs.declared.tick.Tick.TheVariants.{End}
-use Rattle.kahn_model.specs.Behavior.{Behavior, Finished, OutOfTurns, Act, Await}
+use Rattle.kahn_model.specs.Behavior.{Behavior, OutOfTurns}
 use Rattle.kahn_model.specs.Network.{Network}
 use Rattle.kahn_model.specs.Counts.{round_of, ticks_made, next}
 use Rattle.kahn_model.specs.Timed.{Clock, tick_moves, past_of, count_at}
 use Rattle.kahn_model.specs.Trace.{State}
-use Rattle.kahn_model.proofs.Clocked.{and_parts, clock_founded, count_up}
+use Rattle.kahn_model.proofs.Clocked.{clock_founded, count_up}
 use Rattle.task_fsm.specs.Run.{StateStep, step_at, cells_after}
 use Rattle.hw_lines.specs.After.{at_after, held_after, ends_by}
 use Rattle.hw_lines.specs.Signals.{Streams, History, Part}
@@ -20,6 +20,8 @@ use Rattle.hw_network_laws.proofs.network.Made.{made_more, made_stay}
 use Rattle.hw_network_laws.proofs.network.Ahead.{OwnsRest, owns_after, rest_of, ahead, rest_alive, first_tick, it_moves, next_is, moves_by, moves_not}
 use Rattle.hw_network_laws.proofs.network.Allowed.{IsMade, step_allowed, step_is_next}
 use Rattle.hw_network_laws.proofs.network.Seen.{seen}
+use Rattle.tapa_base.proofs.Tests.{not_so as false_is, both_true as and_parts}
+use Rattle.tapa_base.proofs.Got.{last_at as get_last}
 
 -- before a cycle the machine stands for what its job has left after these ticks
 pub record Keeps (job : ℕ → Behavior) (part : Part) (ts : List Tick) (pc : ℕ) (σ : State) (ended : Bool) : Type 0 where
@@ -29,15 +31,8 @@ pub record Keeps (job : ℕ → Behavior) (part : Part) (ts : List Tick) (pc : �
   pub cells : σ.cells ≡ cells_after ts part.first.cells
 
 alive_at : (f : ℕ → ℕ) (q : Option Behavior) → IsAlive (rest_at f q) → IsAlive q
-alive_at f None l = tt
-alive_at f (Some Finished) l = tt
 alive_at f (Some OutOfTurns) l = l
-alive_at f (Some (Act a rest)) l = tt
-alive_at f (Some (Await s how k)) l = tt
-
-get_last : {A : Type 0} (l : List A) (x : A) → slice_get (l ++ x ∷ []) (length l) ≡ Some x
-get_last [] x = refl
-get_last (y ∷ l) x = get_last l x
+alive_at f _ l = tt
 
 get_snoc : {A : Type 0} (l : List A) (x y : A) (j : ℕ) → slice_get (l ++ x ∷ []) j ≡ Some y → (slice_get l j ≡ Some y) ⊎ (x ≡ y)
 get_snoc [] x y zero e = inr (cc)
@@ -48,10 +43,6 @@ get_snoc (z ∷ l) x y (suc j) e = get_snoc l x y j e
 clash : (b : Bool) → b ≡ true → b ≡ false → ⊥
 clash true e f = cc
 clash false e f = cc
-
-false_is : (b : Bool) → not b ≡ true → b ≡ false
-false_is true e = cc
-false_is false e = refl
 
 module _ (job : ℕ → Behavior) (part : Part) (S : Streams) (answers : ℕ → ℕ → Bool) (n pc : ℕ) (σ : State) (ended : Bool) (ts : List Tick) (k : Keeps job part ts pc σ ended) where
   abbrev x : StateStep

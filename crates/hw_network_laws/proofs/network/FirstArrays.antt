@@ -29,23 +29,14 @@ set_here (x ∷ xs) [] a r d e = absurd (omega arith)
 set_here (x ∷ xs) (y ∷ ys) zero r d e = refl
 set_here (x ∷ xs) (y ∷ ys) (suc a) r d e = set_here xs ys a r d (omega arith)
 
-set_there : {A : Type 0} (xs ys : List A) (a b : ℕ) (r d : A) → length xs ≡ length ys → slice_index_or xs b d ≡ slice_index_or ys b d → slice_index_or (slice_set xs a r) b d ≡ slice_index_or (slice_set ys a r) b d
-set_there [] [] a b r d e s = refl
-set_there [] (y ∷ ys) a b r d e s = absurd (omega arith)
-set_there (x ∷ xs) [] a b r d e s = absurd (omega arith)
-set_there (x ∷ xs) (y ∷ ys) zero zero r d e s = refl
-set_there (x ∷ xs) (y ∷ ys) zero (suc b) r d e s = s
-set_there (x ∷ xs) (y ∷ ys) (suc a) zero r d e s = s
-set_there (x ∷ xs) (y ∷ ys) (suc a) (suc b) r d e s = set_there xs ys a b r d (omega arith) s
-
-set_size : (xs ys : List (List ℕ)) (a b : ℕ) (r : List ℕ) → length xs ≡ length ys → length (slice_index_or xs b []) ≡ length (slice_index_or ys b []) → length (slice_index_or (slice_set xs a r) b []) ≡ length (slice_index_or (slice_set ys a r) b [])
-set_size [] [] a b r e s = refl
-set_size [] (y ∷ ys) a b r e s = absurd (omega arith)
-set_size (x ∷ xs) [] a b r e s = absurd (omega arith)
-set_size (x ∷ xs) (y ∷ ys) zero zero r e s = refl
-set_size (x ∷ xs) (y ∷ ys) zero (suc b) r e s = s
-set_size (x ∷ xs) (y ∷ ys) (suc a) zero r e s = s
-set_size (x ∷ xs) (y ∷ ys) (suc a) (suc b) r e s = set_size xs ys a b r (omega arith) s
+set_there : {A B : Type 0} (φ : A → B) (xs ys : List A) (a b : ℕ) (r d : A) → length xs ≡ length ys → φ (slice_index_or xs b d) ≡ φ (slice_index_or ys b d) → φ (slice_index_or (slice_set xs a r) b d) ≡ φ (slice_index_or (slice_set ys a r) b d)
+set_there φ [] [] a b r d e s = refl
+set_there φ [] (y ∷ ys) a b r d e s = absurd (omega arith)
+set_there φ (x ∷ xs) [] a b r d e s = absurd (omega arith)
+set_there φ (x ∷ xs) (y ∷ ys) zero zero r d e s = refl
+set_there φ (x ∷ xs) (y ∷ ys) zero (suc b) r d e s = s
+set_there φ (x ∷ xs) (y ∷ ys) (suc a) zero r d e s = s
+set_there φ (x ∷ xs) (y ∷ ys) (suc a) (suc b) r d e s = set_there φ xs ys a b r d (omega arith) s
 
 -- what keeps two states alike
 agree_var : (S : List ℕ) (σ τ : State) (x v : ℕ) → AgreeOn S σ τ → AgreeOn S (set_var σ x v) (set_var τ x v)
@@ -62,8 +53,8 @@ agree_cell S σ τ a j v i g =
       vars = g.vars;
       cells = g.cells;
       arrays = length-set σ.arrays a r ∙ g.arrays ∙ sym (length-set τ.arrays a (slice_set (slice_index_or τ.arrays a []) j v));
-      sizes = λ b. set_size σ.arrays τ.arrays a b r g.arrays (g.sizes b) ∙ ap (λ z. length (slice_index_or (slice_set τ.arrays a z) b [])) q;
-      same = λ b k. set_there σ.arrays τ.arrays a b r [] g.arrays (g.same b k) ∙ ap (λ z. slice_index_or (slice_set τ.arrays a z) b []) q;
+      sizes = λ b. set_there (λ (l : List ℕ). length l) σ.arrays τ.arrays a b r [] g.arrays (g.sizes b) ∙ ap (λ z. length (slice_index_or (slice_set τ.arrays a z) b [])) q;
+      same = λ b k. set_there (λ (l : List ℕ). l) σ.arrays τ.arrays a b r [] g.arrays (g.same b k) ∙ ap (λ z. slice_index_or (slice_set τ.arrays a z) b []) q;
     }
 
 agree_clear : (S : List ℕ) (σ τ : State) (a : ℕ) → AgreeOn S σ τ → AgreeOn (a ∷ S) (cleared σ a) (cleared τ a)
@@ -74,33 +65,18 @@ agree_clear S σ τ a g =
       vars = g.vars;
       cells = g.cells;
       arrays = length-set σ.arrays a r ∙ g.arrays ∙ sym (length-set τ.arrays a (replicate (cells_of τ a) 0));
-      sizes = λ b. set_size σ.arrays τ.arrays a b r g.arrays (g.sizes b) ∙ ap (λ z. length (slice_index_or (slice_set τ.arrays a z) b [])) q;
+      sizes = λ b. set_there (λ (l : List ℕ). length l) σ.arrays τ.arrays a b r [] g.arrays (g.sizes b) ∙ ap (λ z. length (slice_index_or (slice_set τ.arrays a z) b [])) q;
       same = λ b k.
           ⊎_elim
           (λ (e : b ≡ a). subst (λ c. slice_index_or (slice_set σ.arrays a r) c [] ≡ slice_index_or (slice_set τ.arrays a r) c []) (sym e) (set_here σ.arrays τ.arrays a r [] g.arrays))
-          (λ (i : In b S). set_there σ.arrays τ.arrays a b r [] g.arrays (g.same b i))
+          (λ (i : In b S). set_there (λ (l : List ℕ). l) σ.arrays τ.arrays a b r [] g.arrays (g.same b i))
           k
           ∙ ap (λ z. slice_index_or (slice_set τ.arrays a z) b []) q;
     }
 
 agree_less : (S : List ℕ) (s : Stmt) (σ τ : State) → AgreeOn (cleared_by s S) σ τ → AgreeOn S σ τ
 agree_less S (Clear a) σ τ g = record { vars = g.vars; cells = g.cells; arrays = g.arrays; sizes = g.sizes; same = λ b i. g.same b (inr i) }
-agree_less S (Set x e) σ τ g = g
-agree_less S (SetCell a i e) σ τ g = g
-agree_less S (SetCellBy a i op kind e) σ τ g = g
-agree_less S (StoreCell m i e) σ τ g = g
-agree_less S (StoreBy m i op kind e) σ τ g = g
-agree_less S (ReadVar s x) σ τ g = g
-agree_less S (ReadCell s a i) σ τ g = g
-agree_less S (ReadStore s m i) σ τ g = g
-agree_less S (Write s e) σ τ g = g
-agree_less S (OpenIt s) σ τ g = g
-agree_less S (Close s) σ τ g = g
-agree_less S (Discard e) σ τ g = g
-agree_less S (If' e p left q right) σ τ g = g
-agree_less S (Loop' e p body q step) σ τ g = g
-agree_less S Break σ τ g = g
-agree_less S Continue σ τ g = g
+agree_less S _ σ τ g = g
 
 same_await : (s : ℕ) (how : StreamOperation) (f g : ℕ → Behavior) → ((v : ℕ) → f v ≡ g v) → Await s how f ≡ Await s how g
 same_await s how f g e = ap (Await s how) (fun_ext e)

@@ -18,14 +18,6 @@ use Rattle.hw_network_laws.specs.network.Clocked.{IsClocked}
 use Rattle.hw_network_laws.specs.network.Joined.{AreJoinedOver, DoneIsOfJoined}
 use Rattle.hw_network_laws.proofs.network.Together.{in_step}
 
-wide : (a x y : ℕ) → 1 ≤ y → x ≤ y → 1 + a * x ≤ (a + 2) * y
-wide zero x y one le = let e : (0 + 2) * y ≡ y + y = omega arith in omega arith
-wide (suc a) x y one le =
-    let h = wide a x y one le in
-    let e : suc a * x ≡ x + a * x = omega arith in
-    let f : (suc a + 2) * y ≡ y + (a + 2) * y = omega arith in
-    omega arith
-
 module _ (net : Network) (clock : Clock) (parts : ℕ → Part) (S : Streams) (h : ℕ → History) (ok : IsClocked net clock parts S h) where
   told : (n : ℕ) → 1 ≤ n → AreJoinedOver net h n → HaveJoinedEnded net (count_at net clock n)
   told zero l f = absurd (omega arith)
@@ -57,13 +49,10 @@ module _ (net : Network) (clock : Clock) (parts : ℕ → Part) (S : Streams) (h
       let d = joined_in_time net ok.network clock top ready waits c a l in
       (d.0, d.1, d.2, only d.0 d.1 d.3)
 
-  in_time : (top : ℕ) (ready : ℕ → Bool) (waits : ℕ) → IsClock clock top ready waits → (bound : ℕ) (k : ℕ → ℕ) → IsDone net bound k → (a : ℕ) × IsLeastToEnd net a × ((n : ℕ) × (1 ≤ n) × (n ≤ (a + 2) * (2 * top + 4) + waits) × AreJoinedOver net h n)
+  in_time : (top : ℕ) (ready : ℕ → Bool) (waits : ℕ) → IsClock clock top ready waits → (bound : ℕ) (k : ℕ → ℕ) → IsDone net bound k → (a : ℕ) × IsLeastToEnd net a × ((n : ℕ) × (1 ≤ n) × (n ≤ 1 + a * suc top + waits) × AreJoinedOver net h n)
   in_time top ready waits c bound k d =
       let least = least_to_end net ok.network bound k d in
-      let e = soon top ready waits c least.0 least.1 in
-      let le = e.2 in
-      let w : 1 + least.0 * suc top ≤ (least.0 + 2) * (2 * top + 4) = wide least.0 (suc top) (2 * top + 4) (omega arith) (omega arith) in
-      (least.0, least.1, (e.0, e.1, omega arith, e.3))
+      (least.0, least.1, soon top ready waits c least.0 least.1)
 
   pub done_is_of_joined : DoneIsOfJoined net clock S h
   done_is_of_joined = record {

@@ -1,83 +1,56 @@
 -- A module at its ports, seen at the streams.
 use Rattle.std.proofs.Common.{◌≡◌, ℕ, suc, List, [], ◌∷◌, Bool, true, false, Option, Some, None, ◌&&◌, refl, sym, ap, ◌∙◌, subst, ⊎_elim, arith}
 use Rattle.std.specs.Prelude.{◌==◌, not, if◌then◌else◌, slice_get}
-use Rattle.std.proofs.lemmas.Bool.{cases_eq}
+use Rattle.std.proofs.lemmas.Bool.{and_right as and_not}
 use Rattle.std.proofs.lemmas.Bool.Decides.{nat_tests}
 use Rattle.tapa_base.specs.declared.token.Token.{Token}
-use Rattle.kahn_model.specs.declared.tick.Action.TheVariants.{Local, Put, Load, Store}
+use Rattle.kahn_model.specs.declared.tick.Action.TheVariants.{Put}
 use Rattle.kahn_model.specs.declared.tick.StreamOperation.{StreamOperation}
 use Rattle.kahn_model.specs.Behavior.{on_offer, takes}
 use Rattle.kahn_model.specs.Trace.{State}
-use Rattle.task_fsm.specs.Machine.{StateForm, SetAt, CellAt, TestAt, ReadAt, WriteAt, PeekAt, EotAt, OpenAt, CloseAt, LoadAt, StoreAt, ClearAt, EndAt, TrapAt}
-use Rattle.task_fsm.specs.Run.{StateStep, Performs, Awaits, Completes, Halts, step, step_at, clear_step, is_last}
+use Rattle.task_fsm.specs.Machine.{StateForm, ReadAt, WriteAt, PeekAt, EotAt, OpenAt, CloseAt, ClearAt}
+use Rattle.task_fsm.specs.Run.{StateStep, Performs, Awaits, step, step_at, clear_step, is_last}
 use Rattle.hw_lines.specs.After.{at_after, held_after, ends_by}
 use Rattle.hw_lines.specs.Signals.{Streams, History, Part}
 use Rattle.hw_lines.specs.Machine.{offered, offer_in, allows, found, takes_of, puts_of, step_in, steps, put_in, RunsMachine}
 use Rattle.hw_network_laws.specs.network.Ports.{UsesPorts, UsesPortsAt, alone, IsLinked}
+use Rattle.tapa_base.proofs.Tests.{eq_same}
 
 -- the ports of a step are declared
 abbrev StepUses : (ℕ → Option Bool) → StateStep → Type 0
-StepUses w (Performs Local pc σ) = Unit {0}
 StepUses w (Performs (Put p t) pc σ) = w p ≡ Some true
-StepUses w (Performs (Load m i) pc σ) = Unit {0}
-StepUses w (Performs (Store m i v) pc σ) = Unit {0}
 StepUses w (Awaits p how pc into) = w p ≡ Some false
-StepUses w Completes = Unit {0}
-StepUses w Halts = Unit {0}
+StepUses w _ = Unit {0}
 
 clear_uses : (w : ℕ → Option Bool) (b : Bool) (a c pc next : ℕ) (σ : State) → StepUses w (clear_step b a c pc next σ)
 clear_uses w true a c pc next σ = tt
 clear_uses w false a c pc next σ = tt
 
 step_uses : (w : ℕ → Option Bool) (f : StateForm) (pc : ℕ) (σ : State) → UsesPorts w f → StepUses w (step f pc σ)
-step_uses w (SetAt r e next) pc σ u = tt
-step_uses w (CellAt a i e next) pc σ u = tt
-step_uses w (TestAt e y n) pc σ u = tt
 step_uses w (ReadAt p into next) pc σ u = u
 step_uses w (WriteAt p e next) pc σ u = u
 step_uses w (PeekAt p into next) pc σ u = u
 step_uses w (EotAt p into next) pc σ u = u
 step_uses w (OpenAt p next) pc σ u = u
 step_uses w (CloseAt p next) pc σ u = u
-step_uses w (LoadAt m i into next) pc σ u = tt
-step_uses w (StoreAt m i e next) pc σ u = tt
 step_uses w (ClearAt a c next) pc σ u = clear_uses w (is_last σ a c) a c pc next σ
-step_uses w EndAt pc σ u = tt
-step_uses w TrapAt pc σ u = tt
+step_uses w _ pc σ u = tt
 
 step_at_uses : (w : ℕ → Option Bool) (o : Option StateForm) (pc : ℕ) (σ : State) → UsesPortsAt w o → StepUses w (step_at o pc σ)
 step_at_uses w None pc σ u = tt
 step_at_uses w (Some f) pc σ u = step_uses w f pc σ u
 
-eq_same : (p q a b : ℕ) → (p ≡ q → a ≡ b) → (a ≡ b → p ≡ q) → (p == q) ≡ (a == b)
-eq_same p q a b f g =
-    ⊎_elim
-    (λ (e : p ≡ q). let d = f e in grind (arith, nat_tests))
-    (λ (e : p ≡ q → ⊥). let d : a ≡ b → ⊥ = λ x. e (g x) in grind (arith, nat_tests))
-    (cases_eq p q)
-
 eq_not : (a b : ℕ) → (a ≡ b → ⊥) → (a == b) ≡ false
 eq_not a b d = grind (arith, nat_tests)
 
-and_not : (a b : Bool) → b ≡ false → (a && b) ≡ false
-and_not true b e = e
-and_not false b e = refl
-
 -- a step takes and puts nothing at a stream that is at no port
 takes_none : (bound : ℕ → ℕ) (w : ℕ → Option Bool) (s : ℕ) (x : StateStep) → StepUses w x → ((p : ℕ) → w p ≡ Some false → bound p ≡ s → ⊥) → takes_of bound s x ≡ false
-takes_none bound w s (Performs a pc σ) u d = refl
 takes_none bound w s (Awaits q how pc into) u d = and_not (takes how) (bound q == s) (eq_not (bound q) s (d q u))
-takes_none bound w s Completes u d = refl
-takes_none bound w s Halts u d = refl
+takes_none bound w s _ u d = refl
 
 puts_none : (bound : ℕ → ℕ) (w : ℕ → Option Bool) (s : ℕ) (x : StateStep) → StepUses w x → ((p : ℕ) → w p ≡ Some true → bound p ≡ s → ⊥) → puts_of bound s x ≡ []
-puts_none bound w s (Performs Local pc σ) u d = refl
 puts_none bound w s (Performs (Put q t) pc σ) u d = ap (λ b. if b then t ∷ [] else []) (eq_not (bound q) s (d q u))
-puts_none bound w s (Performs (Load m i) pc σ) u d = refl
-puts_none bound w s (Performs (Store m i v) pc σ) u d = refl
-puts_none bound w s (Awaits q how pc into) u d = refl
-puts_none bound w s Completes u d = refl
-puts_none bound w s Halts u d = refl
+puts_none bound w s _ u d = refl
 
 if_none : (b : Bool) (l : List Token) → l ≡ [] → [] ≡ (if b then l else [])
 if_none true l e = sym e
@@ -88,34 +61,21 @@ module _ (part : Part) (w : ℕ → Option Bool) (Reads Writes : ℕ → Type 0)
   offer_same p n how u = ap (λ b. offered b how (ports.dout p n)) (l.has p n u) ∙ ap (offered (S.has (part.bound p) n) how) (l.dout p n u)
 
   allows_same : (n : ℕ) (x : StateStep) → StepUses w x → allows ports answers (λ p. p) n x ≡ allows S answers part.bound n x
-  allows_same n (Performs Local pc σ) u = refl
   allows_same n (Performs (Put p t) pc σ) u = l.rdy p n u
-  allows_same n (Performs (Load m i) pc σ) u = refl
-  allows_same n (Performs (Store m i v) pc σ) u = refl
   allows_same n (Awaits p how pc into) u = ap (λ o. on_offer o false false (λ t v. true)) (offer_same p n how u)
-  allows_same n Completes u = refl
-  allows_same n Halts u = refl
+  allows_same n _ u = refl
 
   found_same : (n : ℕ) (x : StateStep) → StepUses w x → found ports (λ p. p) n x ≡ found S part.bound n x
-  found_same n (Performs a pc σ) u = refl
   found_same n (Awaits p how pc into) u = ap (λ o. on_offer o 0 0 (λ t v. v)) (offer_same p n how u)
-  found_same n Completes u = refl
-  found_same n Halts u = refl
+  found_same n _ u = refl
 
   takes_same : (p : ℕ) (x : StateStep) → StepUses w x → w p ≡ Some false → takes_of (λ p. p) p x ≡ takes_of part.bound (part.bound p) x
-  takes_same p (Performs a pc σ) u d = refl
   takes_same p (Awaits q how pc into) u d = ap (λ b. takes how && b) (eq_same q p (part.bound q) (part.bound p) (λ e. ap part.bound e) (λ e. l.distinct q p false u d e))
-  takes_same p Completes u d = refl
-  takes_same p Halts u d = refl
+  takes_same p _ u d = refl
 
   puts_same : (p : ℕ) (x : StateStep) → StepUses w x → w p ≡ Some true → puts_of (λ p. p) p x ≡ puts_of part.bound (part.bound p) x
-  puts_same p (Performs Local pc σ) u d = refl
   puts_same p (Performs (Put q t) pc σ) u d = ap (λ b. if b then t ∷ [] else []) (eq_same q p (part.bound q) (part.bound p) (λ e. ap part.bound e) (λ e. l.distinct q p true u d e))
-  puts_same p (Performs (Load m i) pc σ) u d = refl
-  puts_same p (Performs (Store m i v) pc σ) u d = refl
-  puts_same p (Awaits q how pc into) u d = refl
-  puts_same p Completes u d = refl
-  puts_same p Halts u d = refl
+  puts_same p _ u d = refl
 
   put_same : (p n : ℕ) → w p ≡ Some true → put_in S (part.bound p) n ≡ put_in ports p n
   put_same p n u =

@@ -1,7 +1,7 @@
 -- How late the timed counts can be, and how many tokens a stream can have on its way.
 use Rattle.std.proofs.Common.{◌≡◌, ℕ, zero, suc, ◌+◌, ◌-◌, ◌*◌, ◌<◌, ◌≤◌, [], ◌∷◌, length, Bool, true, false, Some, None, refl, sym, ap, ◌∙◌, subst, arith, length-append}
 use Rattle.std.specs.Prelude.{◌==◌, nat_lt, if◌then◌else◌}
-use Rattle.std.proofs.lemmas.Bool.{lt-ltb, ltb-true, eqb-true}
+use Rattle.std.proofs.lemmas.Bool.{lt-ltb, ltb-true, eqb-true, and_from as and_both}
 use Rattle.tapa_base.specs.Operators.{bit}
 use Rattle.kahn_model.specs.declared.tick.Action.TheVariants.{Local, Put, Load, Store}
 use Rattle.kahn_model.specs.declared.tick.Tick.{Tick}
@@ -12,25 +12,22 @@ use Rattle.kahn_model.specs.Timed.{Clock, moves, past_of, count_at}
 use Rattle.kahn_model.proofs.Count.{OwnTick, own_round, made_same, next_same, written_le, taken_le, written_same, taken_same}
 use Rattle.kahn_model.proofs.Order.{prefix_length}
 use Rattle.kahn_model.proofs.Taken.{taken_begins}
-use Rattle.kahn_model.proofs.Clocked.{and_parts, clock_founded, count_up, count_le}
+use Rattle.kahn_model.proofs.Clocked.{clock_founded, count_up, count_le}
 use Rattle.hw_network_laws.specs.network.Timed.{IsMadeIn, IsNextTick}
 use Rattle.circuit_meaning.specs.Pace.{memory_of, MakesIn, is_ready, times, on_their_way, KeepsPace}
 use Rattle.hw_network_laws.proofs.network.Made.{made_more, made_stay, written_more}
-use Rattle.hw_network_laws.proofs.network.Timed.{one_next, and_both, moves_by_row, moved_tick, stays}
+use Rattle.hw_network_laws.proofs.network.Timed.{one_next, moves_by_row, moved_tick, stays}
+use Rattle.tapa_base.proofs.Tests.{both_true as and_parts}
 
 -- ---- numbers of cycles
 
+bit_few : (b : Bool) → bit b ≤ 1
+bit_few true = omega arith
+bit_few false = omega arith
+
 times_few : (holds : ℕ → Bool) (n d : ℕ) → times holds n d ≤ suc d
-times_few holds n zero = one (holds n)
-  where
-    one : (b : Bool) → bit b ≤ 1
-    one true = omega arith
-    one false = omega arith
-times_few holds n (suc d) = let h = times_few holds n d in more (holds (n - suc d)) h
-  where
-    more : (b : Bool) → times holds n d ≤ suc d → times holds n d + bit b ≤ suc (suc d)
-    more true h = omega arith
-    more false h = omega arith
+times_few holds n zero = bit_few (holds n)
+times_few holds n (suc d) = let h = times_few holds n d in let b = bit_few (holds (n - suc d)) in omega arith
 
 -- one cycle later one more comes, and the last one goes
 times_next : (holds : ℕ → Bool) (n d : ℕ) → times holds (suc n) d + bit (holds (n - d)) ≡ times holds n d + bit (holds (suc n))
@@ -86,12 +83,6 @@ module _ (net : Network) (ok : IsNetwork net) (clock : Clock) where
 
   -- where a tick puts a token, its stream was ready as long ago as its latency says
   put_bit : (s n i : ℕ) (t : Tick) → IsMadeIn net clock n i t → length (put_on s t) ≤ bit (is_ready net clock s (n - clock.latency s))
-  put_bit s n i (Did Local) row = omega arith
-  put_bit s n i (Did (Load m a)) row = omega arith
-  put_bit s n i (Did (Store m a v)) row = omega arith
-  put_bit s n i (Take q t) row = omega arith
-  put_bit s n i (See q t) row = omega arith
-  put_bit s n i End row = omega arith
   put_bit s n i (Did (Put q t)) row = go (q == s) refl
     where
       was_ready : q ≡ s → is_ready net clock s (n - clock.latency s) ≡ true
@@ -107,6 +98,7 @@ module _ (net : Network) (ok : IsNetwork net) (clock : Clock) where
       go true e =
           let o : bit (is_ready net clock s (n - clock.latency s)) ≡ 1 = ap bit (was_ready (eqb-true q s e)) in
           omega arith
+  put_bit s n i _ row = omega arith
 
   count_if : (n i : ℕ) (b : Bool) → moves net clock n (past_of net clock n) i ≡ b → at (suc n) i ≡ (if b then suc (at n i) else at n i)
   count_if n i b e = ap (λ z. if z then suc (at n i) else at n i) e
@@ -160,21 +152,15 @@ module _ (net : Network) (ok : IsNetwork net) (clock : Clock) where
     -- that waits for a memory is made where it answers
     by_answer : (x m : ℕ) (u : Tick) → memory_of u ≡ Some x → clock.answers i x m ≡ true → IsMadeIn net clock m i u
     by_answer x m (Did Local) f e = tt
-    by_answer x m (Did (Put s v)) f e = cc
     by_answer x m (Did (Load y c)) f e = let q : x ≡ y = cc in subst (λ z. clock.answers i z m ≡ true) q e
     by_answer x m (Did (Store y c v)) f e = let q : x ≡ y = cc in subst (λ z. clock.answers i z m ≡ true) q e
-    by_answer x m (Take s v) f e = cc
-    by_answer x m (See s v) f e = cc
     by_answer x m End f e = tt
+    by_answer x m _ f e = cc
 
     answer_of : (x m : ℕ) (u : Tick) → memory_of u ≡ Some x → IsMadeIn net clock m i u → clock.answers i x m ≡ true
-    answer_of x m (Did Local) f e = cc
-    answer_of x m (Did (Put s v)) f e = cc
     answer_of x m (Did (Load y c)) f e = let q : y ≡ x = cc in subst (λ z. clock.answers i z m ≡ true) q e
     answer_of x m (Did (Store y c v)) f e = let q : y ≡ x = cc in subst (λ z. clock.answers i z m ≡ true) q e
-    answer_of x m (Take s v) f e = cc
-    answer_of x m (See s v) f e = cc
-    answer_of x m End f e = cc
+    answer_of x m _ f e = cc
 
     stays_until : (x : ℕ) → memory_of a.supplied.tick ≡ Some x → (d : ℕ) → ((j : ℕ) → n ≤ j → j < n + d → clock.answers i x j ≡ false) → at (n + d) i ≡ at n i
     stays_until x e zero silent = ap (λ z. at z i) (let z : n + 0 ≡ n = omega arith in z)
@@ -213,13 +199,12 @@ module _ (net : Network) (ok : IsNetwork net) (clock : Clock) where
             (omega arith, omega arith)
 
         row_late : (u : Tick) → OwnTick net.producer net.consumer i u → HasToken net (at n) u → HasRoom net (at n) u → memory_of u ≡ None → IsMadeIn net clock m i u
-        row_late (Did Local) own tok room e = tt
         row_late (Did (Put s v)) own tok room e = room_late s own room
         row_late (Did (Load y c)) own tok room e = cc
         row_late (Did (Store y c v)) own tok room e = cc
         row_late (Take s v) own tok room e = token_late s own tok
         row_late (See s v) own tok room e = token_late s own tok
-        row_late End own tok room e = tt
+        row_late _ own tok room e = tt
 
       own : OwnTick net.producer net.consumer i a.supplied.tick
       own = own_round net ok (round_of net (at n)) i (at n i) a.supplied.tick a.supplied.is_next

@@ -14,27 +14,20 @@ use Rattle.kahn_model.specs.Trace.{State}
 use Rattle.kahn_model.proofs.WellFormed.{get_there, bound_end}
 use Rattle.task_fsm.specs.declared.machine.Fsm.{Fsm}
 use Rattle.task_fsm.specs.Lowered.{IsLowered}
-use Rattle.task_fsm.specs.Machine.{forms_of, StateForm, SetAt, CellAt, TestAt, ReadAt, WriteAt, PeekAt, EotAt, OpenAt, CloseAt, LoadAt, StoreAt, ClearAt, EndAt, TrapAt}
+use Rattle.task_fsm.specs.Machine.{forms_of, StateForm, ReadAt, WriteAt, PeekAt, EotAt, OpenAt, CloseAt}
 use Rattle.task_fsm.specs.Ranges.{Ranges, ranges_of, IsInRange, AreInRange}
 use Rattle.hw_lines.specs.Signals.{Streams}
 use Rattle.hw_lines.specs.Machine.{put_in}
 use Rattle.hw_network_laws.specs.network.Ports.{UsesPorts, UsesPortsAt, IsAtPort, IsLinked, HasPorts, AreWired}
 
 uses_form : (r : Ranges) (p : StateForm) → IsInRange r p → UsesPorts r.writes p
-uses_form r (SetAt x e next) h = tt
-uses_form r (CellAt a i e next) h = tt
-uses_form r (TestAt e y n) h = tt
 uses_form r (ReadAt p into next) h = h.0
 uses_form r (WriteAt p e next) h = h.0
 uses_form r (PeekAt p into next) h = h.0
 uses_form r (EotAt p into next) h = h.0
 uses_form r (OpenAt p next) h = h.0
 uses_form r (CloseAt p next) h = h.0
-uses_form r (LoadAt m i into next) h = tt
-uses_form r (StoreAt m i e next) h = tt
-uses_form r (ClearAt a counter next) h = tt
-uses_form r EndAt h = tt
-uses_form r TrapAt h = tt
+uses_form r _ h = tt
 
 uses_at : (r : Ranges) (places : List StateForm) → AreInRange r places → (pc : ℕ) → UsesPortsAt r.writes (slice_get places pc)
 uses_at r [] h pc = tt

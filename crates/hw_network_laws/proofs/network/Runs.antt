@@ -5,23 +5,20 @@ use Rattle.std.proofs.lemmas.Bool.{lt-ltb, le-ltb, ltb-true, eqb-true}
 use Rattle.tapa_base.specs.declared.token.Token.{Token}
 use Rattle.tapa_base.specs.declared.token.Token.TheVariants.{Eot}
 use Rattle.kahn_model.specs.declared.tick.Action.{Action}
-use Rattle.kahn_model.specs.declared.tick.Action.TheVariants.{Local, Put, Load, Store}
+use Rattle.kahn_model.specs.declared.tick.Action.TheVariants.{Local, Put}
 use Rattle.kahn_model.specs.Network.{Network, IsNetwork}
 use Rattle.kahn_model.specs.Timed.{Clock}
-use Rattle.kahn_model.proofs.Clocked.{and_parts}
 use Rattle.hw_lines.specs.After.{at_after, held_after, ends_by}
-use Rattle.task_fsm.specs.Run.{StateStep, Performs, Awaits, Completes, Halts}
+use Rattle.task_fsm.specs.Run.{StateStep, Performs}
 use Rattle.hw_lines.specs.Signals.{Streams, History, Part}
 use Rattle.hw_lines.specs.Machine.{RunsMachine, allows, allows_act, takes_of, puts_by, puts_of, put_in, step_in, steps, found}
 use Rattle.hw_network_laws.specs.network.Channel.{carried, drawn, took_in, KeepsContract}
 use Rattle.hw_network_laws.specs.network.Clocked.{IsPartOf, IsClocked}
 use Rattle.hw_network_laws.specs.network.Run.{Stand, stood, has_by, dout_by, rdy_by, inputs_by, step_by, does_by, puts_in, takes_in, stands, is_some, streams_of, history_of}
+use Rattle.tapa_base.proofs.Tests.{both_true as and_parts}
 
 -- a step that puts has room
 act_room : (S : Streams) (answers : ℕ → ℕ → Bool) (f : ℕ → ℕ) (n s : ℕ) (a : Action) → allows_act S answers f n a ≡ true → (if is_some (puts_by f s a) && S.rdy s n then get_or (puts_by f s a) 0 Eot ∷ [] else []) ≡ puts_by f s a
-act_room S answers f n s Local e = refl
-act_room S answers f n s (Load m i) e = refl
-act_room S answers f n s (Store m i v) e = refl
 act_room S answers f n s (Put p t) e = go (f p == s) refl
   where
     go : (b : Bool) → (f p == s) ≡ b → (if is_some (if b then t ∷ [] else []) && S.rdy s n then get_or (if b then t ∷ [] else []) 0 Eot ∷ [] else []) ≡ (if b then t ∷ [] else [])
@@ -29,12 +26,11 @@ act_room S answers f n s (Put p t) e = go (f p == s) refl
     go true q =
         let same : f p ≡ s = eqb-true (f p) s q in
         ap (λ b. if b then t ∷ [] else []) (subst (λ r. S.rdy r n ≡ true) same e)
+act_room S answers f n s _ e = refl
 
 step_room : (S : Streams) (answers : ℕ → ℕ → Bool) (f : ℕ → ℕ) (n s : ℕ) (x : StateStep) → allows S answers f n x ≡ true → (if is_some (puts_of f s x) && S.rdy s n then get_or (puts_of f s x) 0 Eot ∷ [] else []) ≡ puts_of f s x
 step_room S answers f n s (Performs a pc σ) e = act_room S answers f n s a e
-step_room S answers f n s (Awaits p how pc into) e = refl
-step_room S answers f n s Completes e = refl
-step_room S answers f n s Halts e = refl
+step_room S answers f n s _ e = refl
 
 got : (l : List Token) (j : ℕ) → j < length l → slice_get l j ≡ Some (get_or l j Eot)
 got [] j h = absurd (omega arith)
@@ -122,18 +118,11 @@ module _ (net : Network) (clock : Clock) (parts : ℕ → Part) where
   -- each machine makes its steps
   allows_is : (i n : ℕ) (x : StateStep) → allows (streams_of net parts clock) (clock.answers i) (parts i).bound n x ≡ allows (inputs_by net parts clock n (past n)) (clock.answers i) (parts i).bound n x
   allows_is i n (Performs Local pc σ) = refl
-  allows_is i n (Performs (Put p t) pc σ) = refl
-  allows_is i n (Performs (Load m j) pc σ) = refl
-  allows_is i n (Performs (Store m j v) pc σ) = refl
-  allows_is i n (Awaits p how pc into) = refl
-  allows_is i n Completes = refl
-  allows_is i n Halts = refl
+  allows_is i n _ = refl
 
   found_is : (i n : ℕ) (x : StateStep) → found (inputs_by net parts clock n (past n)) (parts i).bound n x ≡ found (streams_of net parts clock) (parts i).bound n x
   found_is i n (Performs a pc σ) = refl
-  found_is i n (Awaits p how pc into) = refl
-  found_is i n Completes = refl
-  found_is i n Halts = refl
+  found_is i n _ = refl
 
   abbrev hist : ℕ → History
   hist i = history_of net parts clock i

@@ -1,10 +1,10 @@
 -- What the channels show in a cycle is what the timed counts ask for.
-use Rattle.std.proofs.Common.{◌≡◌, ℕ, zero, suc, ◌-◌, ◌*◌, ◌≤◌, List, [], ◌∷◌, length, drop, true, ◌&&◌, Some, refl, sym, ap, ◌∙◌, arith}
+use Rattle.std.proofs.Common.{◌≡◌, ℕ, zero, suc, ◌-◌, ◌*◌, ◌≤◌, List, [], ◌∷◌, length, true, ◌&&◌, Some, refl, sym, ap, ◌∙◌, arith}
 use Rattle.std.specs.Prelude.{slice_get, nat_lt}
 use Rattle.tapa_base.specs.declared.token.Token.{Token}
 use Rattle.kahn_model.specs.declared.tick.Action.TheVariants.{Put}
 use Rattle.kahn_model.specs.declared.tick.StreamOperation.{StreamOperation}
-use Rattle.kahn_model.specs.declared.tick.StreamOperation.TheVariants.{Read, Peek, TestEot, Open}
+use Rattle.kahn_model.specs.declared.tick.StreamOperation.TheVariants.{Read}
 use Rattle.kahn_model.specs.declared.tick.Tick.TheVariants.{Did}
 use Rattle.kahn_model.specs.Behavior.{tick_of}
 use Rattle.kahn_model.specs.Network.{Network}
@@ -15,17 +15,13 @@ use Rattle.hw_network_laws.specs.network.Channel.{carried, drawn, KeepsContract}
 use Rattle.hw_network_laws.specs.network.Clocked.{AreCarried}
 use Rattle.hw_network_laws.proofs.network.Ahead.{ahead, ahead_is}
 use Rattle.hw_network_laws.proofs.network.Allowed.{IsSeen}
+use Rattle.tapa_base.proofs.Got.{get_drop}
 
 -- the count of d cycles ago
 pub ago_is : (net : Network) (clock : Clock) (n d : ℕ) → ago (past_of net clock n) d ≡ count_at net clock (n - d)
 ago_is net clock n zero = let e : n ≡ n - 0 = omega arith in ap (λ m. count_at net clock m) e
 ago_is net clock zero (suc d) = let e : 0 - suc d ≡ 0 = omega arith in ap (λ m. count_at net clock m) (sym e)
 ago_is net clock (suc n) (suc d) = let e : n - d ≡ suc n - suc d = omega arith in ago_is net clock n d ∙ ap (λ m. count_at net clock m) e
-
-get_drop : {A : Type 0} (l : List A) (j : ℕ) → slice_get (drop j l) 0 ≡ slice_get l j
-get_drop l zero = refl
-get_drop [] (suc j) = refl
-get_drop (x ∷ l) (suc j) = get_drop l j
 
 module _ (net : Network) (clock : Clock) (S : Streams) (channels : (s : ℕ) → KeepsContract S s (net.depth s) (clock.latency s)) (n : ℕ) (so_far : (m : ℕ) → m ≤ suc n → AreCarried net clock S m) where
   put_ago : (s d : ℕ) → length (written net (ago (past_of net clock (suc n)) d) s) ≡ length (carried S s (suc n - d))
@@ -56,9 +52,7 @@ module _ (net : Network) (clock : Clock) (S : Streams) (channels : (s : ℕ) →
 
   wait_is : (i : ℕ) (how : StreamOperation) (s : ℕ) (t : Token) → tick_moves net clock (suc n) (past_of net clock (suc n)) i (tick_of how s t) ≡ S.has s (suc n)
   wait_is i Read s t = waits_for s
-  wait_is i Peek s t = waits_for s
-  wait_is i TestEot s t = waits_for s
-  wait_is i Open s t = waits_for s
+  wait_is i _ s t = waits_for s
 
   room_is : (i s : ℕ) (t : Token) → tick_moves net clock (suc n) (past_of net clock (suc n)) i (Did (Put s t)) ≡ S.rdy s (suc n)
   room_is i s t =

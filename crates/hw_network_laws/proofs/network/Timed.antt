@@ -1,8 +1,8 @@
 -- The counts of a clock, row by row.
 use Rattle.std.proofs.Common.{◌≡◌, ℕ, zero, suc, ◌-◌, ◌+◌, ◌*◌, ◌<◌, ◌≤◌, length, Bool, true, false, ◌&&◌, Option, Some, None, refl, sym, ap, ◌∙◌, arith}
 use Rattle.std.specs.Prelude.{slice_get, nat_lt, if◌then◌else◌}
-use Rattle.std.proofs.lemmas.Bool.{lt-ltb, ltb-true}
-use Rattle.kahn_model.specs.declared.tick.Action.TheVariants.{Local, Put, Load, Store}
+use Rattle.std.proofs.lemmas.Bool.{lt-ltb, ltb-true, and_from as and_both}
+use Rattle.kahn_model.specs.declared.tick.Action.TheVariants.{Local, Put}
 use Rattle.kahn_model.specs.declared.tick.Tick.{Tick}
 use Rattle.kahn_model.specs.declared.tick.Tick.TheVariants.{Did, Take, See, End}
 use Rattle.kahn_model.specs.Network.{Network, IsNetwork, round}
@@ -11,14 +11,11 @@ use Rattle.kahn_model.specs.Timed.{Clock, ago, tick_moves, next_moves, moves, pa
 use Rattle.kahn_model.proofs.Order.{prefix_get}
 use Rattle.kahn_model.proofs.Grow.{round_le}
 use Rattle.kahn_model.proofs.Reach.{next_in_time}
-use Rattle.kahn_model.proofs.Clocked.{and_parts, clock_founded}
+use Rattle.kahn_model.proofs.Clocked.{clock_founded}
 use Rattle.hw_network_laws.specs.network.Timed.{IsMadeIn, IsNextTick, GoesByRows}
 use Rattle.hw_network_laws.proofs.network.Ahead.{token_there}
 use Rattle.hw_network_laws.proofs.network.Seen.{ago_is}
-
-pub and_both : (a b : Bool) → a ≡ true → b ≡ true → (a && b) ≡ true
-and_both true b e f = f
-and_both false b e f = e
+use Rattle.tapa_base.proofs.Tests.{both_true as and_parts}
 
 module _ (net : Network) (clock : Clock) (n : ℕ) where
   abbrev now : ℕ → ℕ
@@ -37,10 +34,9 @@ module _ (net : Network) (clock : Clock) (n : ℕ) where
   by_row i (Take s t) l = seen_is s ∙ lt-ltb _ _ l
   by_row i (See s t) l = seen_is s ∙ lt-ltb _ _ l
   by_row i (Did (Put s t)) (late, room) = and_both _ _ (lt-ltb (clock.latency s) n late) (room_is s ∙ lt-ltb _ _ room)
-  by_row i (Did (Load m a)) e = e
-  by_row i (Did (Store m a v)) e = e
   by_row i (Did Local) e = refl
   by_row i End e = refl
+  by_row i _ e = e
 
   pub row_of : (i : ℕ) (t : Tick) → tick_moves net clock n (past_of net clock n) i t ≡ true → IsMadeIn net clock n i t
   row_of i (Take s t) e = ltb-true _ _ (sym (seen_is s) ∙ e)
@@ -48,10 +44,9 @@ module _ (net : Network) (clock : Clock) (n : ℕ) where
   row_of i (Did (Put s t)) e =
       let p = and_parts _ _ e in
       (ltb-true (clock.latency s) n p.0, ltb-true _ _ (sym (room_is s) ∙ p.1))
-  row_of i (Did (Load m a)) e = e
-  row_of i (Did (Store m a v)) e = e
   row_of i (Did Local) e = tt
   row_of i End e = tt
+  row_of i _ e = e
 
 module _ (net : Network) (ok : IsNetwork net) (clock : Clock) where
   pub one_next : (k : ℕ → ℕ) (i : ℕ) (t u : Tick) → IsNextTick net k i t → IsNextTick net k i u → t ≡ u

@@ -7,7 +7,7 @@ use Rattle.kahn_model.specs.declared.tick.Tick.{Tick}
 use Rattle.kahn_model.specs.Network.{Network, put_on, take_from}
 use Rattle.kahn_model.specs.Counts.{ticks_made, written, taken}
 use Rattle.kahn_model.specs.Timed.{Clock, moves, past_of, count_at}
-use Rattle.kahn_model.proofs.Clocked.{and_parts, clock_founded, count_up}
+use Rattle.kahn_model.proofs.Clocked.{clock_founded, count_up}
 use Rattle.task_fsm.specs.Follows.{Follows}
 use Rattle.hw_lines.specs.Signals.{Streams, History, Part}
 use Rattle.hw_lines.specs.Machine.{steps, steps_before, step_in, put_in, puts_of, takes_of}
@@ -17,6 +17,7 @@ use Rattle.hw_network_laws.proofs.network.Stands.{tick_in, puts_are, takes_are}
 use Rattle.hw_network_laws.proofs.network.Rest.{still}
 use Rattle.hw_network_laws.proofs.network.Made.{made_stay, written_more, taken_more}
 use Rattle.hw_network_laws.proofs.network.Cycle.{Keeps, does_is, made_by, made_not, keeps_next}
+use Rattle.tapa_base.proofs.Tests.{both_true as and_parts}
 
 and_false : (a b c : Bool) → b ≡ false → (a && (b && c)) ≡ false
 and_false true true c e = cc

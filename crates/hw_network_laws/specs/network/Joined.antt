@@ -34,7 +34,7 @@ pub record DoneIsOfJoined (net : Network) (clock : Clock) (S : Streams) (h : ℕ
   -- so where a run within some bound is done, they end within the stated number of cycles
   pub in_time :
       (top : ℕ) (ready : ℕ → Bool) (waits : ℕ) → IsClock clock top ready waits → (bound : ℕ) (k : ℕ → ℕ) → IsDone net bound k → (a : ℕ) × IsLeastToEnd net a
-      × ((n : ℕ) × (1 ≤ n) × (n ≤ (a + 2) * (2 * top + 4) + waits) × AreJoinedOver net h n)
+      × ((n : ℕ) × (1 ≤ n) × (n ≤ 1 + a * suc top + waits) × AreJoinedOver net h n)
 
 abbrev pub ClockedNetworksAreDone : Type 0
 ClockedNetworksAreDone =

@@ -20,9 +20,9 @@ pub fn law_networks_carry_kahn()
     ensures { ClockedNetworksCarryKahn }
 {}
 
-/// Such a network is done exactly where its instances have ended in the timed counts, but for detached ones, which are not waited
-/// for. Then each stream of a producer that is waited for has carried its whole Kahn stream, any other a prefix of it, and it is done
-/// within a stated number of cycles where a run within some bound is.
+/// Such a network is done exactly if its joined instances (those that are waited for) have ended in the timed counts. Then each stream of a joined producer
+/// has carried its whole Kahn stream, and any other stream a prefix of it. If some run ends within a bound, the network is done within a stated number of
+/// cycles.
 pub fn law_done_is_of_joined()
     ensures { ClockedNetworksAreDone }
 {}

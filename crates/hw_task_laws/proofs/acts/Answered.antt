@@ -3,7 +3,7 @@ use Rattle.std.proofs.Common.{◌≡◌, ℕ, suc, ◌+◌, ◌-◌, ◌^◌, �
 use Rattle.std.specs.Prelude.{◌⊎◌, nat_lt, bit_and, slice_get}
 use Rattle.std.specs.Int.Count.{count_leading_zeros}
 use Rattle.std.proofs.Math.Nat.{mod-eq_of_lt}
-use Rattle.std.proofs.lemmas.Nat.{leading_length, leading_top}
+use Rattle.std.proofs.lemmas.Nat.{leading_top}
 use Rattle.std.proofs.lemmas.Bool.{cases_eq, eq-eqb, ne_eqb, ltb-true}
 use Rattle.tapa_base.specs.declared.kind.Kind.{Kind}
 use Rattle.tapa_base.specs.declared.kind.Kind.TheVariants as kind
@@ -25,41 +25,31 @@ use Rattle.hw_build.specs.Scope.{each}
 use Rattle.hw_build.specs.Choices.{Entry, any_elements, pick_elements, choice}
 use Rattle.hw_build.specs.Fits.{IsAmong}
 use Rattle.hw_build.proofs.Parts.{has_each}
-use Rattle.task_fsm.specs.Machine.{Expression, Number, Reg, CellOf, Converted, Applied, Flipped, Inverse, Both, Either, Chosen, StateForm, SetAt, CellAt, TestAt, ReadAt, WriteAt, PeekAt, EotAt, OpenAt, CloseAt, LoadAt, StoreAt, ClearAt, EndAt, TrapAt}
+use Rattle.task_fsm.specs.Machine.{Expression, CellOf, Converted, Applied, Flipped, Inverse, Both, Either, Chosen, StateForm, SetAt, CellAt, TestAt, WriteAt, LoadAt, StoreAt}
 use Rattle.task_fsm.specs.MachineKinds.{IsOfKind, IsTypedState}
 use Rattle.task_fsm.specs.Ranges.{Ranges, NamesWithin, IsInRange}
 use Rattle.task_fsm.specs.Run.{value}
 use Rattle.hw_lines.specs.declared.nets.Choice.TheVariants.{Reads, ArrayIndex}
 use Rattle.hw_lines.specs.declared.nets.Net.{Net as LineNet}
-use Rattle.hw_lines.specs.declared.nets.Net.TheVariants.{State as StateNet, Ended, At, Array, Answer, Raw, ReadInside, ReadOn}
+use Rattle.hw_lines.specs.declared.nets.Net.TheVariants.{State as StateNet, Ended, Variable, At, Array, Answer, Raw, ReadInside, ReadOn}
 use Rattle.hw_lines.specs.Nets.{name, front, value_front, index_front, read_front}
-use Rattle.hw_lines.specs.Shape.{Shape, kinds_in, array_kind, array_cells, index_bits, state_count, state_bits, form_at}
+use Rattle.hw_lines.specs.Shape.{Shape, kinds_in, register_kind, array_kind, array_cells, index_bits, state_count, state_bits, form_at}
 use Rattle.hw_build.specs.Widths.{bits_for}
 use Rattle.hw_lines.specs.Drivers.{low_bits}
 use Rattle.hw_lines.specs.Wires.{ArrayRead, read_count, reads_in}
 use Rattle.hw_lines.specs.States.{net, nothing, index_of, value_of, value_kind, index_wires, value_wires, reads_at}
-use Rattle.hw_lines.specs.Effects.{entry, at, effect, entries, spot_of}
+use Rattle.hw_lines.specs.Effects.{at, effect, entries, spot_of}
 use Rattle.hw_lines.specs.Texts.{array, read_index, asked_of, answered, unless_none, read_numbers, variable, task_elements}
 use Rattle.hw_task_laws.specs.wires.Shows.{Shows, AreSaid}
 use Rattle.hw_task_laws.specs.wires.Computes.{Numbered, AnswerShown, AnswersShown}
 use Rattle.hw_task_laws.specs.acts.Reads.{IsIn, ReadsAreShown, ValueIsShown, IndexIsShown}
 use Rattle.hw_lines.proofs.Members.{all, asked_in, answered_in, held_in, value_in, index_in, among_left, among_right, among_each}
-use Rattle.hw_lines.proofs.Decodes.{at_here, any_on, any_off, pick_on, most_of, got_low}
+use Rattle.hw_lines.proofs.Decodes.{at_here, any_on, any_off, pick_on, most_of}
 use Rattle.hw_task_laws.proofs.wires.Shown.{low_bits_is}
 use Rattle.hw_task_laws.proofs.wires.Computed.{numbered_left, numbered_second, numbered_join, computed}
-
--- a number fits in its bits
-pub fits_bits : (n : ℕ) → n < 2 ^ 32 → n < 2 ^ bits_for n
-unfolding bits_for
-fits_bits n h =
-    ⊎_elim
-    (λ e. let w : cond (eqb n 0) 1 (32 - count_leading_zeros 32 n) ≡ 1 = ap (λ b. cond b 1 (32 - count_leading_zeros 32 n)) (eq-eqb n 0 e) in
-    subst (λ k. n < 2 ^ k) (sym w) (omega arith))
-    (λ e.
-    let t = leading_length 32 n h in
-    let m : 32 - count_leading_zeros 32 n ≡ t.0 = omega (arith, t.1) in
-    subst (λ k. n < 2 ^ k) (sym (ap (λ b. cond b 1 (32 - count_leading_zeros 32 n)) (ne_eqb n 0 e) ∙ m)) t.2)
-    (cases_eq n 0)
+use Rattle.hw_task_laws.proofs.steps.Allowed.{one_and}
+use Rattle.hw_task_laws.proofs.form.Task.{fits_bits}
+use Rattle.tapa_base.proofs.Got.{got_low}
 
 pub has_bits : (n : ℕ) → n < 2 ^ 32 → 0 < bits_for n
 unfolding bits_for
@@ -74,108 +64,79 @@ has_bits n h =
     subst (λ k. 0 < k) (sym w) (omega (arith, k)))
     (cases_eq n 0)
 
+-- three parts
+pub among_three : (xs ys zs all : List Element) → IsAmong (xs ++ ys ++ zs) all → IsAmong xs all × IsAmong ys all × IsAmong zs all
+among_three xs ys zs all h =
+    let two = among_left (xs ++ ys) zs all h in
+    (among_left xs ys all two, among_right xs ys all two, among_right (xs ++ ys) zs all h)
+
 -- each of a list at its number
-numbered_all : (xs ys : List ArrayRead) → Numbered (λ p r. slice_get (xs ++ ys) p ≡ Some r) (length xs) ys
-numbered_all xs [] = tt
-numbered_all xs (y ∷ ys) = (here xs, moved (numbered_all (xs ++ y ∷ []) ys)) where
-  here : (zs : List ArrayRead) → slice_get (zs ++ y ∷ ys) (length zs) ≡ Some y
-  here [] = refl
-  here (z ∷ zs) = here zs
+pub numbered_from : (P : ℕ → ArrayRead → Type 0) (m : ℕ) (reads : List ArrayRead) → ((i : ℕ) (r : ArrayRead) → slice_get reads i ≡ Some r → P (m + i) r) → Numbered P m reads
+numbered_from P m [] h = tt
+numbered_from P m (q ∷ reads) h = (
+  (let z : m + 0 ≡ m = omega arith in subst (λ n. P n q) z (h 0 q refl)),
+  numbered_from P (suc m) reads (λ i r e. let z : m + suc i ≡ suc m + i = omega arith in subst (λ n. P n r) z (h (suc i) r e)),
+)
 
-  joined : (zs : List ArrayRead) → (zs ++ y ∷ []) ++ ys ≡ zs ++ y ∷ ys
-  joined [] = refl
-  joined (z ∷ zs) = ap (λ l. z ∷ l) (joined zs)
-
-  counted : (zs : List ArrayRead) → length (zs ++ y ∷ []) ≡ suc (length zs)
-  counted [] = refl
-  counted (z ∷ zs) = ap suc (counted zs)
-
-  moved : Numbered (λ p r. slice_get ((xs ++ y ∷ []) ++ ys) p ≡ Some r) (length (xs ++ y ∷ [])) ys → Numbered (λ p r. slice_get (xs ++ y ∷ ys) p ≡ Some r) (suc (length xs)) ys
-  moved h =
-      subst (λ l. Numbered (λ p r. slice_get l p ≡ Some r) (suc (length xs)) ys) (joined xs)
-      (subst (λ m. Numbered (λ p r. slice_get ((xs ++ y ∷ []) ++ ys) p ≡ Some r) m ys) (counted xs) h)
+-- the only entry that a state gives
+pub alone : (es : List Entry) (e d : Entry) → es ≡ e ∷ [] → Has es d → e ≡ d
+alone es e d is h = ⊎_elim (λ s. s) (λ n. absurd n) (subst (λ l. Has l d) is h)
 
 -- an entry for one thing alone
-only_entry : (x : ℕ) (es : List Entry) → at x x es ≡ es
+pub only_entry : (x : ℕ) (es : List Entry) → at x x es ≡ es
 only_entry x es = ap (λ b. cond b es []) (eq-eqb x x refl)
 
-some_length : {A : Type 0} (xs : List A) (x : A) → Has xs x → 0 < length xs
+pub some_length : {A : Type 0} (xs : List A) (x : A) → Has xs x → 0 < length xs
 some_length [] x h = absurd h
 some_length (y ∷ ys) x h = omega arith
 
-not_none : (es : List Entry) (e : Entry) (elements : List Element) → Has es e → unless_none es elements ≡ elements
+pub not_none : (es : List Entry) (e : Entry) (elements : List Element) → Has es e → unless_none es elements ≡ elements
 not_none [] e elements h = absurd h
 not_none (d ∷ es) e elements h = refl
 
-one_and : (b : Bool) → bit_and 1 (one_if b) ≡ one_if b
-one_and true = refl
-one_and false = refl
-
 -- the index and the value of a state have their kinds, and name what is there
-module _ (S : Shape) (R : Ranges) where
-  value_typed : (f : StateForm) → IsTypedState (kinds_in S) f → IsOfKind (kinds_in S) (value_of f) (value_kind S f)
-  value_typed (SetAt r e next) t = t
-  value_typed (CellAt a i e next) t = t.1
-  value_typed (TestAt e y n) t = t
-  value_typed (ReadAt s into next) t = (refl, omega arith)
-  value_typed (WriteAt s e next) t = t
-  value_typed (PeekAt s into next) t = (refl, omega arith)
-  value_typed (EotAt s into next) t = (refl, omega arith)
-  value_typed (OpenAt s next) t = (refl, omega arith)
-  value_typed (CloseAt s next) t = (refl, omega arith)
-  value_typed (LoadAt m i into next) t = (refl, omega arith)
-  value_typed (StoreAt m i e next) t = t.1
-  value_typed (ClearAt a c next) t = (refl, omega arith)
-  value_typed EndAt t = (refl, omega arith)
-  value_typed TrapAt t = (refl, omega arith)
+pub value_typed : (S : Shape) (f : StateForm) → IsTypedState (kinds_in S) f → IsOfKind (kinds_in S) (value_of f) (value_kind S f)
+value_typed S (SetAt r e next) t = t
+value_typed S (CellAt a i e next) t = t.1
+value_typed S (TestAt e y n) t = t
+value_typed S (WriteAt s e next) t = t
+value_typed S (StoreAt m i e next) t = t.1
+value_typed S _ t = (refl, omega arith)
 
-  index_typed : (f : StateForm) → IsTypedState (kinds_in S) f → IsOfKind (kinds_in S) (index_of f) kind.U64 ⊎ (index_of f ≡ nothing)
-  index_typed (SetAt r e next) t = inr refl
-  index_typed (CellAt a i e next) t = inl t.0
-  index_typed (TestAt e y n) t = inr refl
-  index_typed (ReadAt s into next) t = inr refl
-  index_typed (WriteAt s e next) t = inr refl
-  index_typed (PeekAt s into next) t = inr refl
-  index_typed (EotAt s into next) t = inr refl
-  index_typed (OpenAt s next) t = inr refl
-  index_typed (CloseAt s next) t = inr refl
-  index_typed (LoadAt m i into next) t = inl t.0
-  index_typed (StoreAt m i e next) t = inl t.0
-  index_typed (ClearAt a c next) t = inr refl
-  index_typed EndAt t = inr refl
-  index_typed TrapAt t = inr refl
+pub index_typed : (S : Shape) (f : StateForm) → IsTypedState (kinds_in S) f → IsOfKind (kinds_in S) (index_of f) kind.U64 ⊎ (index_of f ≡ nothing)
+index_typed S (CellAt a i e next) t = inl t.0
+index_typed S (LoadAt m i into next) t = inl t.0
+index_typed S (StoreAt m i e next) t = inl t.0
+index_typed S _ t = inr refl
 
-  value_within : (f : StateForm) → IsInRange R f → NamesWithin R (value_of f)
-  value_within (SetAt r e next) g = g.1
-  value_within (CellAt a i e next) g = g.2
-  value_within (TestAt e y n) g = g.0
-  value_within (ReadAt s into next) g = tt
-  value_within (WriteAt s e next) g = g.1
-  value_within (PeekAt s into next) g = tt
-  value_within (EotAt s into next) g = tt
-  value_within (OpenAt s next) g = tt
-  value_within (CloseAt s next) g = tt
-  value_within (LoadAt m i into next) g = tt
-  value_within (StoreAt m i e next) g = g.2
-  value_within (ClearAt a c next) g = tt
-  value_within EndAt g = tt
-  value_within TrapAt g = tt
+pub value_within : (R : Ranges) (f : StateForm) → IsInRange R f → NamesWithin R (value_of f)
+value_within R (SetAt r e next) g = g.1
+value_within R (CellAt a i e next) g = g.2
+value_within R (TestAt e y n) g = g.0
+value_within R (WriteAt s e next) g = g.1
+value_within R (StoreAt m i e next) g = g.2
+value_within R _ g = tt
 
-  index_within : (f : StateForm) → IsInRange R f → NamesWithin R (index_of f)
-  index_within (SetAt r e next) g = tt
-  index_within (CellAt a i e next) g = g.1
-  index_within (TestAt e y n) g = tt
-  index_within (ReadAt s into next) g = tt
-  index_within (WriteAt s e next) g = tt
-  index_within (PeekAt s into next) g = tt
-  index_within (EotAt s into next) g = tt
-  index_within (OpenAt s next) g = tt
-  index_within (CloseAt s next) g = tt
-  index_within (LoadAt m i into next) g = g.1
-  index_within (StoreAt m i e next) g = g.1
-  index_within (ClearAt a c next) g = tt
-  index_within EndAt g = tt
-  index_within TrapAt g = tt
+pub index_within : (R : Ranges) (f : StateForm) → IsInRange R f → NamesWithin R (index_of f)
+index_within R (CellAt a i e next) g = g.1
+index_within R (LoadAt m i into next) g = g.1
+index_within R (StoreAt m i e next) g = g.1
+index_within R _ g = tt
+
+-- where registers and arrays stand
+module _ (S : Shape) where
+  after_own : IsAmong (each (variable S) (length S.registers) ++ each (array S) (length S.arrays)) (all S)
+  after_own = among_right (Register (state_bits S) (name StateNet) ∷ Register 1 (name Ended) ∷ []) (each (variable S) (length S.registers) ++ each (array S) (length S.arrays)) (all S) (held_in S)
+
+  pub variable_there : (r : ℕ) → r < length S.registers → Has (all S) (Register (bits_of (register_kind S r)) (name (Variable r)))
+  variable_there r h =
+      among_each (variable S) (length S.registers) r (all S) h (among_left (each (variable S) (length S.registers)) (each (array S) (length S.arrays)) (all S) after_own)
+      (Register (bits_of (register_kind S r)) (name (Variable r))) (inl refl)
+
+  pub array_there : (a : ℕ) → a < length S.arrays → Has (all S) (Memory (bits_of (array_kind S a)) (name (Array a)) (array_cells S a))
+  array_there a h =
+      among_each (array S) (length S.arrays) a (all S) h (among_right (each (variable S) (length S.registers)) (each (array S) (length S.arrays)) (all S) after_own)
+      (Memory (bits_of (array_kind S a)) (name (Array a)) (array_cells S a)) (inl refl)
 
 module _ (S : Shape) (title : Name) (run : ℕ → Cycle) (f : Follows (built title (task_elements S)) run) (n : ℕ) where
   -- each wire has its driver's value
@@ -184,12 +145,6 @@ module _ (S : Shape) (title : Name) (run : ℕ → Cycle) (f : Follows (built ti
     wire_driven title (task_elements S) run f w x v (among (Wire w x v) h) n,
     width_declared title (task_elements S) run f (Wire w x v) (record { name = x; net_kind = WireNet; bits = w; cells = 0 }) (among (Wire w x v) h) (inl refl) (λ e. cc),
   )
-
-  array_there : (a : ℕ) → a < length S.arrays → Has (all S) (Memory (bits_of (array_kind S a)) (name (Array a)) (array_cells S a))
-  array_there a h =
-      among_each (array S) (length S.arrays) a (all S) h
-      (among_right (each (variable S) (length S.registers)) (each (array S) (length S.arrays)) (all S) (among_right (Register (state_bits S) (name StateNet) ∷ Register 1 (name Ended) ∷ []) (each (variable S) (length S.registers) ++ each (array S) (length S.arrays)) (all S) (held_in S)))
-      (Memory (bits_of (array_kind S a)) (name (Array a)) (array_cells S a)) (inl refl)
 
   module _ (R : Ranges) (σ : State) (k : ℕ) (is : IsIn S R f.sizes (run n) k σ) where
     abbrev K : Kinds
@@ -218,12 +173,6 @@ module _ (S : Shape) (title : Name) (run : ℕ → Cycle) (f : Follows (built ti
 
       own_entry : (x : LineNet) → Has (spot_of S x p a k (slice_get (reads_at S k) p)) (spot_entry x)
       own_entry x = subst (λ es. Has es (spot_entry x)) (sym (given x)) (inl refl)
-
-      alone : (x : LineNet) (d : Entry) → Has (spot_of S x p a k (slice_get (reads_at S k) p)) d → spot_entry x ≡ d
-      alone x d h = only (subst (λ es. Has es d) (given x) h) where
-        only : Has (spot_entry x ∷ []) d → spot_entry x ≡ d
-        only (inl e) = e
-        only (inr e) = absurd e
 
       asked_among : IsAmong (asked_of S p k (Some r)) (all S)
       asked_among e h = asked_in S p k inside is.low e (subst (λ o. Has (asked_of S p k o) e) (sym got) h)
@@ -260,23 +209,14 @@ module _ (S : Shape) (title : Name) (run : ℕ → Cycle) (f : Follows (built ti
       abbrev pick_part : List Element
       pick_part = pick_elements (index_bits S a) (front (ArrayIndex p a)) (entries S (ArrayIndex p a))
 
-      both : IsAmong (any_part ++ pick_part) (all S)
-      both = among_left (any_part ++ pick_part) last_two (all S) answers
-
-      any_among : IsAmong (any_elements (front (Reads p a)) (entries S (Reads p a))) (all S)
-      any_among = among_left any_part pick_part (all S) both
-
-      pick_among : IsAmong (pick_elements (index_bits S a) (front (ArrayIndex p a)) (entries S (ArrayIndex p a))) (all S)
-      pick_among = among_right any_part pick_part (all S) both
-
-      two_among : IsAmong last_two (all S)
-      two_among = among_right (any_part ++ pick_part) last_two (all S) answers
+      parts : IsAmong any_part (all S) × IsAmong pick_part (all S) × IsAmong last_two (all S)
+      parts = among_three any_part pick_part last_two (all S) answers
 
       raw_there : Has (all S) (Wire (bits_of (array_kind S a)) (name (Raw p a)) (Cell (name (Array a)) (choice (front (ArrayIndex p a)) (entries S (ArrayIndex p a)))))
-      raw_there = two_among _ (inl refl)
+      raw_there = parts.2 _ (inl refl)
 
       answer_there : Has (all S) (Wire (bits_of (array_kind S a)) (name (Answer p a)) (Choose (Net (choice (front (Reads p a)) (entries S (Reads p a)))) (net (Raw p a)) (Literal (bits_of (array_kind S a)) 0)))
-      answer_there = two_among _ (inr (inl refl))
+      answer_there = parts.2 _ (inr (inl refl))
 
       abbrev root : Name
       root = choice (front (Reads p a)) (entries S (Reads p a))
@@ -294,14 +234,14 @@ module _ (S : Shape) (title : Name) (run : ℕ → Cycle) (f : Follows (built ti
           let few = is.few a in
           let bits : array_cells S a - 1 < 2 ^ index_bits S a = fits_bits (array_cells S a - 1) (omega (arith, few)) in
           let on : (run n).net (name (ReadOn k p)) ≡ 1 = on_is ∙ ap one_if e in
-          let set : (run n).net root ≡ 1 = any_on S title run f (Reads p a) any_among n k is.low (spot_entry (ReadOn k p)) (own_entry (ReadOn k p)) on in
+          let set : (run n).net root ≡ 1 = any_on S title run f (Reads p a) parts.0 n k is.low (spot_entry (ReadOn k p)) (own_entry (ReadOn k p)) on in
           let some : 0 < index_bits S a = has_bits (array_cells S a - 1) (omega (arith, few)) in
           let low_is : atom_value (run n) (low_bits (index_bits S a) (read_index p k r).atom) ≡ v =
           low_bits_is f.sizes (run n) 64 v (index_bits S a) (read_index p k r).atom shown some ∙ mod-eq_of_lt (omega (arith, low, bits)) in
           let spot : (run n).net (choice (front (ArrayIndex p a)) (entries S (ArrayIndex p a))) ≡ v =
-          pick_on S title run f (ArrayIndex p a) (index_bits S a) pick_among n k v is.here is.low (λ d h. inr (subst (λ (z : Entry). atom_value (run n) z.value ≡ v) (alone (At k) d h) low_is)) (spot_entry (At k)) (own_entry (At k))
+          pick_on S title run f (ArrayIndex p a) (index_bits S a) parts.1 n k v is.here is.low (λ d h. inr (subst (λ (z : Entry). atom_value (run n) z.value ≡ v) (alone _ (spot_entry (At k)) d (given (At k)) h) low_is)) (spot_entry (At k)) (own_entry (At k))
           (at_here S title run f n k is.low is.here) in
-          let cells : f.sizes.cells (name (Array a)) ≡ array_cells S a = cells_declared title (task_elements S) run f (bits_of (array_kind S a)) (name (Array a)) (array_cells S a) (array_there a there) in
+          let cells : f.sizes.cells (name (Array a)) ≡ array_cells S a = cells_declared title (task_elements S) run f (bits_of (array_kind S a)) (name (Array a)) (array_cells S a) (array_there S a there) in
           let raw : (run n).net (name (Raw p a)) ≡ (run n).cell (name (Array a)) v =
           wire_driven title (task_elements S) run f (bits_of (array_kind S a)) (name (Raw p a)) (Cell (name (Array a)) (choice (front (ArrayIndex p a)) (entries S (ArrayIndex p a)))) raw_there n
           ∙ ap (λ z. cond (nat_lt z (f.sizes.cells (name (Array a)))) ((run n).cell (name (Array a)) z) 0) spot
@@ -310,7 +250,7 @@ module _ (S : Shape) (title : Name) (run : ℕ → Cycle) (f : Follows (built ti
       here false e =
           let off : (run n).net (name (ReadOn k p)) ≡ 0 = on_is ∙ ap one_if e in
           let some : 0 < length (entries S (Reads p a)) = some_length (entries S (Reads p a)) (spot_entry (ReadOn k p)) (has_each (effect S (Reads p a)) (state_count S) k (spot_entry (ReadOn k p)) is.low (own_entry (ReadOn k p))) in
-          let clear : (run n).net root ≡ 0 = any_off S title run f (Reads p a) any_among n k is.here some (λ d h. subst (λ (z : Entry). (run n).net z.condition ≡ 0) (alone (ReadOn k p) d h) off) in
+          let clear : (run n).net root ≡ 0 = any_off S title run f (Reads p a) parts.0 n k is.here some (λ d h. subst (λ (z : Entry). (run n).net z.condition ≡ 0) (alone _ (spot_entry (ReadOn k p)) d (given (ReadOn k p)) h) off) in
           answer_is ∙ ap (λ z. cond (eqb z 1) ((run n).net (name (Raw p a))) 0) clear ∙ sym (cell_is ∙ ap (λ z. cond z ((run n).cell (name (Array a)) v) 0) e)
 
       read_shown : AnswerShown f.sizes (run n) K σ p r
@@ -338,8 +278,6 @@ module _ (S : Shape) (title : Name) (run : ℕ → Cycle) (f : Follows (built ti
 
     -- the reads of an expression
     answers_of : (e : Expression) (j : Kind) (m : ℕ) → IsOfKind K e j → NamesWithin R e → Numbered IsRead m (reads_in m e) → Answers m (reads_in m e)
-    answers_of (Number i v) j m t g h = tt
-    answers_of (Reg x) j m t g h = tt
     answers_of (CellOf a i) j m t g h =
         let r : ArrayRead = record { array = a; index = i; first = m } in
         let first = answers_of i kind.U64 m t.1 g.1 (numbered_left IsRead m (reads_in m i) (r ∷ []) h) in
@@ -367,6 +305,7 @@ module _ (S : Shape) (title : Name) (run : ℕ → Cycle) (f : Follows (built ti
         (numbered_join (AnswerShown f.sizes (run n) K σ) (m + read_count e) x (reads_in (m + read_count e + read_count x) y)
         (answers_of x j (m + read_count e) t.1 g.1 (numbered_left IsRead (m + read_count e) (reads_in (m + read_count e) x) (reads_in (m + read_count e + read_count x) y) late))
         (answers_of y j (m + read_count e + read_count x) t.2 g.2 (numbered_second IsRead (m + read_count e) x (reads_in (m + read_count e + read_count x) y) late)))
+    answers_of _ j m t g h = tt
 
     abbrev index : Expression
     index = index_of (form_at S k)
@@ -375,18 +314,18 @@ module _ (S : Shape) (title : Name) (run : ℕ → Cycle) (f : Follows (built ti
     late_reads = reads_in (read_count index) (value_of (form_at S k))
 
     are_reads : Numbered IsRead 0 (reads_at S k)
-    are_reads = numbered_all [] (reads_at S k)
+    are_reads = numbered_from IsRead 0 (reads_at S k) (λ i r e. let z : i ≡ 0 + i = omega arith in subst (λ p. slice_get (reads_at S k) p ≡ Some r) z e)
 
     index_answers : Answers 0 (reads_in 0 index)
     index_answers =
-        ⊎_elim (λ t. answers_of index kind.U64 0 t (index_within S R (form_at S k) is.ranged) (numbered_left IsRead 0 (reads_in 0 index) late_reads are_reads)) (λ e. subst (λ z. Answers 0 (reads_in 0 z)) (sym e) tt) (index_typed S R (form_at S k) is.typed)
+        ⊎_elim (λ t. answers_of index kind.U64 0 t (index_within R (form_at S k) is.ranged) (numbered_left IsRead 0 (reads_in 0 index) late_reads are_reads)) (λ e. subst (λ z. Answers 0 (reads_in 0 z)) (sym e) tt) (index_typed S (form_at S k) is.typed)
 
     none_before : (m : ℕ) → 0 + m ≡ m
     none_before m = omega arith
 
     value_answers : Answers (read_count index) late_reads
     value_answers =
-        answers_of (value_of (form_at S k)) (value_kind S (form_at S k)) (read_count index) (value_typed S R (form_at S k) is.typed) (value_within S R (form_at S k) is.ranged)
+        answers_of (value_of (form_at S k)) (value_kind S (form_at S k)) (read_count index) (value_typed S (form_at S k) is.typed) (value_within R (form_at S k) is.ranged)
         (subst (λ z. Numbered IsRead z late_reads) (none_before (read_count index)) (numbered_second IsRead 0 index late_reads are_reads))
 
     pub reads_shown : AnswersShown f.sizes (run n) K σ 0 (reads_at S k)
@@ -395,11 +334,11 @@ module _ (S : Shape) (title : Name) (run : ℕ → Cycle) (f : Follows (built ti
 
     pub value_shown : Shows f.sizes (run n) (value_wires S k).atom (bits_of (value_kind S (form_at S k))) (value (value_of (form_at S k)) σ)
     value_shown =
-        computed f.sizes (run n) K R σ is.fits is.registers (value_of (form_at S k)) (value_kind S (form_at S k)) (value_front k) (read_count index) 0 (value_typed S R (form_at S k) is.typed) (value_within S R (form_at S k) is.ranged) value_answers
+        computed f.sizes (run n) K R σ is.fits is.registers (value_of (form_at S k)) (value_kind S (form_at S k)) (value_front k) (read_count index) 0 (value_typed S (form_at S k) is.typed) (value_within R (form_at S k) is.ranged) value_answers
         (told (value_wires S k).elements (value_in S k is.low))
 
     pub index_shown : IsOfKind K index kind.U64 → Shows f.sizes (run n) (index_wires S k).atom 64 (value index σ)
-    index_shown t = computed f.sizes (run n) K R σ is.fits is.registers index kind.U64 (index_front k) 0 0 t (index_within S R (form_at S k) is.ranged) index_answers (told (index_wires S k).elements (index_in S k is.low))
+    index_shown t = computed f.sizes (run n) K R σ is.fits is.registers index kind.U64 (index_front k) 0 0 t (index_within R (form_at S k) is.ranged) index_answers (told (index_wires S k).elements (index_in S k is.low))
 
 pub reads_are_shown : ReadsAreShown
 reads_are_shown S title run f R σ n k is = reads_shown S title run f n R σ k is

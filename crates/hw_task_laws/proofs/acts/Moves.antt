@@ -1,5 +1,5 @@
 -- The next state and the next values of registers.
-use Rattle.std.proofs.Common.{◌≡◌, ℕ, suc, ◌+◌, ◌-◌, ◌<◌, Bool, true, false, cond, eqb, ◌||◌, List, [], ◌∷◌, ◌++◌, length, inl, inr, refl, sym, ap, subst, ◌∙◌, arith}
+use Rattle.std.proofs.Common.{◌≡◌, ℕ, suc, ◌-◌, ◌<◌, Bool, true, false, cond, eqb, ◌||◌, List, [], ◌∷◌, ◌++◌, length, inl, inr, refl, sym, ap, subst, ◌∙◌}
 use Rattle.std.specs.Prelude.{nat_lt, bytes_eq, slice_index}
 use Rattle.std.specs.List.{list_any}
 use Rattle.std.specs.Cmp.Lexicographic.{bytes_decides}
@@ -32,7 +32,7 @@ use Rattle.hw_build.specs.Scope.{each}
 use Rattle.hw_build.specs.Choices.{Entry, any_elements, pick_elements}
 use Rattle.hw_build.specs.Fits.{IsAmong}
 use Rattle.hw_build.proofs.Parts.{has_each}
-use Rattle.task_fsm.specs.Machine.{Expression, StateForm, SetAt, CellAt, TestAt, ReadAt, WriteAt, PeekAt, EotAt, OpenAt, CloseAt, LoadAt, StoreAt, ClearAt, EndAt, TrapAt}
+use Rattle.task_fsm.specs.Machine.{Expression, StateForm, TestAt, ReadAt, WriteAt, PeekAt, EotAt, OpenAt, CloseAt, LoadAt, StoreAt, ClearAt}
 use Rattle.task_fsm.specs.MachineKinds.{IsTypedState}
 use Rattle.task_fsm.specs.Ranges.{Ranges, IsInRange}
 use Rattle.task_fsm.specs.Run.{value}
@@ -44,20 +44,13 @@ use Rattle.hw_lines.specs.Nets.{name, front, value_front}
 use Rattle.hw_lines.specs.Shape.{Shape, kinds_in, array_cells, register_kind, state_count, state_bits, form_at}
 use Rattle.hw_lines.specs.States.{net, number_of, next_of, next_wires, next_atom, value_wires, value_of, into_of, counting, more_wires}
 use Rattle.hw_lines.specs.Effects.{effect, entries, first_value}
-use Rattle.hw_lines.specs.Texts.{variable, array, any, pick, root, variable_choices, array_choices, register_block, variable_block, array_block, blocks, task_elements, reset_of}
+use Rattle.hw_lines.specs.Texts.{any, pick, root, variable_choices, array_choices, register_block, variable_block, array_block, task_elements, reset_of}
 use Rattle.hw_task_laws.specs.acts.Reads.{IsIn}
-use Rattle.hw_task_laws.specs.acts.Moves.{place_after, set_next, StateMoves, StateGoesOn, RegistersGoOn}
+use Rattle.hw_task_laws.specs.acts.Moves.{place_after, set_next, RegistersGoOn}
 use Rattle.hw_lines.proofs.Members.{all, held_in, choices_in, blocks_in, next_in, more_in, among_left, among_right, among_each}
 use Rattle.hw_lines.proofs.Decodes.{at_here, any_on, any_off, pick_on}
 use Rattle.hw_task_laws.proofs.wires.Computed.{choose_bit}
-use Rattle.hw_task_laws.proofs.acts.Answered.{value_shown}
-
--- the only entry that a state gives
-pub alone : (es : List Entry) (e d : Entry) → es ≡ e ∷ [] → Has es d → e ≡ d
-alone es e d is h = only (subst (λ l. Has l d) is h) where
-  only : Has (e ∷ []) d → e ≡ d
-  only (inl s) = s
-  only (inr n) = absurd n
+use Rattle.hw_task_laws.proofs.acts.Answered.{some_length, alone, variable_there, value_shown}
 
 module _ (S : Shape) (title : Name) (run : ℕ → Cycle) (f : Follows (built title (task_elements S)) run) (n k : ℕ) (here : (run n).net (name StateNet) ≡ k) (low : k < state_count S) where
   -- a value of a state's only entry, where its condition holds
@@ -73,18 +66,15 @@ module _ (S : Shape) (title : Name) (run : ℕ → Cycle) (f : Follows (built ti
 
   pub only_clear : (c : Choice) → IsAmong (any_elements (front c) (entries S c)) (all S) → (e : Entry) → effect S c k ≡ e ∷ [] → (run n).net e.condition ≡ 0 → (run n).net (root S c) ≡ 0
   only_clear c among e is off =
-      any_off S title run f c among n k here (some (entries S c) (has_each (effect S c) (state_count S) k e low (subst (λ es. Has es e) (sym is) (inl refl))))
-      (λ d h. subst (λ (z : Entry). (run n).net z.condition ≡ 0) (alone (effect S c k) e d is h) off) where
-        some : (es : List Entry) → Has es e → 0 < length es
-        some [] h = absurd h
-        some (x ∷ xs) h = omega arith
+      any_off S title run f c among n k here (some_length (entries S c) e (has_each (effect S c) (state_count S) k e low (subst (λ es. Has es e) (sym is) (inl refl))))
+      (λ d h. subst (λ (z : Entry). (run n).net z.condition ≡ 0) (alone (effect S c k) e d is h) off)
 
   -- a state without one
   pub none_clear : (c : Choice) → IsAmong (any_elements (front c) (entries S c)) (all S) → 0 < length (entries S c) → effect S c k ≡ [] → (run n).net (root S c) ≡ 0
   none_clear c among some is = any_off S title run f c among n k here some (λ d h. absurd (subst (λ es. Has es d) is h))
 
 -- a Clear's test of its counter
-counter_there : (S : Shape) (k a c next : ℕ) → Has (more_wires S k (ClearAt a c next)) (Wire 1 (name (Value k 0)) (Binary (net (Variable c)) Less (Literal 32 (array_cells S a - 1))))
+pub counter_there : (S : Shape) (k a c next : ℕ) → Has (more_wires S k (ClearAt a c next)) (Wire 1 (name (Value k 0)) (Binary (net (Variable c)) Less (Literal 32 (array_cells S a - 1))))
 unfolding name value_front
 counter_there S k a c next = has_right (into_of S k a (net (Variable c)) 32) (counting S k a c) _ (inl refl)
 
@@ -131,8 +121,6 @@ module _ (S : Shape) (title : Name) (run : ℕ → Cycle) (f : Follows (built ti
   bit_choice false x y = refl
 
   next_is : (g : StateForm) → form_at S k ≡ g → atom_value (run n) (next_atom S k g) ≡ place_after S (run n) k σ g
-  next_is (SetAt r e next) same = refl
-  next_is (CellAt a i e next) same = refl
   next_is (TestAt e y m) same =
       by_test (TestAt e y m) same (value_wires S k).atom y m refl ∙ ap (λ z. cond (eqb z 1) y m) (tested e y m same) ∙ choose_bit (value e σ) y m (test_low e y m same)
   next_is (ReadAt s into next) same = by_test (ReadAt s into next) same (net (Datum s)) next k refl
@@ -145,14 +133,10 @@ module _ (S : Shape) (title : Name) (run : ℕ → Cycle) (f : Follows (built ti
   next_is (StoreAt m i e next) same = by_test (StoreAt m i e next) same (net (Ack m)) next k refl
   next_is (ClearAt a c next) same =
       by_test (ClearAt a c next) same (net (Value k 0)) k next refl ∙ ap (λ z. cond (eqb z 1) k next) (counted a c next same) ∙ bit_choice (nat_lt (slice_index σ.vars c) (array_cells S a - 1)) k next
-  next_is EndAt same = refl
-  next_is TrapAt same = refl
+  next_is _ same = refl
 
-  moves : (run n).net (root S ToState) ≡ place_after S (run n) k σ (form_at S k)
-  moves = root_is ∙ next_is (form_at S k) refl
-
-pub state_moves : StateMoves
-state_moves S title run f R σ n k is = moves S title run f R σ n k is
+  pub state_moves : (run n).net (root S ToState) ≡ place_after S (run n) k σ (form_at S k)
+  state_moves = root_is ∙ next_is (form_at S k) refl
 
 -- ---- the blocks of registers
 
@@ -180,18 +164,10 @@ module _ (S : Shape) (title : Name) (run : ℕ → Cycle) (f : Follows (built ti
   state_block : Has (all S) (Block (reset_or (name StateNet) (Literal (state_bits S) 0) (Net (root S ToState))))
   state_block = blocks_in S (Block (reset_or (name StateNet) (Literal (state_bits S) 0) (Net (root S ToState)))) (inl refl)
 
-  state_next : (run (suc n)).net (name StateNet) ≡ cond (eqb ((run n).net rst) 1) 0 ((run n).net (root S ToState))
-  state_next =
+  pub state_goes_on : (run (suc n)).net (name StateNet) ≡ cond (eqb ((run n).net rst) 1) 0 ((run n).net (root S ToState))
+  state_goes_on =
       reset_is m run f (state_bits S) (name StateNet) (Literal (state_bits S) 0) (Net (root S ToState)) (register_line (state_bits S) (name StateNet) state_there)
       (own (state_bits S) rst (name StateNet) (Literal (state_bits S) 0) (Else ∷ NonblockingAssign (name StateNet) (Net (root S ToState)) ∷ End ∷ []) state_there state_block) n
-
-  variables : IsAmong (each (variable S) (length S.registers)) (all S)
-  variables =
-      among_left (each (variable S) (length S.registers)) (each (array S) (length S.arrays)) (all S)
-      (among_right (Register (state_bits S) (name StateNet) ∷ Register 1 (name Ended) ∷ []) (each (variable S) (length S.registers) ++ each (array S) (length S.arrays)) (all S) (held_in S))
-
-  variable_there : (r : ℕ) → r < length S.registers → Has (all S) (Register (bits_of (register_kind S r)) (name (Variable r)))
-  variable_there r h = among_each (variable S) (length S.registers) r (all S) h variables (Register (bits_of (register_kind S r)) (name (Variable r))) (inl refl)
 
   variable_blocks : IsAmong (each (variable_block S) (length S.registers)) (all S)
   variable_blocks =
@@ -215,10 +191,7 @@ module _ (S : Shape) (title : Name) (run : ℕ → Cycle) (f : Follows (built ti
       register_takes m run f w x (reset_block reset set x first (Net next)) (register_line w x h) (own w reset x first (Else ∷ If set ∷ NonblockingAssign x (Net next) ∷ End ∷ End ∷ []) h b) n
       ∙ reset_leaves f.sizes (run n) (run n) reset set x first (Net next)
 
-pub state_goes_on : StateGoesOn
-state_goes_on S title run f ms fit n = state_next S title run f ms fit n
-
 pub registers_go_on : RegistersGoOn
 registers_go_on S title run f ms fit n r h =
     goes_on S title run f ms fit n (bits_of (register_kind S r)) (reset_of r (entries S (Clear r))) (name (Variable r)) (first_value S r) (entries S (Set r)) (root S (Set r)) (root S (NextValue r))
-    (variable_there S title run f ms fit n r h) (block_there S title run f ms fit n r h)
+    (variable_there S r h) (block_there S title run f ms fit n r h)

@@ -25,16 +25,15 @@ use Rattle.tapa_base.proofs.Lists.{has_flat}
 use Rattle.vlog_module_laws.specs.Blocks.{IsOwnBlock}
 use Rattle.vlog_module_laws.proofs.Blocks.{items_leave}
 use Rattle.vlog_module_laws.proofs.Lines.{line}
-use Rattle.hw_build.specs.Elements.{Element, Wire, Register, Memory, Block, built, reset_or, stored}
+use Rattle.hw_build.specs.Elements.{Element, Wire, Memory, Block, built, reset_or, stored}
 use Rattle.hw_build.specs.Fitting.{AreFitting, stored_names}
-use Rattle.hw_build.proofs.Tables.{same_name}
 use Rattle.hw_build.proofs.Driven.{wire_driven, line_there, cells_declared, block_is_own}
 use Rattle.hw_build.proofs.Meaning.{stored_is}
 use Rattle.hw_build.specs.Scope.{each}
 use Rattle.hw_build.specs.Choices.{Entry}
 use Rattle.hw_build.specs.Fits.{IsAmong}
 use Rattle.hw_build.proofs.Parts.{has_each}
-use Rattle.task_fsm.specs.Machine.{Expression, StateForm, SetAt, CellAt, TestAt, ReadAt, WriteAt, PeekAt, EotAt, OpenAt, CloseAt, LoadAt, StoreAt, ClearAt, EndAt, TrapAt}
+use Rattle.task_fsm.specs.Machine.{Expression, StateForm, CellAt, ReadAt, PeekAt, EotAt, LoadAt, ClearAt}
 use Rattle.task_fsm.specs.MachineKinds.{IsOfKind, IsTypedState}
 use Rattle.task_fsm.specs.Ranges.{IsInRange}
 use Rattle.task_fsm.specs.Run.{value, step, put_into, is_last, clear_step}
@@ -46,19 +45,22 @@ use Rattle.hw_lines.specs.Shape.{Shape, kinds_in, array_kind, array_cells, index
 use Rattle.hw_lines.specs.Drivers.{low_bits}
 use Rattle.hw_lines.specs.States.{net, index_of, value_of, index_wires, value_wires, into_of, counting, more_wires}
 use Rattle.hw_lines.specs.Effects.{entry, at, places, contents, effect, entries}
-use Rattle.hw_lines.specs.Texts.{array, variable, unless_none, any, pick, root, variable_choices, array_choices, register_block, variable_block, array_block, task_elements}
+use Rattle.hw_lines.specs.Texts.{any, pick, root, variable_choices, array_choices, register_block, variable_block, array_block, task_elements}
 use Rattle.hw_lines.specs.After.{held_after}
-use Rattle.hw_lines.proofs.Members.{all, held_in, choices_in, blocks_in, more_in, among_left, among_right, among_each}
+use Rattle.hw_lines.proofs.Members.{all, choices_in, blocks_in, more_in, among_right, among_each}
 use Rattle.hw_lines.proofs.Decodes.{at_here}
 use Rattle.hw_task_laws.specs.wires.Shows.{Shows}
 use Rattle.hw_task_laws.proofs.wires.Shown.{low_bits_is}
-use Rattle.hw_task_laws.proofs.acts.Answered.{fits_bits, has_bits, value_shown, index_shown}
+use Rattle.hw_task_laws.proofs.acts.Answered.{among_three, has_bits, some_length, array_there, value_shown, index_shown, not_none}
 use Rattle.hw_task_laws.proofs.acts.Moves.{only_picked, only_set, only_clear, none_clear}
 use Rattle.hw_task_laws.specs.steps.Steps.{ranges_in, allowed, found_by, IsAt}
 use Rattle.hw_task_laws.proofs.steps.Allowed.{one_and}
 use Rattle.hw_task_laws.specs.effects.Held.{held_by, HasFew, ArraysAreHeld}
 use Rattle.hw_task_laws.proofs.effects.Outs.{at_same, at_other}
+use Rattle.hw_task_laws.proofs.effects.Memories.{same_part}
 use Rattle.hw_task_laws.proofs.effects.Blocks.{no_block}
+use Rattle.vlog_module_laws.proofs.Forms.{itself as same_name}
+use Rattle.hw_task_laws.proofs.form.Task.{fits_bits}
 
 -- ---- one cell of rows of cells
 
@@ -81,10 +83,6 @@ cell_past rows a i j v h l =
 cell_other : (rows : List (List ℕ)) (y a i j v : ℕ) → (y ≡ a → ⊥) → cell rows a i ≡ cell (with_cell rows y j v) a i
 cell_other rows y a i j v ne = sym (ap (λ (z : List ℕ). slice_index z i) (get_or-set_other rows y a (slice_set (slice_index_or rows y []) j v) [] (λ e. ne (sym e))))
 
-not_none : (es : List Entry) (e : Entry) (elements : List Element) → Has es e → unless_none es elements ≡ elements
-not_none [] e elements h = absurd h
-not_none (d ∷ es) e elements h = refl
-
 stores_it : (x : Name) (write index : Name) (value : Atom) → list_any (step_assigns x) (stored x write index value) ≡ true
 stores_it x write index value = ap (λ b. b || false) (same_name x)
 
@@ -97,10 +95,6 @@ inside_there S k a p bits more = inl refl
 true_behind : (b : Bool) → (true && b && true) ≡ b
 true_behind true = refl
 true_behind false = refl
-
-same_arrays : (b : Bool) (τ σ : State) (a i : ℕ) → τ.arrays ≡ σ.arrays → cell σ.arrays a i ≡ cell (cond b τ σ).arrays a i
-same_arrays true τ σ a i e = ap (λ rows. cell rows a i) (sym e)
-same_arrays false τ σ a i e = refl
 
 into_arrays : (σ : State) (into : Option ℕ) (v : ℕ) → (put_into σ into v).arrays ≡ σ.arrays
 into_arrays σ None v = refl
@@ -129,36 +123,18 @@ module _ (S : Shape) (title : Name) (run : ℕ → Cycle) (f : Follows (built ti
   abbrev block : List Step
   block = stored (name (Array a)) write spot (NetAtom content)
 
-  memory_there : Has (all S) (Memory kind_bits (name (Array a)) (array_cells S a))
-  memory_there =
-      among_each (array S) (length S.arrays) a (all S) there
-      (among_right (each (variable S) (length S.registers)) (each (array S) (length S.arrays)) (all S)
-      (among_right (Register (state_bits S) (name StateNet) ∷ Register 1 (name Ended) ∷ []) (each (variable S) (length S.registers) ++ each (array S) (length S.arrays)) (all S) (held_in S)))
-      (Memory kind_bits (name (Array a)) (array_cells S a)) (inl refl)
-
   pub memory_line : Has (built title (task_elements S)).items (MemoryLine kind_bits (name (Array a)) (array_cells S a))
-  memory_line = line_there title (task_elements S) (Memory kind_bits (name (Array a)) (array_cells S a)) (MemoryLine kind_bits (name (Array a)) (array_cells S a)) memory_there (inl refl)
+  memory_line = line_there title (task_elements S) (Memory kind_bits (name (Array a)) (array_cells S a)) (MemoryLine kind_bits (name (Array a)) (array_cells S a)) (array_there S a there) (inl refl)
 
   cells_are : f.sizes.cells (name (Array a)) ≡ array_cells S a
-  cells_are = cells_declared title (task_elements S) run f kind_bits (name (Array a)) (array_cells S a) memory_there
+  cells_are = cells_declared title (task_elements S) run f kind_bits (name (Array a)) (array_cells S a) (array_there S a there)
 
   -- the choices
-  three_among : IsAmong (array_choices S a) (all S)
-  three_among =
-      among_each (array_choices S) (length S.arrays) a (all S) there
-      (among_right ((pick S (state_bits S) ToState ++ any S ToEnd) ++ each (variable_choices S) (length S.registers)) (each (array_choices S) (length S.arrays)) (all S) (choices_in S))
-
-  two_among : IsAmong (any S (Stores a) ++ pick S (index_bits S a) (WriteIndex a)) (all S)
-  two_among = among_left (any S (Stores a) ++ pick S (index_bits S a) (WriteIndex a)) (pick S kind_bits (WriteData a)) (all S) three_among
-
-  content_among : IsAmong (pick S kind_bits (WriteData a)) (all S)
-  content_among = among_right (any S (Stores a) ++ pick S (index_bits S a) (WriteIndex a)) (pick S kind_bits (WriteData a)) (all S) three_among
-
-  pub any_among : IsAmong (any S (Stores a)) (all S)
-  any_among = among_left (any S (Stores a)) (pick S (index_bits S a) (WriteIndex a)) (all S) two_among
-
-  place_among : IsAmong (pick S (index_bits S a) (WriteIndex a)) (all S)
-  place_among = among_right (any S (Stores a)) (pick S (index_bits S a) (WriteIndex a)) (all S) two_among
+  pub parts : IsAmong (any S (Stores a)) (all S) × IsAmong (pick S (index_bits S a) (WriteIndex a)) (all S) × IsAmong (pick S kind_bits (WriteData a)) (all S)
+  parts =
+      among_three (any S (Stores a)) (pick S (index_bits S a) (WriteIndex a)) (pick S kind_bits (WriteData a)) (all S)
+      (among_each (array_choices S) (length S.arrays) a (all S) there
+      (among_right ((pick S (state_bits S) ToState ++ any S ToEnd) ++ each (variable_choices S) (length S.registers)) (each (array_choices S) (length S.arrays)) (all S) (choices_in S)))
 
   -- the block, where a state stores
   block_there : (e : Entry) → Has (entries S (Stores a)) e → Has (all S) (Block block)
@@ -173,7 +149,7 @@ module _ (S : Shape) (title : Name) (run : ℕ → Cycle) (f : Follows (built ti
   own : (e : Entry) → Has (entries S (Stores a)) e → IsOwnBlock (built title (task_elements S)).items (name (Array a)) block
   own e h =
       block_is_own ms title (task_elements S) fit block (name (Array a)) (block_there e h)
-      (has_flat stored_names (task_elements S) (Memory kind_bits (name (Array a)) (array_cells S a)) (name (Array a)) memory_there (inl refl)) (stores_it (name (Array a)) write spot (NetAtom content))
+      (has_flat stored_names (task_elements S) (Memory kind_bits (name (Array a)) (array_cells S a)) (name (Array a)) (array_there S a there) (inl refl)) (stores_it (name (Array a)) write spot (NetAtom content))
 
   stores : (e : Entry) → Has (entries S (Stores a)) e
       → (run (suc n)).cell (name (Array a)) i
@@ -221,11 +197,8 @@ module _ (S : Shape) (title : Name) (run : ℕ → Cycle) (f : Follows (built ti
     kept : places S (Into k) a k (form_at S k) ≡ [] → (run (suc n)).cell (name (Array a)) i ≡ cell σ.arrays a i
     kept none =
         left S title run f ms fit few n a i there inside
-        (λ d h. none_clear S title run f n k is.shows.here is.shows.low (Stores a) (any_among S title run f ms fit few n a i there inside) (some (entries S (Stores a)) d h) none)
-        ∙ old_is where
-          some : (es : List Entry) (d : Entry) → Has es d → 0 < length es
-          some [] d h = absurd h
-          some (e ∷ es) d h = omega arith
+        (λ d h. none_clear S title run f n k is.shows.here is.shows.low (Stores a) (parts S title run f ms fit few n a i there inside).0 (some_length (entries S (Stores a)) d h) none)
+        ∙ old_is
 
     low_row : a < length σ.arrays
     low_row = subst (λ z. a < z) (sym is.sizes.arrays) there
@@ -264,11 +237,11 @@ module _ (S : Shape) (title : Name) (run : ℕ → Cycle) (f : Follows (built ti
             let some : 0 < index_bits S a = has_bits (array_cells S a - 1) (omega (arith, most)) in
             let small : j < 2 ^ index_bits S a = omega (arith, low, top) in
             let on : (run n).net (name (Into k)) ≡ 1 = into e ∙ ap one_if h in
-            let set : (run n).net (root S (Stores a)) ≡ 1 = only_set S title run f n k is.shows.here is.shows.low (Stores a) (any_among S title run f ms fit few n a i there inside) (place_entry (Into k)) only_store on in
+            let set : (run n).net (root S (Stores a)) ≡ 1 = only_set S title run f n k is.shows.here is.shows.low (Stores a) (parts S title run f ms fit few n a i there inside).0 (place_entry (Into k)) only_store on in
             let index : (run n).net (root S (WriteIndex a)) ≡ j =
-            only_picked S title run f n k is.shows.here is.shows.low (WriteIndex a) (index_bits S a) (place_among S title run f ms fit few n a i there inside) (place_entry (At k)) only_place here_on
+            only_picked S title run f n k is.shows.here is.shows.low (WriteIndex a) (index_bits S a) (parts S title run f ms fit few n a i there inside).1 (place_entry (At k)) only_place here_on
             ∙ low_bits_is f.sizes (run n) w j (index_bits S a) p shown some ∙ mod-eq_of_lt small in
-            let got : (run n).net (root S (WriteData a)) ≡ v = only_picked S title run f n k is.shows.here is.shows.low (WriteData a) (bits_of (array_kind S a)) (content_among S title run f ms fit few n a i there inside) content_entry only_content here_on ∙ valued in
+            let got : (run n).net (root S (WriteData a)) ≡ v = only_picked S title run f n k is.shows.here is.shows.low (WriteData a) (bits_of (array_kind S a)) (parts S title run f ms fit few n a i there inside).2 content_entry only_content here_on ∙ valued in
             let row : j < cells_of σ a = subst (λ z. j < z) (sym (is.sizes.rows a there)) low in
             stores S title run f ms fit few n a i there inside (place_entry (Into k)) has_one
             ∙ ap (λ z. cond (eqb z 1 && eqb i ((run n).net (root S (WriteIndex a))) && ltb ((run n).net (root S (WriteIndex a))) (f.sizes.cells (name (Array a)))) ((run n).net (root S (WriteData a))) old) set
@@ -279,7 +252,7 @@ module _ (S : Shape) (title : Name) (run : ℕ → Cycle) (f : Follows (built ti
         by_bit false h =
             let past : array_cells S a ≤ j = ltb-false j (array_cells S a) h in
             let row : cells_of σ a ≤ j = subst (λ z. z ≤ j) (sym (is.sizes.rows a there)) past in
-            off (place_entry (Into k)) has_one (only_clear S title run f n k is.shows.here is.shows.low (Stores a) (any_among S title run f ms fit few n a i there inside) (place_entry (Into k)) only_store (into e ∙ ap one_if h)) ∙ cell_past σ.arrays a i j v low_row row
+            off (place_entry (Into k)) has_one (only_clear S title run f n k is.shows.here is.shows.low (Stores a) (parts S title run f ms fit few n a i there inside).0 (place_entry (Into k)) only_store (into e ∙ ap one_if h)) ∙ cell_past σ.arrays a i j v low_row row
 
       stored_there : (run (suc n)).cell (name (Array a)) i ≡ cell (with_cell σ.arrays y j v) a i
       stored_there =
@@ -288,7 +261,7 @@ module _ (S : Shape) (title : Name) (run : ℕ → Cycle) (f : Follows (built ti
 
     stays : (g : StateForm) → form_at S k ≡ g → places S (Into k) a k g ≡ [] → (held_after (step g k σ) σ (found_by S run n (step g k σ))).arrays ≡ σ.arrays
         → (run (suc n)).cell (name (Array a)) i ≡ cell (held_by S run n σ (step g k σ)).arrays a i
-    stays g same none e = kept (ap (places S (Into k) a k) same ∙ none) ∙ same_arrays (allowed S run n (step g k σ)) (held_after (step g k σ) σ (found_by S run n (step g k σ))) σ a i e
+    stays g same none e = kept (ap (places S (Into k) a k) same ∙ none) ∙ same_part (λ (τ : State). cell τ.arrays a i) (allowed S run n (step g k σ)) (held_after (step g k σ) σ (found_by S run n (step g k σ))) σ (ap (λ rows. cell rows a i) e)
 
     cell_at : (y : ℕ) (j e : Expression) (next : ℕ) → form_at S k ≡ CellAt y j e next → (run (suc n)).cell (name (Array a)) i ≡ cell (with_cell σ.arrays y (value j σ) (value e σ)) a i
     cell_at y j e next same =
@@ -308,20 +281,13 @@ module _ (S : Shape) (title : Name) (run : ℕ → Cycle) (f : Follows (built ti
         (λ h. into_is (ClearAt y c next) same y (net (Variable c)) 32 (slice_index σ.vars c) (counting S k y c) refl shown.value ∙ ap (λ z. one_if (nat_lt (slice_index σ.vars c) (array_cells S z))) h) refl
 
     array_is : (g : StateForm) → form_at S k ≡ g → (run (suc n)).cell (name (Array a)) i ≡ cell (held_by S run n σ (step g k σ)).arrays a i
-    array_is (SetAt r e next) same = stays (SetAt r e next) same refl refl
     array_is (CellAt y j e next) same = cell_at y j e next same
-    array_is (TestAt e y m) same = stays (TestAt e y m) same refl refl
     array_is (ReadAt s into next) same = stays (ReadAt s into next) same refl (into_arrays σ into (found_by S run n (step (ReadAt s into next) k σ)))
-    array_is (WriteAt s e next) same = stays (WriteAt s e next) same refl refl
     array_is (PeekAt s into next) same = stays (PeekAt s into next) same refl (into_arrays σ into (found_by S run n (step (PeekAt s into next) k σ)))
     array_is (EotAt s into next) same = stays (EotAt s into next) same refl (into_arrays σ into (found_by S run n (step (EotAt s into next) k σ)))
-    array_is (OpenAt s next) same = stays (OpenAt s next) same refl refl
-    array_is (CloseAt s next) same = stays (CloseAt s next) same refl refl
     array_is (LoadAt m j into next) same = stays (LoadAt m j into next) same refl (into_arrays σ into (cell σ.cells m (value j σ)))
-    array_is (StoreAt m j e next) same = stays (StoreAt m j e next) same refl refl
     array_is (ClearAt y c next) same = clear_at y c next same ∙ clear_cells S run n k y c next a i σ (is_last σ y c)
-    array_is EndAt same = stays EndAt same refl refl
-    array_is TrapAt same = stays TrapAt same refl refl
+    array_is g same = stays g same refl refl
 
 pub arrays_are_held : ArraysAreHeld
 arrays_are_held S title run f ms fit few cells n k σ is a i there inside = array_is S title run f cells n k σ is ms fit few a i there inside (form_at S k) refl

@@ -16,18 +16,17 @@ use Rattle.vlog_tree.specs.V4.{step_assigns}
 use Rattle.tapa_base.proofs.Lists.{has_flat}
 use Rattle.vlog_module_laws.specs.Forms.{set_block}
 use Rattle.vlog_module_laws.specs.Blocks.{IsOwnBlock}
-use Rattle.vlog_module_laws.proofs.Forms.{set_leaves}
+use Rattle.vlog_module_laws.proofs.Forms.{set_leaves, itself as same_name}
 use Rattle.vlog_module_laws.proofs.Lines.{register_takes}
 use Rattle.hw_build.specs.Elements.{Register, Block, built}
 use Rattle.hw_build.specs.Fitting.{AreFitting, stored_names}
-use Rattle.hw_build.proofs.Tables.{same_name}
 use Rattle.hw_build.proofs.Driven.{line_there, block_is_own}
 use Rattle.hw_build.proofs.Meaning.{reset_set_is}
 use Rattle.hw_build.specs.Scope.{each}
 use Rattle.hw_build.specs.Choices.{Entry}
 use Rattle.hw_build.specs.Fits.{IsAmong}
 use Rattle.hw_build.proofs.Parts.{has_each}
-use Rattle.task_fsm.specs.Machine.{StateForm, SetAt, CellAt, TestAt, ReadAt, WriteAt, PeekAt, EotAt, OpenAt, CloseAt, LoadAt, StoreAt, ClearAt, EndAt, TrapAt}
+use Rattle.task_fsm.specs.Machine.{StateForm, ClearAt, EndAt}
 use Rattle.task_fsm.specs.Run.{step, is_last, clear_step}
 use Rattle.hw_lines.specs.declared.nets.Choice.TheVariants.{ToState, ToEnd}
 use Rattle.hw_lines.specs.declared.nets.Net.TheVariants.{Ended, At}
@@ -116,20 +115,9 @@ module _ (S : Shape) (title : Name) (run : ℕ → Cycle) (f : Follows (built ti
         ap (λ z. cond (eqb z 1) 1 old) (only_set S title run f n k is.shows.here is.shows.low ToEnd any_among end_entry only (at_here S title run f n k is.shows.low is.shows.here))
 
   ended_is : (g : StateForm) → form_at S k ≡ g → (run (suc n)).net (name Ended) ≡ cond (ends_by (step g k σ)) 1 old
-  ended_is (SetAt r e next) same = stays (SetAt r e next) same refl
-  ended_is (CellAt a i e next) same = stays (CellAt a i e next) same refl
-  ended_is (TestAt e y m) same = stays (TestAt e y m) same refl
-  ended_is (ReadAt s into next) same = stays (ReadAt s into next) same refl
-  ended_is (WriteAt s e next) same = stays (WriteAt s e next) same refl
-  ended_is (PeekAt s into next) same = stays (PeekAt s into next) same refl
-  ended_is (EotAt s into next) same = stays (EotAt s into next) same refl
-  ended_is (OpenAt s next) same = stays (OpenAt s next) same refl
-  ended_is (CloseAt s next) same = stays (CloseAt s next) same refl
-  ended_is (LoadAt m i into next) same = stays (LoadAt m i into next) same refl
-  ended_is (StoreAt m i e next) same = stays (StoreAt m i e next) same refl
   ended_is (ClearAt a c next) same = stays (ClearAt a c next) same refl ∙ clear_ends old k a c next σ (is_last σ a c)
   ended_is EndAt same = ends same
-  ended_is TrapAt same = stays TrapAt same refl
+  ended_is g same = stays g same refl
 
 pub end_is_held : EndIsHeld
 end_is_held S title run f ms fit cells n k σ is runs = ended_is S title run f ms fit cells n k σ is runs (form_at S k) refl

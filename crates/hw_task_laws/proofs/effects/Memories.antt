@@ -9,7 +9,7 @@ use Rattle.vlog_tree.specs.Table.{Name, one_if}
 use Rattle.vlog_tree.specs.Cycle.{Cycle, Follows}
 use Rattle.hw_build.specs.Elements.{Element, Output, built}
 use Rattle.hw_build.specs.Fits.{IsAmong}
-use Rattle.task_fsm.specs.Machine.{Expression, StateForm, SetAt, CellAt, TestAt, ReadAt, WriteAt, PeekAt, EotAt, OpenAt, CloseAt, LoadAt, StoreAt, ClearAt, EndAt, TrapAt}
+use Rattle.task_fsm.specs.Machine.{Expression, StateForm, ReadAt, PeekAt, EotAt, LoadAt, StoreAt, ClearAt}
 use Rattle.task_fsm.specs.MachineKinds.{IsOfKind, IsTypedState}
 use Rattle.task_fsm.specs.Ranges.{IsInRange}
 use Rattle.task_fsm.specs.Run.{value, step, put_into, is_last, clear_step}
@@ -24,7 +24,7 @@ use Rattle.hw_lines.specs.After.{held_after}
 use Rattle.hw_lines.specs.Runs.{number_at, bit_at, stored_in, all_stored, stores_to, by_act, AsksAs}
 use Rattle.hw_lines.proofs.Members.{all, among_left, among_right}
 use Rattle.hw_lines.proofs.Decodes.{at_here}
-use Rattle.hw_task_laws.proofs.acts.Answered.{value_shown, index_shown}
+use Rattle.hw_task_laws.proofs.acts.Answered.{among_three, value_shown, index_shown}
 use Rattle.hw_task_laws.specs.steps.Steps.{ranges_in, allowed, found_by, IsAt}
 use Rattle.hw_task_laws.proofs.steps.Allowed.{bit_back}
 use Rattle.hw_task_laws.specs.effects.Held.{held_by, MemoriesAreHeld}
@@ -55,35 +55,23 @@ module _ (S : Shape) (title : Name) (run : ℕ → Cycle) (f : Follows (built ti
     abbrev two : List Element
     two = pick S 64 (Address m) ++ any S (StoreEnable m)
 
-    abbrev three : List Element
-    three = two ++ pick S bits (Data m)
-
-    ports_among : IsAmong ports (all S)
-    ports_among = among_right three ports (all S) (memory_outs S m low)
-
-    three_among : IsAmong three (all S)
-    three_among = among_left three ports (all S) (memory_outs S m low)
-
-    two_among : IsAmong two (all S)
-    two_among = among_left two (pick S bits (Data m)) (all S) three_among
-
-    data_among : IsAmong (pick S bits (Data m)) (all S)
-    data_among = among_right two (pick S bits (Data m)) (all S) three_among
+    parts : IsAmong two (all S) × IsAmong (pick S bits (Data m)) (all S) × IsAmong ports (all S)
+    parts = among_three two (pick S bits (Data m)) ports (all S) (memory_outs S m low)
 
     asks_among : IsAmong (pick S 64 (Address m)) (all S)
-    asks_among = among_left (pick S 64 (Address m)) (any S (StoreEnable m)) (all S) two_among
+    asks_among = among_left (pick S 64 (Address m)) (any S (StoreEnable m)) (all S) parts.0
 
     saves_among : IsAmong (any S (StoreEnable m)) (all S)
-    saves_among = among_right (pick S 64 (Address m)) (any S (StoreEnable m)) (all S) two_among
+    saves_among = among_right (pick S 64 (Address m)) (any S (StoreEnable m)) (all S) parts.0
 
     addr_there : Has (all S) (Output 64 (name (Addr m)) (result S 64 (Address m)))
-    addr_there = ports_among (Output 64 (name (Addr m)) (result S 64 (Address m))) (inl refl)
+    addr_there = parts.2 (Output 64 (name (Addr m)) (result S 64 (Address m))) (inl refl)
 
     wdata_there : Has (all S) (Output bits (name (Wdata m)) (result S bits (Data m)))
-    wdata_there = ports_among (Output bits (name (Wdata m)) (result S bits (Data m))) (inr (inl refl))
+    wdata_there = parts.2 (Output bits (name (Wdata m)) (result S bits (Data m))) (inr (inl refl))
 
     we_there : Has (all S) (Output 1 (name (We m)) (result S 1 (StoreEnable m)))
-    we_there = ports_among (Output 1 (name (We m)) (result S 1 (StoreEnable m))) (inr (inr (inl refl)))
+    we_there = parts.2 (Output 1 (name (We m)) (result S 1 (StoreEnable m))) (inr (inr (inl refl)))
 
     -- the index where a state asks for a cell
     pub addr_is : (g : StateForm) → form_at S k ≡ g → (x : ℕ) → x ≡ m → askings S m k g ≡ at x m (entry (At k) (index_wires S k).atom) → IsOfKind (kinds_in S) (index_of g) U64
@@ -97,20 +85,11 @@ module _ (S : Shape) (title : Name) (run : ℕ → Cycle) (f : Follows (built ti
     -- and the value where it stores
     wdata_is : (g : StateForm) → form_at S k ≡ g → (x : ℕ) → x ≡ m → savings S m k g ≡ at x m (entry (At k) (value_wires S k).atom) → number_at run (Wdata m) n ≡ value (value_of g) σ
     wdata_is g same x e some =
-        out_value S title run f n k is.shows.here is.shows.low bits (name (Wdata m)) (Data m) wdata_there data_among (record { condition = name (At k); value = (value_wires S k).atom })
+        out_value S title run f n k is.shows.here is.shows.low bits (name (Wdata m)) (Data m) wdata_there parts.1 (record { condition = name (At k); value = (value_wires S k).atom })
         (ap (savings S m k) same ∙ some ∙ at_same x m (entry (At k) (value_wires S k).atom) e) at_one
         ∙ (value_shown S title run f n (ranges_in S) σ k is.shows).value ∙ ap (λ z. value (value_of z) σ) same
 
     asks_are : (g : StateForm) → form_at S k ≡ g → AsksAs run n m (step g k σ)
-    asks_are (SetAt r e next) same = tt
-    asks_are (CellAt a i e next) same = tt
-    asks_are (TestAt e y l) same = tt
-    asks_are (ReadAt s into next) same = tt
-    asks_are (WriteAt s e next) same = tt
-    asks_are (PeekAt s into next) same = tt
-    asks_are (EotAt s into next) same = tt
-    asks_are (OpenAt s next) same = tt
-    asks_are (CloseAt s next) same = tt
     asks_are (LoadAt x i into next) same = λ e.
         let t : IsTypedState (kinds_in S) (LoadAt x i into next) = subst (IsTypedState (kinds_in S)) same is.shows.typed in
         addr_is (LoadAt x i into next) same x e refl t.0
@@ -118,29 +97,17 @@ module _ (S : Shape) (title : Name) (run : ℕ → Cycle) (f : Follows (built ti
         let t : IsTypedState (kinds_in S) (StoreAt x i v next) = subst (IsTypedState (kinds_in S)) same is.shows.typed in
         (addr_is (StoreAt x i v next) same x e refl t.0, wdata_is (StoreAt x i v next) same x e refl)
     asks_are (ClearAt a c next) same = clear_asks run n m k a c next σ (is_last σ a c)
-    asks_are EndAt same = tt
-    asks_are TrapAt same = tt
+    asks_are _ same = tt
 
-    no_store : (g : StateForm) → form_at S k ≡ g → savings S m k g ≡ [] → number_at run (We m) n ≡ 0
+    pub no_store : (g : StateForm) → form_at S k ≡ g → savings S m k g ≡ [] → number_at run (We m) n ≡ 0
     no_store g same none =
         out_none S title run f n k is.shows.here is.shows.low 1 (name (We m)) (StoreEnable m) we_there saves_among (ap (savings S m k) same ∙ none)
 
     we_is : (g : StateForm) → form_at S k ≡ g → number_at run (We m) n ≡ one_if (by_act (stores_to m) (step g k σ))
-    we_is (SetAt r e next) same = no_store (SetAt r e next) same refl
-    we_is (CellAt a i e next) same = no_store (CellAt a i e next) same refl
-    we_is (TestAt e y l) same = no_store (TestAt e y l) same refl
-    we_is (ReadAt s into next) same = no_store (ReadAt s into next) same refl
-    we_is (WriteAt s e next) same = no_store (WriteAt s e next) same refl
-    we_is (PeekAt s into next) same = no_store (PeekAt s into next) same refl
-    we_is (EotAt s into next) same = no_store (EotAt s into next) same refl
-    we_is (OpenAt s next) same = no_store (OpenAt s next) same refl
-    we_is (CloseAt s next) same = no_store (CloseAt s next) same refl
-    we_is (LoadAt x i into next) same = no_store (LoadAt x i into next) same refl
     we_is (StoreAt x i e next) same =
         out_at S title run f n k is.shows.here is.shows.low 1 (name (We m)) (StoreEnable m) we_there saves_among x m (At k) (value_wires S k).atom (ap (savings S m k) same) true at_one
     we_is (ClearAt a c next) same = no_store (ClearAt a c next) same refl ∙ ap one_if (clear_stores m k a c next σ (is_last σ a c))
-    we_is EndAt same = no_store EndAt same refl
-    we_is TrapAt same = no_store TrapAt same refl
+    we_is g same = no_store g same refl
 
 pub asks_are_made : AsksAreMade
 asks_are_made S title run f cells n k σ is m low = asks_are S title run f cells n k σ is m low (form_at S k) refl
@@ -168,9 +135,10 @@ module _ (S : Shape) (run : ℕ → Cycle) (n : ℕ) where
       stored_off m (all_stored S run n m rows) (off m (omega arith) e) ∙ one_stored m x rows (omega (arith, l, e)) (λ y h d. off y (omega (arith, h)) d))
       (cases_eq x m)
 
-same_cells : (b : Bool) (τ σ : State) → τ.cells ≡ σ.cells → σ.cells ≡ (cond b τ σ).cells
-same_cells true τ σ e = sym e
-same_cells false τ σ e = refl
+-- a part of a state that a step leaves as it is
+pub same_part : {A : Type 0} (g : State → A) (b : Bool) (τ σ : State) → g τ ≡ g σ → g σ ≡ g (cond b τ σ)
+same_part g true τ σ e = sym e
+same_part g false τ σ e = refl
 
 into_cells : (σ : State) (into : Option ℕ) (v : ℕ) → (put_into σ into v).cells ≡ σ.cells
 into_cells σ None v = refl
@@ -207,23 +175,16 @@ module _ (S : Shape) (title : Name) (run : ℕ → Cycle) (f : Follows (built ti
   -- what is held where a step leaves the cells
   kept : (g : StateForm) → form_at S k ≡ g → ((m : ℕ) → savings S m k g ≡ []) → (held_after (step g k σ) σ (found_by S run n (step g k σ))).cells ≡ σ.cells
       → cells (suc n) ≡ (held_by S run n σ (step g k σ)).cells
-  kept g same none e = stays g same none ∙ same_cells (allowed S run n (step g k σ)) (held_after (step g k σ) σ (found_by S run n (step g k σ))) σ e
+  kept g same none e = stays g same none ∙ same_part (λ (τ : State). τ.cells) (allowed S run n (step g k σ)) (held_after (step g k σ) σ (found_by S run n (step g k σ))) σ e
 
   cells_are : (g : StateForm) → form_at S k ≡ g → cells (suc n) ≡ (held_by S run n σ (step g k σ)).cells
-  cells_are (SetAt r e next) same = kept (SetAt r e next) same (λ m. refl) refl
-  cells_are (CellAt a i e next) same = kept (CellAt a i e next) same (λ m. refl) refl
-  cells_are (TestAt e y l) same = kept (TestAt e y l) same (λ m. refl) refl
   cells_are (ReadAt s into next) same = kept (ReadAt s into next) same (λ m. refl) (into_cells σ into (found_by S run n (step (ReadAt s into next) k σ)))
-  cells_are (WriteAt s e next) same = kept (WriteAt s e next) same (λ m. refl) refl
   cells_are (PeekAt s into next) same = kept (PeekAt s into next) same (λ m. refl) (into_cells σ into (found_by S run n (step (PeekAt s into next) k σ)))
   cells_are (EotAt s into next) same = kept (EotAt s into next) same (λ m. refl) (into_cells σ into (found_by S run n (step (EotAt s into next) k σ)))
-  cells_are (OpenAt s next) same = kept (OpenAt s next) same (λ m. refl) refl
-  cells_are (CloseAt s next) same = kept (CloseAt s next) same (λ m. refl) refl
   cells_are (LoadAt x i into next) same = kept (LoadAt x i into next) same (λ m. refl) (into_cells σ into (cell σ.cells x (value i σ)))
   cells_are (StoreAt x i e next) same = stores x i e next same
   cells_are (ClearAt a c next) same = stays (ClearAt a c next) same (λ m. refl) ∙ clear_cells S run n k a c next σ (is_last σ a c)
-  cells_are EndAt same = kept EndAt same (λ m. refl) refl
-  cells_are TrapAt same = kept TrapAt same (λ m. refl) refl
+  cells_are g same = kept g same (λ m. refl) refl
 
 pub memories_are_held : MemoriesAreHeld
 memories_are_held S title run f cells n k σ is = cells_are S title run f cells n k σ is (form_at S k) refl

@@ -31,10 +31,6 @@ pub and_false : (b : Bool) → false ≡ (b && false)
 and_false true = refl
 and_false false = refl
 
-pub same_cond : {A : Type 0} (b : Bool) (x : A) → cond b x x ≡ x
-same_cond true x = refl
-same_cond false x = refl
-
 -- an entry for one thing alone
 pub at_same : (x y : ℕ) (es : List Entry) → x ≡ y → at x y es ≡ es
 at_same x y es e = ap (λ b. cond b es []) (eq-eqb x y e)

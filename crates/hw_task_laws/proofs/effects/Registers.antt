@@ -12,7 +12,7 @@ use Rattle.kahn_model.specs.declared.tick.StreamOperation.TheVariants.{Read, Pee
 use Rattle.kahn_model.specs.Behavior.{Offer, on_offer}
 use Rattle.kahn_model.specs.Trace.{State, cell, set_var}
 use Rattle.vlog_tree.specs.declared.tree.Atom.{Atom}
-use Rattle.vlog_tree.specs.declared.tree.Atom.TheVariants.{Net as NetAtom, Part, Literal}
+use Rattle.vlog_tree.specs.declared.tree.Atom.TheVariants.{Net as NetAtom, Literal}
 use Rattle.vlog_tree.specs.declared.tree.BinaryOp.TheVariants.{Plus, Less, Or}
 use Rattle.vlog_tree.specs.declared.tree.Value.{Value}
 use Rattle.vlog_tree.specs.declared.tree.Value.TheVariants.{Binary, Choose}
@@ -29,7 +29,7 @@ use Rattle.hw_build.specs.Scope.{each}
 use Rattle.hw_build.specs.Choices.{Entry, choice}
 use Rattle.hw_build.specs.Fits.{IsAmong}
 use Rattle.hw_build.proofs.Parts.{has_each}
-use Rattle.task_fsm.specs.Machine.{Expression, StateForm, SetAt, CellAt, TestAt, ReadAt, WriteAt, PeekAt, EotAt, OpenAt, CloseAt, LoadAt, StoreAt, ClearAt, EndAt, TrapAt}
+use Rattle.task_fsm.specs.Machine.{Expression, StateForm, SetAt, ReadAt, PeekAt, EotAt, LoadAt, ClearAt}
 use Rattle.task_fsm.specs.MachineKinds.{IsTypedState}
 use Rattle.task_fsm.specs.Ranges.{IsInRange}
 use Rattle.task_fsm.specs.Run.{value, step, put_into, is_last, clear_step}
@@ -48,14 +48,16 @@ use Rattle.hw_lines.proofs.Members.{all, choices_in, more_in, among_left, among_
 use Rattle.hw_lines.proofs.Decodes.{at_here, any_off}
 use Rattle.hw_task_laws.proofs.wires.Shown.{by_one, some_bits}
 use Rattle.hw_task_laws.specs.acts.Moves.{set_next}
-use Rattle.hw_task_laws.proofs.acts.Answered.{value_shown}
-use Rattle.hw_task_laws.proofs.acts.Moves.{alone, only_picked, only_set, only_clear, none_clear, registers_go_on}
+use Rattle.hw_task_laws.proofs.acts.Answered.{among_three, alone, value_shown}
+use Rattle.hw_task_laws.proofs.acts.Moves.{only_picked, only_set, only_clear, none_clear, registers_go_on, counter_there as first_there}
 use Rattle.hw_task_laws.specs.steps.Steps.{ranges_in, allowed, found_by, IsAt}
 use Rattle.hw_task_laws.proofs.steps.Allowed.{go_is, eot_is, offer_is, read_right, peek_right, test_right}
 use Rattle.hw_task_laws.proofs.steps.Places.{more_cells}
 use Rattle.hw_task_laws.specs.effects.Held.{held_by, RegistersAreHeld}
-use Rattle.hw_task_laws.proofs.effects.Outs.{same_cond, at_same, at_other}
-use Rattle.hw_task_laws.proofs.effects.Memories.{addr_is}
+use Rattle.hw_task_laws.proofs.effects.Outs.{at_same, at_other}
+use Rattle.hw_task_laws.proofs.effects.Memories.{same_part, addr_is, no_store}
+use Rattle.tapa_base.proofs.Tests.{and_right as both_second}
+use Rattle.vlog_tree.proofs.Nesting.{same_both as same_cond}
 
 -- ---- numbers and tokens
 
@@ -80,10 +82,6 @@ test_found true true v h = refl
 test_found true false v h = refl
 test_found false b v h = cc
 
-both_second : (a b : Bool) → (a && b) ≡ true → b ≡ true
-both_second true b h = h
-both_second false b h = cc
-
 -- a Clear's counter after its step
 clear_sets : (S : Shape) (run : ℕ → Cycle) (n k a c next r : ℕ) (σ : State) (b : Bool) → slice_index (set_var σ c (cond b (slice_index σ.vars c + 1) 0)).vars r ≡ slice_index (held_by S run n σ (clear_step b a c k next σ)).vars r
 clear_sets S run n k a c next r σ true = refl
@@ -98,17 +96,11 @@ var_other : (σ : State) (x r v : ℕ) (b : Bool) → (x ≡ r → ⊥) → slic
 var_other σ x r v true ne = sym (get_or-set_other σ.vars x r v 0 (λ e. ne (sym e)))
 var_other σ x r v false ne = refl
 
-same_vars : (b : Bool) (τ σ : State) (r : ℕ) → τ.vars ≡ σ.vars → slice_index σ.vars r ≡ slice_index (cond b τ σ).vars r
-same_vars true τ σ r e = ap (λ l. slice_index l r) (sym e)
-same_vars false τ σ r e = refl
-
 -- two atoms that are one number have one value
 same_number : (c : Cycle) (a b : Atom) → is_same_number a b ≡ true → atom_value c a ≡ atom_value c b
-same_number c (NetAtom x) b e = cc
-same_number c (Part x high low) b e = cc
-same_number c (Literal w n) (NetAtom x) e = cc
-same_number c (Literal w n) (Part x high low) e = cc
 same_number c (Literal w n) (Literal v m) e = eqb-true n m e
+same_number c (Literal w n) _ e = cc
+same_number c _ b e = cc
 
 -- the last of a Clear's wires
 third_there : (S : Shape) (k a c next : ℕ) → Has (more_wires S k (ClearAt a c next)) (Wire 32 (name (ValueNet k 2)) (Choose (net (ValueNet k 0)) (net (ValueNet k 1)) (Literal 32 0)))
@@ -118,10 +110,6 @@ third_there S k a c next = has_right (into_of S k a (net (Variable c)) 32) (coun
 second_there : (S : Shape) (k a c next : ℕ) → Has (more_wires S k (ClearAt a c next)) (Wire 32 (name (ValueNet k 1)) (Binary (net (Variable c)) Plus (Literal 32 1)))
 unfolding name value_front
 second_there S k a c next = has_right (into_of S k a (net (Variable c)) 32) (counting S k a c) _ (inr (inl refl))
-
-first_there : (S : Shape) (k a c next : ℕ) → Has (more_wires S k (ClearAt a c next)) (Wire 1 (name (ValueNet k 0)) (Binary (net (Variable c)) Less (Literal 32 (array_cells S a - 1))))
-unfolding name value_front
-first_there S k a c next = has_right (into_of S k a (net (Variable c)) 32) (counting S k a c) _ (inl refl)
 
 counter_next : (b : Bool) (c n : ℕ) → nat_lt c (n - 1) ≡ b → n ≤ 4096 → cond (eqb (one_if b) 1) ((c + 1) % 2 ^ 32) 0 ≡ cond b (c + 1) 0
 counter_next true c n e few =
@@ -167,7 +155,8 @@ module _ (S : Shape) (title : Name) (run : ℕ → Cycle) (f : Follows (built ti
   load_value m i into next same ok =
       let g : IsInRange (ranges_in S) (LoadAt m i into next) = subst (IsInRange (ranges_in S)) same is.shows.ranged in
       let t : IsTypedState (kinds_in S) (LoadAt m i into next) = subst (IsTypedState (kinds_in S)) same is.shows.typed in
-      is.around.rdata n m g.0 ok ∙ ap (cell (cells n) m) (addr_is S title run f cells n k σ is m g.0 (LoadAt m i into next) same m refl refl t.0)
+      is.around.rdata n m g.0 ok (no_store S title run f cells n k σ is m g.0 (LoadAt m i into next) same refl)
+      ∙ ap (cell (cells n) m) (addr_is S title run f cells n k σ is m g.0 (LoadAt m i into next) same m refl refl t.0)
       ∙ ap (λ rows. cell rows m (value i σ)) (sym is.outside)
 
   counter_value : (a c next : ℕ) → form_at S k ≡ ClearAt a c next → (run n).net (name (ValueNet k 2)) ≡ cond (is_last σ a c) (slice_index σ.vars c + 1) 0
@@ -222,29 +211,18 @@ module _ (S : Shape) (title : Name) (run : ℕ → Cycle) (f : Follows (built ti
     abbrev next_wires : List Element
     next_wires = pick S (bits_of (register_kind S r)) (NextValue r)
 
-    all_among : IsAmong (variable_choices S r) (all S)
-    all_among =
-        among_each (variable_choices S) (length S.registers) r (all S) low
+    parts : IsAmong clear_wires (all S) × IsAmong (any S (Set r)) (all S) × IsAmong next_wires (all S)
+    parts =
+        among_three clear_wires (any S (Set r)) next_wires (all S)
+        (among_each (variable_choices S) (length S.registers) r (all S) low
         (among_right (pick S (state_bits S) ToState ++ any S ToEnd) (each (variable_choices S) (length S.registers)) (all S)
-        (among_left ((pick S (state_bits S) ToState ++ any S ToEnd) ++ each (variable_choices S) (length S.registers)) (each (array_choices S) (length S.arrays)) (all S) (choices_in S)))
-
-    set_among : IsAmong (clear_wires ++ any S (Set r)) (all S)
-    set_among = among_left (clear_wires ++ any S (Set r)) next_wires (all S) all_among
-
-    clear_among : IsAmong clear_wires (all S)
-    clear_among = among_left clear_wires (any S (Set r)) (all S) set_among
+        (among_left ((pick S (state_bits S) ToState ++ any S ToEnd) ++ each (variable_choices S) (length S.registers)) (each (array_choices S) (length S.arrays)) (all S) (choices_in S))))
 
     zero_among : IsAmong (any S (Clear r)) (all S)
-    zero_among = among_left (any S (Clear r)) (reset_by r (entries S (Clear r))) (all S) clear_among
+    zero_among = among_left (any S (Clear r)) (reset_by r (entries S (Clear r))) (all S) parts.0
 
     reset_among : IsAmong (reset_by r (entries S (Clear r))) (all S)
-    reset_among = among_right (any S (Clear r)) (reset_by r (entries S (Clear r))) (all S) clear_among
-
-    any_among : IsAmong (any S (Set r)) (all S)
-    any_among = among_right clear_wires (any S (Set r)) (all S) set_among
-
-    pick_among : IsAmong next_wires (all S)
-    pick_among = among_right (clear_wires ++ any S (Set r)) next_wires (all S) all_among
+    reset_among = among_right (any S (Clear r)) (reset_by r (entries S (Clear r))) (all S) parts.0
 
     -- ---- the net at which the register gets its first value
 
@@ -289,7 +267,7 @@ module _ (S : Shape) (title : Name) (run : ℕ → Cycle) (f : Follows (built ti
       by_entries (d ∷ es) e =
           no_reset d es off
           ∙ ap (λ z. cond (eqb z 1) ((run n).net in_root) ((run n).net (name (Variable r))))
-          (none_clear S title run f n k is.shows.here is.shows.low (Set r) any_among (subst (λ l. 0 < length l) (sym e) (omega arith)) none)
+          (none_clear S title run f n k is.shows.here is.shows.low (Set r) parts.1 (subst (λ l. 0 < length l) (sym e) (omega arith)) none)
 
     -- a state that gives another register a value or none
     kept : gives S r k (form_at S k) ≡ [] → (run (suc n)).net (name (Variable r)) ≡ old
@@ -316,11 +294,11 @@ module _ (S : Shape) (title : Name) (run : ℕ → Cycle) (f : Follows (built ti
       by_entries [] same b on = absurd (subst (λ l. Has l e) same own)
       by_entries (d ∷ es) same true on =
           no_reset d es off
-          ∙ ap (λ z. cond (eqb z 1) ((run n).net in_root) ((run n).net (name (Variable r)))) (only_set S title run f n k is.shows.here is.shows.low (Set r) any_among e only on)
-          ∙ only_picked S title run f n k is.shows.here is.shows.low (NextValue r) (bits_of (register_kind S r)) pick_among e only on
+          ∙ ap (λ z. cond (eqb z 1) ((run n).net in_root) ((run n).net (name (Variable r)))) (only_set S title run f n k is.shows.here is.shows.low (Set r) parts.1 e only on)
+          ∙ only_picked S title run f n k is.shows.here is.shows.low (NextValue r) (bits_of (register_kind S r)) parts.2 e only on
       by_entries (d ∷ es) same false on =
           no_reset d es off
-          ∙ ap (λ z. cond (eqb z 1) ((run n).net in_root) ((run n).net (name (Variable r)))) (only_clear S title run f n k is.shows.here is.shows.low (Set r) any_among e only on)
+          ∙ ap (λ z. cond (eqb z 1) ((run n).net in_root) ((run n).net (name (Variable r)))) (only_clear S title run f n k is.shows.here is.shows.low (Set r) parts.1 e only on)
           ∙ old_is
 
     -- one that gives it a value
@@ -352,19 +330,16 @@ module _ (S : Shape) (title : Name) (run : ℕ → Cycle) (f : Follows (built ti
 
     stays : (g : StateForm) → form_at S k ≡ g → gives S r k g ≡ [] → (held_after (step g k σ) σ (found_by S run n (step g k σ))).vars ≡ σ.vars
         → (run (suc n)).net (name (Variable r)) ≡ slice_index (held_by S run n σ (step g k σ)).vars r
-    stays g same none e = kept (ap (gives S r k) same ∙ none) ∙ same_vars (allowed S run n (step g k σ)) (held_after (step g k σ) σ (found_by S run n (step g k σ))) σ r e
+    stays g same none e = kept (ap (gives S r k) same ∙ none) ∙ same_part (λ (τ : State). slice_index τ.vars r) (allowed S run n (step g k σ)) (held_after (step g k σ) σ (found_by S run n (step g k σ))) σ (ap (λ l. slice_index l r) e)
 
     register_is : (g : StateForm) → form_at S k ≡ g → (run (suc n)).net (name (Variable r)) ≡ slice_index (held_by S run n σ (step g k σ)).vars r
     register_is (SetAt x e next) same =
         set_at x (At k) (value_wires S k).atom (ap (gives S r k) same) true at_one (value e σ) (λ h. (value_shown S title run f n (ranges_in S) σ k is.shows).value ∙ ap (λ z. value (value_of z) σ) same)
-    register_is (CellAt a i e next) same = stays (CellAt a i e next) same refl refl
-    register_is (TestAt e y m) same = stays (TestAt e y m) same refl refl
     register_is (ReadAt s into next) same =
         let g : IsInRange (ranges_in S) (ReadAt s into next) = subst (IsInRange (ranges_in S)) same is.shows.ranged in
         set_into into (Go k) (datum_of S s) (ap (gives S r k) same) (allowed S run n (step (ReadAt s into next) k σ))
         (λ x e. go_is S title run f cells n k σ is (ReadAt s into next) same (DatumNet s) refl refl)
         (found_by S run n (step (ReadAt s into next) k σ)) (read_value s g.0 into next)
-    register_is (WriteAt s e next) same = stays (WriteAt s e next) same refl refl
     register_is (PeekAt s into next) same =
         let g : IsInRange (ranges_in S) (PeekAt s into next) = subst (IsInRange (ranges_in S)) same is.shows.ranged in
         set_into into (Go k) (datum_of S s) (ap (gives S r k) same) (allowed S run n (step (PeekAt s into next) k σ))
@@ -375,18 +350,14 @@ module _ (S : Shape) (title : Name) (run : ℕ → Cycle) (f : Follows (built ti
         set_into into (Go k) (eot_of S s) (ap (gives S r k) same) (allowed S run n (step (EotAt s into next) k σ))
         (λ x e. go_is S title run f cells n k σ is (EotAt s into next) same (HasNet s) refl (ap is_some_register e))
         (found_by S run n (step (EotAt s into next) k σ)) (test_value s g.0 into next)
-    register_is (OpenAt s next) same = stays (OpenAt s next) same refl refl
-    register_is (CloseAt s next) same = stays (CloseAt s next) same refl refl
     register_is (LoadAt m i into next) same =
         set_into into (Go k) (net (Rdata m)) (ap (gives S r k) same) (bit_at run (Ack m) n)
         (λ x e. go_is S title run f cells n k σ is (LoadAt m i into next) same (Ack m) refl (ap is_some_register e))
         (cell σ.cells m (value i σ)) (load_value m i into next same)
-    register_is (StoreAt m i e next) same = stays (StoreAt m i e next) same refl refl
     register_is (ClearAt a c next) same =
         set_at c (At k) (net (ValueNet k 2)) (ap (gives S r k) same) true at_one (cond (is_last σ a c) (slice_index σ.vars c + 1) 0) (λ h. counter_value a c next same)
         ∙ clear_sets S run n k a c next r σ (is_last σ a c)
-    register_is EndAt same = stays EndAt same refl refl
-    register_is TrapAt same = stays TrapAt same refl refl
+    register_is form same = stays form same refl refl
 
 pub registers_are_held : RegistersAreHeld
 registers_are_held S title run f ms fit cells n k σ is runs r low = register_is S title run f cells n k σ is ms fit runs r low (form_at S k) refl

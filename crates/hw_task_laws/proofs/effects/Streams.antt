@@ -1,5 +1,5 @@
 -- The tokens that are taken and put.
-use Rattle.std.proofs.Common.{◌≡◌, ℕ, ◌+◌, ◌-◌, ◌*◌, ◌^◌, ◌<◌, Bool, true, false, cond, eqb, ◌&&◌, List, [], ◌∷◌, ◌++◌, Some, inl, inr, refl, sym, ap, subst, ◌∙◌, arith, ⊎_elim}
+use Rattle.std.proofs.Common.{◌≡◌, ℕ, ◌+◌, ◌-◌, ◌^◌, ◌<◌, Bool, true, false, cond, eqb, ◌&&◌, List, [], ◌∷◌, Some, inl, inr, refl, sym, ap, subst, ◌∙◌, arith, ⊎_elim}
 use Rattle.std.specs.Prelude.{nat_lt, slice_get}
 use Rattle.std.proofs.lemmas.Bool.{cases_eq, eq-eqb, ne_eqb, lt-ltb, le-ltb}
 use Rattle.tapa_base.specs.declared.token.Token.{Token}
@@ -31,13 +31,15 @@ use Rattle.hw_lines.specs.Effects.{entry, at, end_token, tokens, takings}
 use Rattle.hw_lines.specs.Texts.{by_end, any, pick, result, written, taken, task_elements}
 use Rattle.hw_lines.specs.Machine.{takes_of, puts_of, put_in}
 use Rattle.hw_lines.specs.Runs.{number_at, bit_at, token_bits, streams_at}
-use Rattle.hw_lines.proofs.Members.{all, more_in, among_left, among_right}
+use Rattle.hw_lines.proofs.Members.{all, more_in, among_left}
 use Rattle.hw_lines.proofs.Decodes.{at_here}
-use Rattle.hw_task_laws.proofs.acts.Answered.{value_shown}
+use Rattle.hw_task_laws.proofs.acts.Answered.{among_three, value_shown}
 use Rattle.hw_task_laws.specs.steps.Steps.{ranges_in, allowed, IsAt}
 use Rattle.hw_task_laws.proofs.steps.Allowed.{bit_back, stream_there, side_is, go_is}
 use Rattle.hw_task_laws.specs.effects.Outputs.{TakesAreMade, PutsAreMade}
-use Rattle.hw_task_laws.proofs.effects.Outs.{and_false, same_cond, at_same, at_other, stream_outs, out_none, out_value, out_at}
+use Rattle.hw_task_laws.proofs.effects.Outs.{and_false, at_same, at_other, stream_outs, out_none, out_value, out_at}
+use Rattle.hw_task_laws.proofs.wires.Shown.{zero_front}
+use Rattle.vlog_tree.proofs.Nesting.{same_both as same_cond}
 
 clear_takes : (S : Shape) (run : ℕ → Cycle) (n k a c next s : ℕ) (σ : State) (b : Bool) → false ≡ (allowed S run n (clear_step b a c k next σ) && takes_of (λ p. p) s (clear_step b a c k next σ))
 clear_takes S run n k a c next s σ true = refl
@@ -46,9 +48,6 @@ clear_takes S run n k a c next s σ false = refl
 clear_puts : (S : Shape) (run : ℕ → Cycle) (n k a c next s : ℕ) (σ : State) (b : Bool) → [] ≡ cond (allowed S run n (clear_step b a c k next σ)) (puts_of (λ p. p) s (clear_step b a c k next σ)) []
 clear_puts S run n k a c next s σ true = refl
 clear_puts S run n k a c next s σ false = refl
-
-zero_front : (x y v : ℕ) → (0 * x + 0) * y + v ≡ v
-zero_front x y v = omega arith
 
 no_put : (w r : Bool) (t : Token) → w ≡ false → cond (w && r) (t ∷ []) [] ≡ []
 no_put w r t e = ap (λ z. cond (z && r) (t ∷ []) []) e
@@ -78,9 +77,6 @@ module _ (S : Shape) (title : Name) (run : ℕ → Cycle) (f : Follows (built ti
         out_at S title run f n k is.shows.here is.shows.low 1 (name (Taken s)) (Takes s) taken_there any_among x s (Go k) (Literal 1 1) (ap (takings S s k) same ∙ some) b on
 
     taken_is : (g : StateForm) → form_at S k ≡ g → (run n).net (name (Taken s)) ≡ one_if (allowed S run n (step g k σ) && takes_of (λ p. p) s (step g k σ))
-    taken_is (SetAt r e next) same = no_take (SetAt r e next) same refl
-    taken_is (CellAt a i e next) same = no_take (CellAt a i e next) same refl
-    taken_is (TestAt e y m) same = no_take (TestAt e y m) same refl
     taken_is (ReadAt x into next) same =
         takes_at (ReadAt x into next) same x (allowed S run n (step (ReadAt x into next) k σ)) refl (go_is S title run f cells n k σ is (ReadAt x into next) same (DatumNet x) refl refl)
     taken_is (WriteAt x e next) same = no_take (WriteAt x e next) same refl ∙ ap one_if (and_false (bit_at run (Rdy x) n))
@@ -92,8 +88,7 @@ module _ (S : Shape) (title : Name) (run : ℕ → Cycle) (f : Follows (built ti
     taken_is (LoadAt m i into next) same = no_take (LoadAt m i into next) same refl ∙ ap one_if (and_false (allowed S run n (step (LoadAt m i into next) k σ)))
     taken_is (StoreAt m i e next) same = no_take (StoreAt m i e next) same refl ∙ ap one_if (and_false (allowed S run n (step (StoreAt m i e next) k σ)))
     taken_is (ClearAt a c next) same = no_take (ClearAt a c next) same refl ∙ ap one_if (clear_takes S run n k a c next s σ (is_last σ a c))
-    taken_is EndAt same = no_take EndAt same refl
-    taken_is TrapAt same = no_take TrapAt same refl
+    taken_is g same = no_take g same refl
 
   -- ---- a stream that is written
   module _ (s : ℕ) (writes : writes_of S.streams s ≡ Some true) where
@@ -107,23 +102,14 @@ module _ (S : Shape) (title : Name) (run : ℕ → Cycle) (f : Follows (built ti
     written_among e h =
         stream_outs S s (stream_there S.streams s true writes) e (subst (λ b. Has (by_end (written S s) (taken S s) b) e) (sym (side_is (slice_get S.streams s) true writes)) h)
 
-    ports_among : IsAmong ports (all S)
-    ports_among = among_right (any S (Puts s) ++ pick S (bits + 1) (TokenChoice s)) ports (all S) written_among
-
-    both_among : IsAmong (any S (Puts s) ++ pick S (bits + 1) (TokenChoice s)) (all S)
-    both_among = among_left (any S (Puts s) ++ pick S (bits + 1) (TokenChoice s)) ports (all S) written_among
-
-    any_put : IsAmong (any S (Puts s)) (all S)
-    any_put = among_left (any S (Puts s)) (pick S (bits + 1) (TokenChoice s)) (all S) both_among
-
-    pick_token : IsAmong (pick S (bits + 1) (TokenChoice s)) (all S)
-    pick_token = among_right (any S (Puts s)) (pick S (bits + 1) (TokenChoice s)) (all S) both_among
+    parts : IsAmong (any S (Puts s)) (all S) × IsAmong (pick S (bits + 1) (TokenChoice s)) (all S) × IsAmong ports (all S)
+    parts = among_three (any S (Puts s)) (pick S (bits + 1) (TokenChoice s)) ports (all S) written_among
 
     wr_there : Has (all S) (Output 1 (name (Wr s)) (result S 1 (Puts s)))
-    wr_there = ports_among (Output 1 (name (Wr s)) (result S 1 (Puts s))) (inl refl)
+    wr_there = parts.2 (Output 1 (name (Wr s)) (result S 1 (Puts s))) (inl refl)
 
     din_there : Has (all S) (Output (bits + 1) (name (Din s)) (result S (bits + 1) (TokenChoice s)))
-    din_there = ports_among (Output (bits + 1) (name (Din s)) (result S (bits + 1) (TokenChoice s))) (inr (inl refl))
+    din_there = parts.2 (Output (bits + 1) (name (Din s)) (result S (bits + 1) (TokenChoice s))) (inr (inl refl))
 
     abbrev ready : Bool
     ready = bit_at run (Rdy s) n
@@ -135,7 +121,7 @@ module _ (S : Shape) (title : Name) (run : ℕ → Cycle) (f : Follows (built ti
     none_put : (g : StateForm) → form_at S k ≡ g → tokens S s k g ≡ [] → put_in (streams_at S run) s n ≡ []
     none_put g same none =
         no_put (bit_at run (Wr s) n) ready din
-        (ap (λ z. eqb z 1) (out_none S title run f n k is.shows.here is.shows.low 1 (name (Wr s)) (Puts s) wr_there any_put (ap (tokens S s k) same ∙ none)))
+        (ap (λ z. eqb z 1) (out_none S title run f n k is.shows.here is.shows.low 1 (name (Wr s)) (Puts s) wr_there parts.0 (ap (tokens S s k) same ∙ none)))
 
     -- the token t at stream x, by an atom that shows it
     put_at : (g : StateForm) → form_at S k ≡ g → (x : ℕ) (a : Atom) (t : Token) → tokens S s k g ≡ at x s (entry (At k) a) → (x ≡ s → token_of (token_bits S s) (atom_value (run n) a) ≡ t)
@@ -144,10 +130,10 @@ module _ (S : Shape) (title : Name) (run : ℕ → Cycle) (f : Follows (built ti
         ⊎_elim
         (λ (e : x ≡ s).
         let wr : bit_at run (Wr s) n ≡ true =
-        ap (λ z. eqb z 1) (out_at S title run f n k is.shows.here is.shows.low 1 (name (Wr s)) (Puts s) wr_there any_put x s (At k) a (ap (tokens S s k) same ∙ some) true at_one)
+        ap (λ z. eqb z 1) (out_at S title run f n k is.shows.here is.shows.low 1 (name (Wr s)) (Puts s) wr_there parts.0 x s (At k) a (ap (tokens S s k) same ∙ some) true at_one)
         ∙ bit_back (eqb x s) ∙ eq-eqb x s e in
         let value : number_at run (Din s) n ≡ atom_value (run n) a =
-        out_value S title run f n k is.shows.here is.shows.low (bits + 1) (name (Din s)) (TokenChoice s) din_there pick_token (record { condition = name (At k); value = a }) (ap (tokens S s k) same ∙ some ∙ at_same x s (entry (At k) a) e) at_one in
+        out_value S title run f n k is.shows.here is.shows.low (bits + 1) (name (Din s)) (TokenChoice s) din_there parts.1 (record { condition = name (At k); value = a }) (ap (tokens S s k) same ∙ some ∙ at_same x s (entry (At k) a) e) at_one in
         ap (λ z. cond (z && ready) (din ∷ []) []) wr ∙ ap (λ z. cond ready (token_of (token_bits S s) z ∷ []) []) value ∙ ap (λ z. cond ready (z ∷ []) []) (shows e)
         ∙ ap (λ z. cond ready (cond z (t ∷ []) []) []) (sym (eq-eqb x s e)) ∙ ap (λ z. cond (bit_at run (Rdy z) n) (cond (eqb x s) (t ∷ []) []) []) (sym e))
         (λ (e : x ≡ s → ⊥).
@@ -182,19 +168,14 @@ module _ (S : Shape) (title : Name) (run : ℕ → Cycle) (f : Follows (built ti
     put_is (SetAt r e next) same = none_put (SetAt r e next) same refl
     put_is (CellAt a i e next) same = none_put (CellAt a i e next) same refl
     put_is (TestAt e y m) same = none_put (TestAt e y m) same refl
-    put_is (ReadAt x into next) same = none_put (ReadAt x into next) same refl ∙ sym (same_cond (allowed S run n (step (ReadAt x into next) k σ)) [])
     put_is (WriteAt x e next) same =
         put_at (WriteAt x e next) same x (net (Packed k)) (DatumToken (value e σ)) refl
         (λ here. ap (token_of (token_bits S s)) (packed_is x e next same) ∙ datum_token (value e σ) (written_low x e next same here))
-    put_is (PeekAt x into next) same = none_put (PeekAt x into next) same refl ∙ sym (same_cond (allowed S run n (step (PeekAt x into next) k σ)) [])
-    put_is (EotAt x into next) same = none_put (EotAt x into next) same refl ∙ sym (same_cond (allowed S run n (step (EotAt x into next) k σ)) [])
-    put_is (OpenAt x next) same = none_put (OpenAt x next) same refl ∙ sym (same_cond (allowed S run n (step (OpenAt x next) k σ)) [])
     put_is (CloseAt x next) same = put_at (CloseAt x next) same x (end_token S s) EotToken refl (λ here. end_is_token)
-    put_is (LoadAt m i into next) same = none_put (LoadAt m i into next) same refl ∙ sym (same_cond (allowed S run n (step (LoadAt m i into next) k σ)) [])
-    put_is (StoreAt m i e next) same = none_put (StoreAt m i e next) same refl ∙ sym (same_cond (allowed S run n (step (StoreAt m i e next) k σ)) [])
     put_is (ClearAt a c next) same = none_put (ClearAt a c next) same refl ∙ clear_puts S run n k a c next s σ (is_last σ a c)
     put_is EndAt same = none_put EndAt same refl
     put_is TrapAt same = none_put TrapAt same refl
+    put_is g same = none_put g same refl ∙ sym (same_cond (allowed S run n (step g k σ)) [])
 
 pub takes_are_made : TakesAreMade
 takes_are_made S title run f cells n k σ is s reads =

@@ -30,7 +30,7 @@ use Rattle.hw_lines.specs.Fixed.{fixed}
 use Rattle.hw_lines.specs.Drivers.{Driver, wires_of, last_of, one, conversion, operation}
 use Rattle.hw_lines.specs.Wires.{ArrayRead, read_count, reads_in, Compiled, constant, by_fixed, after_operands, converting, one_more, joining, choosing, compiled}
 use Rattle.hw_task_laws.specs.wires.Computes.{Numbered}
-use Rattle.hw_task_laws.proofs.wires.Fixes.{fixed_value, numbers_fixed}
+use Rattle.hw_task_laws.proofs.wires.Fixes.{fixed_value, numbers_fixed, some_same}
 use Rattle.hw_task_laws.proofs.wires.Computed.{numbered_left, numbered_second}
 use Rattle.hw_task_laws.specs.fit.Built.{AnswerNet, RegisterNets, IsBuilt}
 use Rattle.hw_task_laws.proofs.fit.Scopes.{left_among, both_among, atom_in, fit_behind, kind_wide}
@@ -51,20 +51,11 @@ constant_low K e k v t h = subst (λ z. z < values_of k) (fixed_value e empty_st
 as_constant : (o : Option ℕ) (v : ℕ) (k : Kind) (C : Compiled) → o ≡ Some v → by_fixed o k C ≡ constant k v
 as_constant o v k C e = ap (λ z. by_fixed z k C) e
 
-some_same : (n v : ℕ) → Some n ≡ Some v → n ≡ v
-some_same n v e = cc
-
 constant_compiled : (front : Name) (m n : ℕ) (k : Kind) (e : Expression) (v : ℕ) → IsFixed e → fixed e ≡ Some v → compiled front m n k e ≡ constant k v
 constant_compiled front m n k (Number j w) v f h = ap (constant k) (some_same w v h)
 constant_compiled front m n k (Reg x) v f h = absurd f
 constant_compiled front m n k (CellOf a i) v f h = absurd f
-constant_compiled front m n k (Converted s t e) v f h = as_constant (fixed (Converted s t e)) v k _ h
-constant_compiled front m n k (Applied o j l r) v f h = as_constant (fixed (Applied o j l r)) v k _ h
-constant_compiled front m n k (Flipped j e) v f h = as_constant (fixed (Flipped j e)) v k _ h
-constant_compiled front m n k (Inverse e) v f h = as_constant (fixed (Inverse e)) v k _ h
-constant_compiled front m n k (Both l r) v f h = as_constant (fixed (Both l r)) v k _ h
-constant_compiled front m n k (Either l r) v f h = as_constant (fixed (Either l r)) v k _ h
-constant_compiled front m n k (Chosen e a b) v f h = as_constant (fixed (Chosen e a b)) v k _ h
+constant_compiled front m n k g v f h = as_constant (fixed g) v k _ h
 
 some_atom : (K : Kinds) (front : Name) (m n : ℕ) (k : Kind) (e : Expression) → IsOfKind K e k → IsFixed e → ((σ : State) → 0 < value e σ) → IsSome (compiled front m n k e).atom
 some_atom K front m n k e t f some =
@@ -73,20 +64,7 @@ some_atom K front m n k e t f some =
 divides_by : (K : Kinds) (front : Name) (m n : ℕ) (o : Op) (j : Kind) (r : Expression) → IsOfKind K r (right_kind o j) → IsDivisor o r → DividesBy o (compiled front m n (right_kind o j) r).atom
 divides_by K front m n op.Div j r t d = some_atom K front m n j r t d.0 d.1
 divides_by K front m n op.Rem j r t d = some_atom K front m n j r t d.0 d.1
-divides_by K front m n op.Add j r t d = tt
-divides_by K front m n op.Sub j r t d = tt
-divides_by K front m n op.Mul j r t d = tt
-divides_by K front m n op.And j r t d = tt
-divides_by K front m n op.Or j r t d = tt
-divides_by K front m n op.Xor j r t d = tt
-divides_by K front m n op.Shl j r t d = tt
-divides_by K front m n op.Shr j r t d = tt
-divides_by K front m n op.Eq j r t d = tt
-divides_by K front m n op.Ne j r t d = tt
-divides_by K front m n op.Lt j r t d = tt
-divides_by K front m n op.Le j r t d = tt
-divides_by K front m n op.Gt j r t d = tt
-divides_by K front m n op.Ge j r t d = tt
+divides_by K front m n _ j r t d = tt
 
 -- ---- expressions
 

@@ -28,7 +28,8 @@ use Rattle.hw_lines.specs.Drivers.{Driver, wires_of, wire, after, last_of, one, 
 use Rattle.hw_task_laws.specs.wires.Shows.{IsWhole}
 use Rattle.hw_task_laws.proofs.wires.Shown.{two_halves, some_bits}
 use Rattle.hw_task_laws.proofs.wires.Operated.{wires_behind, last_behind}
-use Rattle.hw_task_laws.proofs.fit.Scopes.{left_among, right_among, wire_net, atom_in, wide, kind_wide, few_bits, signed_bits}
+use Rattle.hw_task_laws.proofs.fit.Scopes.{left_among, right_among, wire_net, atom_in, wide, kind_wide, signed_bits}
+use Rattle.tapa_base.proofs.Tests.{few_bits}
 
 -- wires with these drivers fit, and an atom behind them has w bits
 pub record IsDriven (all : List Element) (front : Name) (n : ℕ) (drivers : List Driver) (w : ℕ) (a : Atom) : Type 0 where
@@ -142,14 +143,7 @@ tested_driven all front n w a k whole h = here (eqb w 1) refl where
 pub conversion_driven : (all : List Element) (front : Name) (n : ℕ) (source target : Kind) (a : Atom) → IsWhole a → AtomIs all (bits_of source) a
     → IsDriven all front n (conversion front n source target a) (bits_of target) (last_of front n (conversion front n source target a) a)
 conversion_driven all front n source kind.Bool a whole h = tested_driven all front n (bits_of source) a (kind_wide source) whole h
-conversion_driven all front n source kind.I8 a whole h = resized_driven all front n source kind.I8 a whole h
-conversion_driven all front n source kind.U8 a whole h = resized_driven all front n source kind.U8 a whole h
-conversion_driven all front n source kind.I16 a whole h = resized_driven all front n source kind.I16 a whole h
-conversion_driven all front n source kind.U16 a whole h = resized_driven all front n source kind.U16 a whole h
-conversion_driven all front n source kind.I32 a whole h = resized_driven all front n source kind.I32 a whole h
-conversion_driven all front n source kind.U32 a whole h = resized_driven all front n source kind.U32 a whole h
-conversion_driven all front n source kind.I64 a whole h = resized_driven all front n source kind.I64 a whole h
-conversion_driven all front n source kind.U64 a whole h = resized_driven all front n source kind.U64 a whole h
+conversion_driven all front n source g a whole h = resized_driven all front n source g a whole h
 
 -- ---- comparisons
 
@@ -223,9 +217,8 @@ wide_driven all front n k drivers e d = here (eqb (bits_of k) 1) refl where
 -- ---- shifts
 
 count_fits : (all : List Element) (w u : ℕ) (b : Atom) → IsTrue (is_width u) → AtomIs all u b → SomeAtom all (shift_count w b)
-count_fits all w u (Net x) k h = (u, k, h)
-count_fits all w u (Part x high low) k h = (u, k, h)
 count_fits all w u (Literal v m) k h = (u, k, (h.0, (let l = h.1 in omega (arith, l))))
+count_fits all w u _ k h = (u, k, h)
 
 shifted_driven : (all : List Element) (front : Name) (n : ℕ) (j : Kind) (s : Bool) (a b e : Atom) → is_signed j ≡ s → IsWhole a → AtomIs all (bits_of j) a → AtomIs all 64 b
     → IsDriven all front n (shifted_right s front n (bits_of j) a b) (bits_of j) (last_of front n (shifted_right s front n (bits_of j) a b) e)

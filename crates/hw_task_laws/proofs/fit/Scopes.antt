@@ -1,5 +1,5 @@
 -- What stands among elements, and the widths of kinds.
-use Rattle.std.proofs.Common.{◌≡◌, ℕ, zero, suc, ◌+◌, ◌-◌, ◌*◌, ◌<◌, ◌≤◌, true, List, [], ◌∷◌, ◌++◌, length, inl, inr, refl, sym, ap, subst, arith, le-leb, ⊎_elim}
+use Rattle.std.proofs.Common.{◌≡◌, ℕ, suc, ◌+◌, ◌-◌, ◌<◌, ◌≤◌, true, List, [], ◌∷◌, ◌++◌, length, inl, inr, refl, ap, subst, arith, le-leb, ⊎_elim}
 use Rattle.std.specs.Prelude.{nat_le, IsTrue}
 use Rattle.tapa_base.specs.declared.kind.Kind.{Kind}
 use Rattle.tapa_base.specs.declared.kind.Kind.TheVariants as kind
@@ -13,11 +13,10 @@ use Rattle.vlog_tree.specs.V3.{is_width}
 use Rattle.tapa_base.proofs.Lists.{has_left, has_right, has_split, has_flat, of_flat}
 use Rattle.hw_build.specs.Elements.{Element, Input, Wire, Register, Memory}
 use Rattle.hw_build.specs.Trees.{numbered}
-use Rattle.hw_build.proofs.Forms.{yes_and}
-use Rattle.std.proofs.lemmas.Bool.{cases_eq}
+use Rattle.std.proofs.lemmas.Bool.{and_from as yes_and}
 use Rattle.hw_build.specs.Scope.{readable, register_of, memory_of, IsNet, IsRegister, IsMemory, AtomIs, FitInOrder}
 use Rattle.hw_build.specs.Fits.{IsAmong}
-use Rattle.hw_build.specs.Choices.{Entry, row, any_driver, any_elements, pick_driver, pick_elements, choice}
+use Rattle.hw_build.specs.Choices.{Entry, row_of, any_driver, any_elements, pick_driver, pick_elements, choice}
 use Rattle.hw_build.proofs.Parts.{in_order_more}
 
 -- ---- among elements
@@ -71,58 +70,26 @@ wide n a b = yes_and (nat_le 1 n) (nat_le n 128) (le-leb 1 n a) (le-leb n 128 b)
 
 pub kind_wide : (k : Kind) → IsTrue (is_width (bits_of k))
 kind_wide kind.Bool = refl
-kind_wide kind.I8 = refl
-kind_wide kind.U8 = refl
-kind_wide kind.I16 = refl
-kind_wide kind.U16 = refl
-kind_wide kind.I32 = refl
-kind_wide kind.U32 = refl
-kind_wide kind.I64 = refl
-kind_wide kind.U64 = refl
+kind_wide _ = refl
 
 pub token_wide : (k : Kind) → IsTrue (is_width (bits_of k + 1))
 token_wide kind.Bool = refl
-token_wide kind.I8 = refl
-token_wide kind.U8 = refl
-token_wide kind.I16 = refl
-token_wide kind.U16 = refl
-token_wide kind.I32 = refl
-token_wide kind.U32 = refl
-token_wide kind.I64 = refl
-token_wide kind.U64 = refl
-
-pub few_bits : (k : Kind) → bits_of k ≤ 64
-few_bits kind.Bool = omega arith
-few_bits kind.I8 = omega arith
-few_bits kind.U8 = omega arith
-few_bits kind.I16 = omega arith
-few_bits kind.U16 = omega arith
-few_bits kind.I32 = omega arith
-few_bits kind.U32 = omega arith
-few_bits kind.I64 = omega arith
-few_bits kind.U64 = omega arith
+token_wide _ = refl
 
 pub signed_bits : (k : Kind) → is_signed k ≡ true → 2 ≤ bits_of k
 signed_bits kind.Bool e = cc
-signed_bits kind.I8 e = omega arith
-signed_bits kind.U8 e = omega arith
-signed_bits kind.I16 e = omega arith
-signed_bits kind.U16 e = omega arith
-signed_bits kind.I32 e = omega arith
-signed_bits kind.U32 e = omega arith
-signed_bits kind.I64 e = omega arith
-signed_bits kind.U64 e = omega arith
+signed_bits _ e = omega arith
 
 -- ---- the net with a choice's result
 
-row_has : (w : ℕ) (front : Name) (driver : ℕ → Entry → Value) (j : ℕ) (d : Entry) (entries : List Entry) → (v : Value) × Has (row w front driver j (d ∷ entries)) (Wire w (numbered front (j + length entries)) v)
+row_has : (w : ℕ) (front : Name) (driver : ℕ → Entry → Value) (j : ℕ) (d : Entry) (entries : List Entry) → (v : Value) × Has (row_of w front driver j (d ∷ entries)) (Wire w (numbered front (j + length entries)) v)
 row_has w front driver j d [] = let e : j ≡ j + 0 = omega arith in (driver j d, inl (ap (λ i. Wire w (numbered front i) (driver j d)) e))
 row_has w front driver j d (c ∷ entries) =
     let r = row_has w front driver (suc j) c entries in
     let e : suc j + length entries ≡ j + suc (length entries) = omega arith in
-    (r.0, inr (subst (λ i. Has (row w front driver (suc j) (c ∷ entries)) (Wire w (numbered front i) r.0)) e r.1))
+    (r.0, inr (subst (λ i. Has (row_of w front driver (suc j) (c ∷ entries)) (Wire w (numbered front i) r.0)) e r.1))
 
-row_root : (before : List Element) (w : ℕ) (front : Name) (driver : ℕ → Entry → Value) (entries : List Entry) → 0 < length entries → IsAmong (row w front driver 0 entries) before → IsNet before (choice front entries) w
+row_root : (before : List Element) (w : ℕ) (front : Name) (driver : ℕ → Entry → Value) (entries : List Entry) → 0 < length entries → IsAmong (row_of w front driver 0 entries) before → IsNet before (choice front entries) w
 row_root before w front driver [] h among = absurd (omega (arith, h))
 row_root before w front driver (d ∷ entries) h among =
     let r = row_has w front driver 0 d entries in

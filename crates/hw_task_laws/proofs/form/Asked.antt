@@ -1,6 +1,6 @@
 -- The reads of arrays fit, each behind those before it.
 use Rattle.std.proofs.Common.{◌≡◌, ℕ, zero, suc, ◌+◌, ◌^◌, ◌<◌, ◌≤◌, Bool, true, false, cond, eqb, List, [], ◌∷◌, ◌++◌, length, Option, Some, None, inl, inr, refl, sym, ap, subst, ◌∙◌, arith, eq-eqb, eqb-true, ⊎_elim}
-use Rattle.std.specs.Prelude.{◌⊎◌, slice_get}
+use Rattle.std.specs.Prelude.{slice_get}
 use Rattle.std.proofs.Math.Pow.{pow_pos}
 use Rattle.tapa_base.specs.declared.kind.Kind.{Kind}
 use Rattle.tapa_base.specs.declared.kind.Kind.TheVariants as kind
@@ -19,9 +19,9 @@ use Rattle.hw_build.specs.Choices.{Entry, choice}
 use Rattle.hw_build.specs.Fits.{IsAmong}
 use Rattle.hw_build.proofs.Parts.{has_each, of_each, parts_fit, each_part_fits}
 use Rattle.hw_build.proofs.Picks.{any_fits, pick_fits}
-use Rattle.task_fsm.specs.Machine.{Expression, Number, Reg, CellOf, Converted, Applied, Flipped, Inverse, Both, Either, Chosen, StateForm, SetAt, CellAt, TestAt, WriteAt, LoadAt, StoreAt}
-use Rattle.task_fsm.specs.MachineKinds.{IsOfKind, IsTypedState}
-use Rattle.task_fsm.specs.Ranges.{Ranges, NamesWithin, IsInRange}
+use Rattle.task_fsm.specs.Machine.{Expression, CellOf, Converted, Applied, Flipped, Inverse, Both, Either, Chosen}
+use Rattle.task_fsm.specs.MachineKinds.{IsOfKind}
+use Rattle.task_fsm.specs.Ranges.{Ranges, NamesWithin}
 use Rattle.hw_lines.specs.declared.nets.Choice.TheVariants.{Reads, ArrayIndex}
 use Rattle.hw_lines.specs.declared.nets.Net.{Net}
 use Rattle.hw_lines.specs.declared.nets.Net.TheVariants.{State as StateNet, Ended, Variable, Array, At, Answer, Raw, ReadInside, ReadOn}
@@ -29,10 +29,10 @@ use Rattle.hw_lines.specs.Nets.{name, front, read_front}
 use Rattle.hw_lines.specs.Shape.{Shape, kinds_in, array_kind, array_cells, register_kind, index_bits, state_count, state_bits, form_at}
 use Rattle.hw_lines.specs.Drivers.{low_bits}
 use Rattle.hw_lines.specs.Wires.{ArrayRead, read_count, reads_in}
-use Rattle.hw_lines.specs.States.{net, nothing, index_of, value_of, value_kind, reads_at, decoded}
+use Rattle.hw_lines.specs.States.{net, index_of, value_of, value_kind, reads_at, decoded}
 use Rattle.hw_lines.specs.Effects.{entry, at, effect, entries, spot_of}
 use Rattle.hw_lines.specs.Texts.{variable, array, held, read_index, asked_of, asked, answered, unless_none, reads_of, read_numbers, any, pick}
-use Rattle.hw_lines.proofs.Decodes.{most_of, got_low}
+use Rattle.hw_lines.proofs.Decodes.{most_of}
 use Rattle.hw_task_laws.specs.wires.Computes.{Numbered}
 use Rattle.hw_task_laws.proofs.wires.Computed.{reads_counted, numbered_left, numbered_second, numbered_join}
 use Rattle.hw_task_laws.proofs.fit.Scopes.{left_among, both_among, wire_net, register_net, memory_there, atom_in, fit_behind, kind_wide, any_root, pick_root}
@@ -40,6 +40,8 @@ use Rattle.hw_task_laws.proofs.fit.Operators.{low_fits}
 use Rattle.hw_task_laws.specs.fit.Built.{AnswerNet, RegisterNets, IsBuilt}
 use Rattle.hw_task_laws.proofs.fit.Expressions.{compiled_fits}
 use Rattle.hw_task_laws.proofs.form.Task.{ranges_in, IsTask, some_index, few_index, index_wide}
+use Rattle.hw_task_laws.proofs.acts.Answered.{numbered_from, value_typed, index_typed, value_within, index_within, not_none, only_entry, some_length}
+use Rattle.tapa_base.proofs.Got.{got_low}
 
 -- ---- numbered reads
 
@@ -55,43 +57,6 @@ numbered_at : (P : ℕ → ArrayRead → Type 0) (m i : ℕ) (reads : List Array
 numbered_at P m i [] r h e = absurd cc
 numbered_at P m zero (q ∷ reads) r h e = let s : q ≡ r = cc in let z : m ≡ m + 0 = omega arith in subst (λ n. P n r) z (subst (P m) s h.0)
 numbered_at P m (suc i) (q ∷ reads) r h e = let z : suc m + i ≡ m + suc i = omega arith in subst (λ n. P n r) z (numbered_at P (suc m) i reads r h.1 e)
-
-numbered_from : (P : ℕ → ArrayRead → Type 0) (m : ℕ) (reads : List ArrayRead) → ((i : ℕ) (r : ArrayRead) → slice_get reads i ≡ Some r → P (m + i) r) → Numbered P m reads
-numbered_from P m [] h = tt
-numbered_from P m (q ∷ reads) h = (
-  (let z : m + 0 ≡ m = omega arith in subst (λ n. P n q) z (h 0 q refl)),
-  numbered_from P (suc m) reads (λ i r e. let z : m + suc i ≡ suc m + i = omega arith in subst (λ n. P n r) z (h (suc i) r e)),
-)
-
--- ---- the index and the value of a state
-
-pub value_typed : (S : Shape) (f : StateForm) → IsTypedState (kinds_in S) f → IsOfKind (kinds_in S) (value_of f) (value_kind S f)
-value_typed S (SetAt r e next) t = t
-value_typed S (CellAt a i e next) t = t.1
-value_typed S (TestAt e y n) t = t
-value_typed S (WriteAt s e next) t = t
-value_typed S (StoreAt m i e next) t = t.1
-value_typed S _ t = (refl, omega arith)
-
-pub index_typed : (S : Shape) (f : StateForm) → IsTypedState (kinds_in S) f → IsOfKind (kinds_in S) (index_of f) kind.U64 ⊎ (index_of f ≡ nothing)
-index_typed S (CellAt a i e next) t = inl t.0
-index_typed S (LoadAt m i into next) t = inl t.0
-index_typed S (StoreAt m i e next) t = inl t.0
-index_typed S _ t = inr refl
-
-pub value_within : (R : Ranges) (f : StateForm) → IsInRange R f → NamesWithin R (value_of f)
-value_within R (SetAt r e next) g = g.1
-value_within R (CellAt a i e next) g = g.2
-value_within R (TestAt e y n) g = g.0
-value_within R (WriteAt s e next) g = g.1
-value_within R (StoreAt m i e next) g = g.2
-value_within R _ g = tt
-
-pub index_within : (R : Ranges) (f : StateForm) → IsInRange R f → NamesWithin R (index_of f)
-index_within R (CellAt a i e next) g = g.1
-index_within R (LoadAt m i into next) g = g.1
-index_within R (StoreAt m i e next) g = g.1
-index_within R _ g = tt
 
 -- ---- entries
 
@@ -112,20 +77,9 @@ pub unless_fits : (before : List Element) (es : List Entry) (xs : List Element) 
 unless_fits before [] xs h = tt
 unless_fits before (e ∷ es) xs h = h (omega arith)
 
-pub some_length : {A : Type 0} (xs : List A) (x : A) → Has xs x → 0 < length xs
-some_length [] x h = absurd h
-some_length (y ∷ ys) x h = omega arith
-
 pub some_of : {A : Type 0} (xs : List A) → 0 < length xs → (x : A) × Has xs x
 some_of [] h = absurd (omega (arith, h))
 some_of (y ∷ ys) h = (y, inl refl)
-
-not_none : (es : List Entry) (e : Entry) (elements : List Element) → Has es e → unless_none es elements ≡ elements
-not_none [] e elements h = absurd h
-not_none (d ∷ es) e elements h = refl
-
-only_entry : (x : ℕ) (es : List Entry) → at x x es ≡ es
-only_entry x es = ap (λ b. cond b es []) (eq-eqb x x refl)
 
 -- ---- what is held
 
@@ -171,8 +125,6 @@ module _ (S : Shape) (T : IsTask S) where
     pub inner : Numbered (λ q s. (q < p) × IsRead k q s) r.first (reads_in r.first r.index)
 
   good_of : (k : ℕ) (e : Expression) (j : Kind) (m : ℕ) → IsOfKind K e j → NamesWithin R e → Numbered (IsRead k) m (reads_in m e) → Numbered (IsGood k) m (reads_in m e)
-  good_of k (Number i v) j m t g h = tt
-  good_of k (Reg x) j m t g h = tt
   good_of k (CellOf a i) j m t g h =
       let r : ArrayRead = record { array = a; index = i; first = m } in
       let inner = numbered_left (IsRead k) m (reads_in m i) (r ∷ []) h in
@@ -198,6 +150,7 @@ module _ (S : Shape) (T : IsTask S) where
       numbered_join (IsGood k) m e (xs ++ ys) (good_of k e kind.Bool m t.0 g.0 (numbered_left (IsRead k) m (reads_in m e) (xs ++ ys) h))
       (numbered_join (IsGood k) (m + read_count e) x ys (good_of k x j (m + read_count e) t.1 g.1 (numbered_left (IsRead k) (m + read_count e) xs ys late))
       (good_of k y j (m + read_count e + read_count x) t.2 g.2 (numbered_second (IsRead k) (m + read_count e) x ys late)))
+  good_of k _ j m t g h = tt
 
   none_before : (m : ℕ) → 0 + m ≡ m
   none_before m = omega arith

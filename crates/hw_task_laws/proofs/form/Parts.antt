@@ -29,9 +29,10 @@ use Rattle.hw_lines.specs.Effects.{entry, at, places, contents, effect, entries,
 use Rattle.hw_lines.specs.Texts.{by_end, writes, any, pick, result_of, result, root, variable_choices, array_choices, choices, written, taken, stream_outputs, memory_outputs, outputs, register_block, variable_block, array_block, blocks, reset_of, reset_by}
 use Rattle.hw_task_laws.proofs.fit.Scopes.{right_among, input_net, register_there, fit_behind, kind_wide, token_wide, any_root, pick_root, wire_net}
 use Rattle.hw_task_laws.proofs.form.Task.{IsTask, state_wide, index_wide}
-use Rattle.hw_task_laws.proofs.form.Asked.{some_length, some_of, EntryFits, of_at, unless_fits, ended_net, variable_has, array_in}
+use Rattle.hw_task_laws.proofs.form.Asked.{some_of, EntryFits, of_at, unless_fits, ended_net, variable_has, array_in}
 use Rattle.hw_task_laws.proofs.form.States.{scalar_net}
 use Rattle.hw_task_laws.proofs.form.Entries.{AreBefore, to_state, to_end, to_clear, to_set, to_store, to_place, to_content, to_token, to_take, to_ask, to_save}
+use Rattle.hw_task_laws.proofs.acts.Answered.{some_length}
 
 -- an entry for a thing of its own
 given : (x : Net) (b a : ℕ) (v : Atom) → b ≡ a → (e : Entry) × Has (at b a (entry x v)) e

@@ -12,13 +12,12 @@ use Rattle.vlog_tree.specs.declared.tree.Value.TheVariants.{Invert, Binary}
 use Rattle.tapa_base.specs.Lists.{Has}
 use Rattle.vlog_tree.specs.V3.{is_width, is_cell_count}
 use Rattle.tapa_base.proofs.Lists.{has_left, has_right}
-use Rattle.hw_build.proofs.Forms.{yes_and}
 use Rattle.hw_build.specs.Elements.{Element, Input, Wire, Register}
 use Rattle.hw_build.specs.Trees.{numbered}
 use Rattle.hw_build.specs.Scope.{each, IsNet, AtomIs, FitInOrder}
 use Rattle.hw_build.specs.Fits.{IsAmong}
 use Rattle.hw_build.proofs.Parts.{has_each, parts_fit, each_part_fits}
-use Rattle.task_fsm.specs.Machine.{StateForm, SetAt, CellAt, TestAt, ReadAt, WriteAt, PeekAt, EotAt, OpenAt, CloseAt, LoadAt, StoreAt, ClearAt, EndAt, TrapAt}
+use Rattle.task_fsm.specs.Machine.{StateForm, CellAt, TestAt, ReadAt, WriteAt, PeekAt, EotAt, OpenAt, CloseAt, LoadAt, StoreAt, ClearAt}
 use Rattle.task_fsm.specs.MachineKinds.{IsOfKind, IsTypedState}
 use Rattle.task_fsm.specs.Ranges.{IsInRange}
 use Rattle.hw_lines.specs.declared.nets.Net.{Net}
@@ -28,24 +27,23 @@ use Rattle.hw_lines.specs.Shape.{Shape, kinds_in, array_kind, array_cells, strea
 use Rattle.hw_lines.specs.Wires.{read_count, compiled}
 use Rattle.hw_lines.specs.States.{net, index_of, value_of, value_kind, index_wires, value_wires, awaited, needs_go, go_of, next_of, next_wires, into_of, counting, more_wires, state_wires, decoded}
 use Rattle.hw_lines.specs.Effects.{datum_of, eot_of}
-use Rattle.hw_lines.specs.Texts.{by_end, scalar_port, is_written, writes, stream_inputs, memory_inputs, inputs, variable, array, held, offers, offered, reads_of, read_numbers}
-use Rattle.hw_lines.proofs.Decodes.{got_low}
+use Rattle.hw_lines.specs.Texts.{by_end, scalar_port, writes, stream_inputs, memory_inputs, inputs, variable, array, held, offers, offered, reads_of, read_numbers}
 use Rattle.hw_task_laws.proofs.wires.Shown.{some_bits}
 use Rattle.hw_task_laws.proofs.fit.Scopes.{left_among, both_among, wire_net, input_net, atom_in, fit_behind, kind_wide, token_wide}
 use Rattle.hw_task_laws.proofs.fit.Operators.{with_wire, wire_there}
 use Rattle.hw_task_laws.specs.fit.Built.{IsBuilt}
 use Rattle.hw_task_laws.proofs.fit.Expressions.{compiled_fits}
 use Rattle.hw_task_laws.proofs.form.Task.{ranges_in, IsTask, state_wide, state_low}
-use Rattle.hw_task_laws.proofs.form.Asked.{value_typed, index_typed, value_within, index_within, state_net, registers_in, at_net, index_answers, value_answers}
+use Rattle.hw_task_laws.proofs.acts.Answered.{value_typed, index_typed, value_within, index_within}
+use Rattle.hw_task_laws.proofs.form.Asked.{state_net, registers_in, at_net, index_answers, value_answers}
+use Rattle.hw_task_laws.proofs.steps.Allowed.{side_is as written_so}
+use Rattle.std.proofs.lemmas.Bool.{and_from as yes_and}
+use Rattle.tapa_base.proofs.Got.{got_low}
 
 -- the wires of a state's value are called so
 pub value_net : (k n : ℕ) → name (ValueNet k n) ≡ numbered (value_front k) n
 unfolding name value_front
 value_net k n = refl
-
-written_so : (o : Option End) (b : Bool) → option_map (λ (e : End). e.writes) o ≡ Some b → is_written o ≡ b
-written_so None b h = cc
-written_so (Some e) b h = cc
 
 got_end : (ends : List End) (s : ℕ) (b : Bool) (o : Option End) → slice_get ends s ≡ o → option_map (λ (e : End). e.writes) o ≡ Some b → s < length ends
 got_end ends s b None e h = absurd cc
@@ -280,10 +278,7 @@ module _ (S : Shape) (T : IsTask S) where
     next_fits Y (CloseAt s next) is g waits in_Y clears = leads Y (net (Rdy s)) next k (waits (Rdy s) refl) g.1 low
     next_fits Y (LoadAt m i into next) is g waits in_Y clears = leads Y (net (Ack m)) next k (waits (Ack m) refl) g.3 low
     next_fits Y (StoreAt m i e next) is g waits in_Y clears = leads Y (net (Ack m)) next k (waits (Ack m) refl) g.3 low
-    next_fits Y (SetAt r e next) is g waits in_Y clears = tt
-    next_fits Y (CellAt a i e next) is g waits in_Y clears = tt
-    next_fits Y EndAt is g waits in_Y clears = tt
-    next_fits Y TrapAt is g waits in_Y clears = tt
+    next_fits Y _ is g waits in_Y clears = tt
 
     pub state_fits : FitInOrder before (state_wires S k)
     state_fits =

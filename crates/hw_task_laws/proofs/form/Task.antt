@@ -98,7 +98,7 @@ module _ (leaf : Leaf) (machine : Fsm) (is_leaf : IsLeaf leaf) (lowered : IsLowe
 
 -- ---- bits
 
-fits_bits : (n : ℕ) → n < 2 ^ 32 → n < 2 ^ bits_for n
+pub fits_bits : (n : ℕ) → n < 2 ^ 32 → n < 2 ^ bits_for n
 unfolding bits_for
 fits_bits n h =
     ⊎_elim

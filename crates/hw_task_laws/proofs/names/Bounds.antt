@@ -1,5 +1,5 @@
 -- How many parts a task's module has, where its elements can be counted.
-use Rattle.std.proofs.Common.{◌≡◌, ℕ, zero, suc, ◌+◌, ◌^◌, ◌<◌, ◌≤◌, Bool, true, false, List, [], ◌∷◌, ◌++◌, length, Option, Some, None, inl, inr, refl, subst, arith, length-append, ⊎_elim}
+use Rattle.std.proofs.Common.{◌≡◌, ℕ, zero, suc, ◌+◌, ◌^◌, ◌<◌, ◌≤◌, Bool, true, false, List, [], ◌∷◌, ◌++◌, length, Option, Some, None, inl, inr, subst, arith, length-append, ⊎_elim}
 use Rattle.std.specs.Prelude.{◌⊎◌, slice_get}
 use Rattle.std.proofs.lemmas.Bool.{cases_eq}
 use Rattle.tapa_base.specs.Kinds.{bits_of}
@@ -17,6 +17,7 @@ use Rattle.hw_lines.specs.States.{net, reads_at, state_wires, decoded}
 use Rattle.hw_lines.specs.Effects.{entries}
 use Rattle.hw_lines.specs.Texts.{by_end, scalar_port, writes, stream_inputs, memory_inputs, inputs, variable, array, held, offered, read_index, asked_of, asked, answered, unless_none, reads_of, most, read_numbers, choices, outputs, blocks}
 use Rattle.hw_task_laws.specs.names.Countable.{IsCountable}
+use Rattle.tapa_base.proofs.Got.{some_at as got_some}
 
 -- the numbers of parts are below 2 ^ 64
 pub record IsBounded (S : Shape) : Type 0 where
@@ -53,11 +54,6 @@ most_at f (suc n) p h = ⊎_elim (λ l. (n, omega arith, l)) (λ l. let r = most
   below a zero = inr (omega arith)
   below zero (suc b) = inl (omega arith)
   below (suc a) (suc b) = ⊎_elim (λ l. inl (omega (arith, l))) (λ l. inr (omega (arith, l))) (below a b)
-
-pub got_some : {A : Type 0} (xs : List A) (p : ℕ) → p < length xs → (x : A) × (slice_get xs p ≡ Some x)
-got_some [] p h = absurd (omega arith)
-got_some (y ∷ ys) zero h = (y, refl)
-got_some (y ∷ ys) (suc p) h = got_some ys p (omega arith)
 
 some_stream : (S : Shape) (s : ℕ) (b : Bool) → 1 ≤ length (by_end (Input 1 (name (Rdy s)) ∷ []) (Input 1 (name (Has s)) ∷ Input (bits_of (stream_kind S s) + 1) (name (Dout s)) ∷ []) b)
 some_stream S s true = omega arith

@@ -7,20 +7,13 @@ use Rattle.vlog_tree.specs.declared.tree.PortDecl.{PortDecl}
 use Rattle.vlog_tree.specs.Names.{has_name_form, starts_name, goes_on}
 use Rattle.vlog_tree.specs.Table.{Name}
 use Rattle.vlog_module_laws.proofs.Labelled.{early_name}
-use Rattle.hw_build.specs.Elements.{Element, Input, Output, Outlet, Wire, InstanceWire, Register, Memory, Block, Instance, element_ports, element_items, empty, built}
+use Rattle.hw_build.specs.Elements.{Element, Input, element_ports, element_items, empty, built}
 use Rattle.hw_build.proofs.Tables.{ports_of_all, items_of_all}
 use Rattle.hw_task_laws.specs.names.Countable.{LinesCountElements, TitlesAreNames}
 
 one_line : (e : Element) → 1 ≤ length (element_ports e) + length (element_items e)
 one_line (Input w x) = omega arith
-one_line (Output w x v) = omega arith
-one_line (Outlet w x) = omega arith
-one_line (Wire w x v) = omega arith
-one_line (InstanceWire w x) = omega arith
-one_line (Register w x) = omega arith
-one_line (Memory w x n) = omega arith
-one_line (Block b) = omega arith
-one_line (Instance k i ls) = omega arith
+one_line _ = omega arith
 
 all_lines : (elements : List Element) → length elements ≤ length (flat_map element_ports elements) + length (flat_map element_items elements)
 all_lines [] = omega arith

@@ -7,7 +7,7 @@ use Rattle.std.proofs.lemmas.Grind.{flat_map-append}
 use Rattle.tapa_base.specs.Lists.{Has}
 use Rattle.vlog_tree.specs.Table.{Name, times_in, one_if}
 use Rattle.tapa_base.proofs.Lists.{has_split}
-use Rattle.vlog_module_laws.proofs.Lists.{both_true, count_cons}
+use Rattle.vlog_module_laws.proofs.Lists.{count_cons}
 use Rattle.hw_build.specs.Elements.{Element}
 use Rattle.hw_build.specs.Trees.{numbered}
 use Rattle.hw_build.specs.Scope.{each}
@@ -22,7 +22,8 @@ use Rattle.hw_lines.specs.Nets.{numbers, name}
 use Rattle.hw_lines.specs.Names.{AreSmall}
 use Rattle.hw_lines.proofs.Names.{names_tell}
 use Rattle.hw_task_laws.proofs.names.Bounds.{left_short, right_short}
-use Rattle.hw_task_laws.proofs.names.Rows.{AreRow, row_names}
+use Rattle.hw_task_laws.proofs.names.Rows.{AreRow, named_so, row_names}
+use Rattle.tapa_base.proofs.Tests.{both_true}
 
 -- ---- what tells nets: their sorts, in the order of a module's elements, and their numbers
 
@@ -83,8 +84,6 @@ sort_of (Node c j) = choice_sort c
 
 -- the number of its part, and of its part within that
 abbrev pub choice_part : Choice → ℕ
-choice_part ToState = 0
-choice_part ToEnd = 0
 choice_part (Clear r) = r
 choice_part (Set r) = r
 choice_part (NextValue r) = r
@@ -99,11 +98,9 @@ choice_part (Takes s) = s
 choice_part (Address m) = m
 choice_part (StoreEnable m) = m
 choice_part (Data m) = m
+choice_part _ = 0
 
 abbrev pub part_of : Net → ℕ
-part_of State = 0
-part_of Ended = 0
-part_of Done = 0
 part_of (Scalar a) = a
 part_of (Variable a) = a
 part_of (Array a) = a
@@ -136,6 +133,7 @@ part_of (ReadOn a b) = b
 part_of (Raw a b) = a
 part_of (Answer a b) = a
 part_of (Node c j) = choice_part c
+part_of _ = 0
 
 abbrev pub choice_inner : Choice → ℕ
 choice_inner (Reads p a) = a
@@ -198,7 +196,7 @@ single x y =
 pub same_net : (x y : Net) → AreSmall (numbers x) → AreSmall (numbers y) → name x ≡ name y → x ≡ y
 same_net x y a b e = names_tell x y a b e
 
-each_short : (f : ℕ → List Element) (n k : ℕ) → k < n → length (each f n) ≤ 2 ^ 64 → length (f k) ≤ 2 ^ 64
+pub each_short : (f : ℕ → List Element) (n k : ℕ) → k < n → length (each f n) ≤ 2 ^ 64 → length (f k) ≤ 2 ^ 64
 each_short f zero k l h = absurd (omega arith)
 each_short f (suc n) k l h =
     ⊎_elim
@@ -254,8 +252,10 @@ clash Q a b c d x o t u =
     let k = u.below in
     ⊎_elim (λ l. omega (arith, same, f, g, h, k, l)) (λ l. omega (arith, same, f, g, h, k, l)) o
 
-pub named_both : (g : Element → List Name) (Q : Net → Type 0) (a b c d low high : ℕ) (xs ys : List Element) → Named g Q a b xs → Named g Q c d ys → are_apart a b c d low high ≡ true → Named g Q low high (xs ++ ys)
-named_both g Q a b c d low high xs ys h k ok =
+pub names_both : (g : Element → List Name) (Q : Net → Type 0) (a b c d low high : ℕ) (xs ys : List Element) → Names g Q a b xs → Names g Q c d ys → are_apart a b c d low high ≡ true → Names g Q low high (xs ++ ys)
+names_both g Q a b c d low high xs ys left right ok s =
+    let h = left (left_short xs ys s) in
+    let k = right (right_short xs ys s) in
     let o = bounded a b c d low high ok in
     let e = flat_map-append g xs ys in
     record {
@@ -263,17 +263,17 @@ named_both g Q a b c d low high xs ys h k ok =
       nets = λ x p. ⊎_elim (λ l. wider Q a b low high x o.low_a o.b_high (h.nets x l)) (λ r. wider Q c d low high x o.low_c o.d_high (k.nets x r)) (has_split (flat_map g xs) (flat_map g ys) x (subst (λ l. Has l x) e p));
     }
 
-pub names_both : (g : Element → List Name) (Q : Net → Type 0) (a b c d low high : ℕ) (xs ys : List Element) → Names g Q a b xs → Names g Q c d ys → are_apart a b c d low high ≡ true → Names g Q low high (xs ++ ys)
-names_both g Q a b c d low high xs ys h k ok = λ s. named_both g Q a b c d low high xs ys (h (left_short xs ys s)) (k (right_short xs ys s)) ok
-
 -- parts that a number of their nets tells
-named_each : (g : Element → List Name) (Q : Net → Type 0) (key : Net → ℕ) (low high : ℕ) (f : ℕ → List Element) (n : ℕ) → ((k : ℕ) → k < n → Named g (In_part Q key k) low high (f k)) → Named g Q low high (each f n)
-named_each g Q key low high f n h =
+pub names_each : (g : Element → List Name) (Q : Net → Type 0) (key : Net → ℕ) (low high : ℕ) (f : ℕ → List Element) (n : ℕ) → ((k : ℕ) → k < n → Names g (In_part Q key k) low high (f k)) → Names g Q low high (each f n)
+names_each g Q key low high f n short s =
     let e = flat_each g f n in
     record {
       once = subst AreOnce (sym e) (parts_once (λ k. flat_map g (f k)) n (λ k l. (h k l).once) told);
       nets = λ x p. let r = of_each (λ k. flat_map g (f k)) n x (subst (λ l. Has l x) e p) in plain x r.0 ((h r.0 r.1).nets x r.2);
     } where
+      h : (k : ℕ) → k < n → Named g (In_part Q key k) low high (f k)
+      h k l = short k l (each_short f n k l s)
+
       told : (j k : ℕ) (x : Name) → j < n → k < n → Has (flat_map g (f j)) x → Has (flat_map g (f k)) x → j ≡ k
       told j k x l m p q =
           let t = (h j l).nets x p in
@@ -283,21 +283,15 @@ named_each g Q key low high f n h =
       plain : (x : Name) (k : ℕ) → IsNetOf (In_part Q key k) low high x → IsNetOf Q low high x
       plain x k t = record { net = t.net; is = t.is; small = t.small; so = t.so.0; from = t.from; below = t.below }
 
-pub names_each : (g : Element → List Name) (Q : Net → Type 0) (key : Net → ℕ) (low high : ℕ) (f : ℕ → List Element) (n : ℕ) → ((k : ℕ) → k < n → Names g (In_part Q key k) low high (f k)) → Names g Q low high (each f n)
-names_each g Q key low high f n h = λ s. named_each g Q key low high f n (λ k l. h k l (each_short f n k l s))
-
-pub named_none : (g : Element → List Name) (Q : Net → Type 0) (low high : ℕ) (es : List Element) → flat_map g es ≡ [] → Named g Q low high es
-named_none g Q low high es e = record {
+pub names_none : (g : Element → List Name) (Q : Net → Type 0) (low high : ℕ) (es : List Element) → flat_map g es ≡ [] → Names g Q low high es
+names_none g Q low high es e s = record {
   once = subst AreOnce (sym e) (λ x. omega arith);
   nets = λ x h. absurd (subst (λ l. Has l x) e h);
 }
 
-pub names_none : (g : Element → List Name) (Q : Net → Type 0) (low high : ℕ) (es : List Element) → flat_map g es ≡ [] → Names g Q low high es
-names_none g Q low high es e = λ s. named_none g Q low high es e
-
 -- one element
-pub named_one : (g : Element → List Name) (Q : Net → Type 0) (low high : ℕ) (e : Element) (y : Net) → g e ≡ name y ∷ [] → Q y → AreSmall (numbers y) → is_sorted low high y ≡ true → Named g Q low high (e ∷ [])
-named_one g Q low high e y is so small sorted = record { once = subst AreOnce (sym s) (single (name y)); nets = λ x h. only x (subst (λ l. Has l x) s h) } where
+pub names_one : (g : Element → List Name) (Q : Net → Type 0) (low high : ℕ) (e : Element) (y : Net) → g e ≡ name y ∷ [] → Q y → AreSmall (numbers y) → is_sorted low high y ≡ true → Names g Q low high (e ∷ [])
+names_one g Q low high e y is so small sorted short = record { once = subst AreOnce (sym s) (single (name y)); nets = λ x h. only x (subst (λ l. Has l x) s h) } where
   s : flat_map g (e ∷ []) ≡ name y ∷ []
   s = ap (λ l. l ++ []) is
 
@@ -306,9 +300,6 @@ named_one g Q low high e y is so small sorted = record { once = subst AreOnce (s
       let p = both_true (nat_le low (sort_of y)) (nat_lt (sort_of y) high) sorted in
       record { net = y; is = k; small = small; so = so; from = leb-true low (sort_of y) p.0; below = ltb-true (sort_of y) high p.1 }
   only x (inr n) = absurd n
-
-pub names_one : (g : Element → List Name) (Q : Net → Type 0) (low high : ℕ) (e : Element) (y : Net) → g e ≡ name y ∷ [] → Q y → AreSmall (numbers y) → is_sorted low high y ≡ true → Names g Q low high (e ∷ [])
-names_one g Q low high e y is so small sorted = λ s. named_one g Q low high e y is so small sorted
 
 -- and one before others
 pub names_more : (g : Element → List Name) (Q : Net → Type 0) (a b c d low high : ℕ) (e : Element) (es : List Element) → Names g Q a b (e ∷ []) → Names g Q c d es → are_apart a b c d low high ≡ true → Names g Q low high (e ∷ es)
@@ -325,18 +316,12 @@ row_once front n [] y h k small = λ x. omega arith
 row_once front n (e ∷ es) y h k small =
     two_once (declared_names e) (flat_map declared_names es) (subst AreOnce (sym (ap declared_names h.0.2)) (single (numbered front n)))
     (row_once front (suc n) es y h.1 k (λ i l. small i (omega (arith, l)))) apart where
-      first : (x : Name) → Has (declared_names e) x → x ≡ numbered front n
-      first x p = only (subst (λ l. Has l x) (ap declared_names h.0.2) p) where
-        only : Has (numbered front n ∷ []) x → x ≡ numbered front n
-        only (inl s) = sym s
-        only (inr m) = absurd m
-
       apart : (x : Name) → Has (declared_names e) x → Has (flat_map declared_names es) x → ⊥
       apart x p q =
           let t = row_names front (suc n) es h.1 x q in
           let low : suc n ≤ t.0 = t.1 in
           let high : t.0 < suc n + length es = t.2 in
-          let same : y n ≡ y t.0 = same_net (y n) (y t.0) (small n (omega arith)) (small t.0 (omega (arith, high))) (k.is n ∙ sym (first x p) ∙ t.3 ∙ sym (k.is t.0)) in
+          let same : y n ≡ y t.0 = same_net (y n) (y t.0) (small n (omega arith)) (small t.0 (omega (arith, high))) (k.is n ∙ sym (named_so e x (numbered front n) h.0 p) ∙ t.3 ∙ sym (k.is t.0)) in
           let f : n ≡ t.0 = sym (k.last n) ∙ ap last_of same ∙ k.last t.0 in
           omega (arith, low, f)
 

@@ -16,7 +16,7 @@ use Rattle.hw_lines.specs.Shape.{Shape, stream_kind, memory_kind, state_count}
 use Rattle.hw_lines.specs.States.{net, state_wires, decoded}
 use Rattle.hw_lines.specs.Texts.{by_end, scalar_port, writes, stream_inputs, memory_inputs, inputs, held, offered, reads_of, read_numbers, any, pick, choices, written, taken, stream_outputs, memory_outputs, outputs, variable_block, array_block, blocks, task_elements}
 use Rattle.hw_lines.specs.Effects.{entries}
-use Rattle.hw_task_laws.specs.names.Ports.{outward, scalar_input, stream_in, stream_out, memory_in, memory_out, task_inputs, task_outputs, ModulesHavePorts, PortsAreThese}
+use Rattle.hw_task_laws.specs.names.Ports.{outward, scalar_input, stream_in, stream_out, memory_in, memory_out, task_inputs, task_outputs, ModulesHavePorts}
 use Rattle.hw_task_laws.proofs.names.Named.{flat_each}
 use Rattle.hw_task_laws.proofs.names.Empty.{GiveNone, both_none, each_none, unless_gives, any_none, pick_none, decodes_none, offers_none, reads_none, states_none, choices_none, held_none}
 
@@ -80,8 +80,8 @@ module _ (S : Shape) where
       both_none element_ports (each (variable_block S) (length S.registers)) (each (array_block S) (length S.arrays)) (each_none element_ports (variable_block S) (length S.registers) (λ r. refl))
       (each_none element_ports (array_block S) (length S.arrays) (λ a. unless_gives element_ports (entries S (Stores a)) _ refl))
 
-  pub ports_of_task : flat_map element_ports (task_elements S) ≡ task_inputs S ++ task_outputs S
-  ports_of_task =
+  pub ports_are_these : flat_map element_ports (task_elements S) ≡ task_inputs S ++ task_outputs S
+  ports_are_these =
       let decodes = each (decoded S) (state_count S) in
       let offers = each (offered S) (length S.streams) in
       let reads = each (reads_of S) (read_numbers S) in
@@ -98,8 +98,5 @@ module _ (S : Shape) where
       (decodes_none element_ports (λ w x v. refl) S)) (offers_none element_ports (λ w x v. refl) S)) (reads_none element_ports (λ w x v. refl) S)) (states_none element_ports (λ w x v. refl) S))
       (choices_none element_ports (λ w x v. refl) S)) output_ports) block_ports
 
-pub ports_are_these : PortsAreThese
-ports_are_these S = ports_of_task S
-
 pub modules_have_ports : ModulesHavePorts
-modules_have_ports S title = ports_of_all (task_elements S) (empty title) ∙ ap (λ (l : List PortDecl). (empty title).ports ++ l) (ports_of_task S)
+modules_have_ports S title = ports_of_all (task_elements S) (empty title) ∙ ap (λ (l : List PortDecl). (empty title).ports ++ l) (ports_are_these S)

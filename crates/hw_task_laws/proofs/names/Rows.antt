@@ -1,23 +1,22 @@
 -- Wires with numbered names, one after another: those of drivers, of an expression, and of a choice.
-use Rattle.std.proofs.Common.{◌≡◌, ℕ, zero, suc, ◌+◌, ◌-◌, ◌*◌, ◌<◌, ◌≤◌, List, [], ◌∷◌, ◌++◌, length, Option, Some, None, inl, inr, refl, sym, ap, subst, arith, length-append}
+use Rattle.std.proofs.Common.{◌≡◌, ℕ, suc, ◌+◌, ◌<◌, ◌≤◌, List, [], ◌∷◌, ◌++◌, length, Option, Some, None, inl, inr, refl, sym, ap, subst, arith, length-append, ⊎_elim}
 use Rattle.std.specs.List.{flat_map}
 use Rattle.tapa_base.specs.declared.kind.Kind.{Kind}
 use Rattle.tapa_base.specs.declared.kind.Kind.TheVariants as kind
 use Rattle.tapa_base.specs.Kinds.{bits_of}
 use Rattle.tapa_syntax.specs.Typed.{right_kind}
 use Rattle.vlog_tree.specs.declared.tree.Atom.{Atom}
-use Rattle.vlog_tree.specs.declared.tree.Atom.TheVariants.{Net, Literal}
 use Rattle.vlog_tree.specs.declared.tree.BinaryOp.TheVariants.{And, Or}
 use Rattle.vlog_tree.specs.declared.tree.Value.{Value}
-use Rattle.vlog_tree.specs.declared.tree.Value.TheVariants.{Plain, Invert, Binary, Choose}
+use Rattle.vlog_tree.specs.declared.tree.Value.TheVariants.{Invert, Binary, Choose}
 use Rattle.tapa_base.specs.Lists.{Has}
 use Rattle.vlog_tree.specs.Table.{Name}
 use Rattle.tapa_base.proofs.Lists.{has_split}
 use Rattle.hw_build.specs.Elements.{Element, Wire}
 use Rattle.hw_build.specs.Trees.{numbered}
-use Rattle.hw_build.specs.Choices.{Entry, row, any_driver, any_elements, pick_driver, pick_elements}
+use Rattle.hw_build.specs.Choices.{Entry, row_of, any_driver, any_elements, pick_driver, pick_elements}
 use Rattle.hw_build.specs.Fits.{declared_names}
-use Rattle.task_fsm.specs.Machine.{Expression, Number, Reg, CellOf, Converted, Applied, Flipped, Inverse, Both, Either, Chosen}
+use Rattle.task_fsm.specs.Machine.{Expression, Converted, Applied, Flipped, Inverse, Both, Either, Chosen}
 use Rattle.hw_lines.specs.Fixed.{fixed}
 use Rattle.hw_lines.specs.Drivers.{Driver, wires_of, one, conversion, operation}
 use Rattle.hw_lines.specs.Wires.{read_count, Compiled, by_fixed, after_operands, converting, one_more, joining, choosing, compiled}
@@ -74,9 +73,6 @@ fixed_row front n None k C h = h
 
 -- the wires of an expression
 pub compiled_row : (front : Name) (m n : ℕ) (k : Kind) (e : Expression) → IsCompiledRow front n (compiled front m n k e)
-compiled_row front m n k (Number j v) = row_none front n
-compiled_row front m n k (Reg x) = row_none front n
-compiled_row front m n k (CellOf a i) = row_none front n
 compiled_row front m n k (Converted s t e) =
     let C = compiled front m n s e in
     fixed_row front n (fixed (Converted s t e)) k (converting front n s t C) (behind_row front n C.elements C.count (conversion front (n + C.count) s t C.atom) C.atom (compiled_row front m n s e))
@@ -113,10 +109,11 @@ compiled_row front m n k (Chosen e a b) =
     (row_join front n C.count (D.count + E.count) C.elements (D.elements ++ E.elements) (compiled_row front m n kind.Bool e)
     (row_join front (n + C.count) D.count E.count D.elements E.elements (compiled_row front (m + read_count e) (n + C.count) k a)
     (compiled_row front (m + read_count e + read_count a) (n + C.count + D.count) k b))))
+compiled_row front m n k _ = row_none front n
 
 -- ---- choices
 
-choice_row : (w : ℕ) (front : Name) (driver : ℕ → Entry → Value) (j : ℕ) (entries : List Entry) → AreRow front j (row w front driver j entries)
+choice_row : (w : ℕ) (front : Name) (driver : ℕ → Entry → Value) (j : ℕ) (entries : List Entry) → AreRow front j (row_of w front driver j entries)
 choice_row w front driver j [] = tt
 choice_row w front driver j (e ∷ entries) = ((w, driver j e, refl), choice_row w front driver (suc j) entries)
 
@@ -128,11 +125,8 @@ pick_row w front entries = choice_row w front (pick_driver front) 0 entries
 
 -- ---- their names
 
-named_so : (e : Element) (x y : Name) → IsWire y e → Has (declared_names e) x → x ≡ y
-named_so e x y h k = only (subst (λ l. Has l x) (ap declared_names h.2) k) where
-  only : Has (y ∷ []) x → x ≡ y
-  only (inl s) = sym s
-  only (inr n) = absurd n
+pub named_so : (e : Element) (x y : Name) → IsWire y e → Has (declared_names e) x → x ≡ y
+named_so e x y h k = ⊎_elim (λ s. sym s) (λ n. absurd n) (subst (λ l. Has l x) (ap declared_names h.2) k)
 
 pub row_names : (front : Name) (n : ℕ) (es : List Element) → AreRow front n es → (x : Name) → Has (flat_map declared_names es) x → (i : ℕ) × (n ≤ i) × (i < n + length es) × (x ≡ numbered front i)
 row_names front n [] h x k = absurd k

@@ -10,14 +10,13 @@ use Rattle.vlog_tree.specs.Names.{is_name}
 use Rattle.vlog_tree.specs.Table.{Name, clk}
 use Rattle.vlog_tree.specs.declared.tree.Value.TheVariants.{Plain as PlainValue}
 use Rattle.hw_build.specs.Elements.{Element, Output, Block}
-use Rattle.hw_build.proofs.Forms.{yes_and}
 use Rattle.hw_build.specs.Scope.{each}
 use Rattle.hw_build.specs.Choices.{Entry}
 use Rattle.hw_build.specs.Fits.{declared_names, targets, AreOnce}
 use Rattle.hw_build.proofs.Once.{two_once}
 use Rattle.hw_lines.specs.declared.nets.Choice.{Choice}
 use Rattle.hw_lines.specs.declared.nets.Net.{Net}
-use Rattle.hw_lines.specs.declared.nets.Choice.TheVariants.{ToState, ToEnd, Clear, Set, NextValue, Stores, WriteIndex, WriteData, Reads, ArrayIndex, Puts, Token, Takes, Address, StoreEnable, Data}
+use Rattle.hw_lines.specs.declared.nets.Choice.TheVariants.{ToState, ToEnd, Set, Stores, Puts, Token, Takes, Address, StoreEnable, Data}
 use Rattle.hw_lines.specs.declared.nets.Net.TheVariants.{State, Ended, Done, Variable, Array, Node}
 use Rattle.hw_lines.specs.Nets.{word, choice_word, choice_numbers, numbers, name}
 use Rattle.hw_lines.specs.Shape.{Shape, state_count, stream_kind, memory_kind}
@@ -27,11 +26,12 @@ use Rattle.hw_lines.specs.Texts.{scalar_port, writes, stream_inputs, memory_inpu
 use Rattle.tapa_base.specs.Kinds.{bits_of}
 use Rattle.hw_lines.proofs.Names.{tail_of, spelled_tail}
 use Rattle.hw_lines.proofs.Spelled.{nets_named as net_is_named}
-use Rattle.hw_task_laws.specs.names.Countable.{IsCountable, NamesAreOnce, NetsAreNamed, BlocksAreOnce}
+use Rattle.hw_task_laws.specs.names.Countable.{IsCountable}
 use Rattle.hw_task_laws.proofs.names.Bounds.{IsBounded, bounds, right_short}
 use Rattle.hw_task_laws.proofs.names.Named.{part_of, Named, In_part, Names, single, names_both, names_each, names_none, names_one, names_more}
 use Rattle.hw_task_laws.proofs.names.Empty.{GiveNone, both_none, more_none, each_none, by_end_none, any_none, pick_none, decodes_none, offers_none, reads_none, states_none, choices_none, held_none}
 use Rattle.hw_task_laws.proofs.names.Nets.{Any, Nets, low_of, input_nets, held_nets, decodes_nets, offers_nets, reads_nets, states_nets, choices_nets, outputs_nets}
+use Rattle.std.proofs.lemmas.Bool.{and_from as yes_and}
 
 -- ---- no net is called as the clock or the reset: its first two bytes tell
 
@@ -43,21 +43,7 @@ is_port_of_all n = eqb n 25452 || eqb n 29299
 
 choice_early : (c : Choice) (j : ℕ) → is_port_of_all (early (choice_word c ++ tail_of (choice_numbers c ++ j ∷ []))) ≡ false
 choice_early ToState j = refl
-choice_early ToEnd j = refl
-choice_early (Clear a) j = refl
-choice_early (Set a) j = refl
-choice_early (NextValue a) j = refl
-choice_early (Stores a) j = refl
-choice_early (WriteIndex a) j = refl
-choice_early (WriteData a) j = refl
-choice_early (Reads a b) j = refl
-choice_early (ArrayIndex a b) j = refl
-choice_early (Puts a) j = refl
-choice_early (Token a) j = refl
-choice_early (Takes a) j = refl
-choice_early (Address a) j = refl
-choice_early (StoreEnable a) j = refl
-choice_early (Data a) j = refl
+choice_early _ j = refl
 
 word_early : (y : Net) → is_port_of_all (early (word y ++ tail_of (numbers y))) ≡ false
 word_early (Node c j) = choice_early c j
@@ -126,15 +112,15 @@ module _ (S : Shape) (c : IsCountable S) where
       (names_both declared_names Any 0 6 10 14 0 14 (inputs S) (held S) (input_nets S B) (held_nets S B) refl)
       (decodes_nets S B) refl) (offers_nets S B) refl) (reads_nets S B) refl) (states_nets S B) refl) (choices_nets S B) refl) (outputs_nets S B) refl) block_names refl c.elements
 
-  pub all_once : AreOnce (clk ∷ rst ∷ flat_map declared_names (task_elements S))
-  all_once = two_once (clk ∷ rst ∷ []) (flat_map declared_names (task_elements S)) ports_once all_named.once apart where
+  pub names_once : AreOnce (clk ∷ rst ∷ flat_map declared_names (task_elements S))
+  names_once = two_once (clk ∷ rst ∷ []) (flat_map declared_names (task_elements S)) ports_once all_named.once apart where
     apart : (x : Name) → Has (clk ∷ rst ∷ []) x → Has (flat_map declared_names (task_elements S)) x → ⊥
     apart x (inl e) k = let t = all_named.nets x k in not_clk t.net (t.is ∙ sym e)
     apart x (inr (inl e)) k = let t = all_named.nets x k in not_rst t.net (t.is ∙ sym e)
     apart x (inr (inr n)) k = absurd n
 
-  pub all_names : list_all is_name (flat_map declared_names (task_elements S)) ≡ true
-  all_names = of_all (flat_map declared_names (task_elements S)) (λ x h. let t = all_named.nets x h in ap is_name (sym t.is) ∙ net_is_named t.net t.small) where
+  pub nets_named : list_all is_name (flat_map declared_names (task_elements S)) ≡ true
+  nets_named = of_all (flat_map declared_names (task_elements S)) (λ x h. let t = all_named.nets x h in ap is_name (sym t.is) ∙ net_is_named t.net t.small) where
     of_all : (xs : List Name) → ((x : Name) → Has xs x → is_name x ≡ true) → list_all is_name xs ≡ true
     of_all [] h = refl
     of_all (x ∷ xs) h = yes_and (is_name x) (list_all is_name xs) (h x (inl refl)) (of_all xs (λ y k. h y (inr k)))
@@ -209,16 +195,7 @@ module _ (S : Shape) (c : IsCountable S) where
       (both_none targets (inputs S) (held S) inputs_none (held_none targets (λ w x v. refl) S (λ w x. refl) (λ w x n. refl)))
       (decodes_none targets (λ w x v. refl) S)) (offers_none targets (λ w x v. refl) S)) (reads_none targets (λ w x v. refl) S)) (states_none targets (λ w x v. refl) S)) (choices_none targets (λ w x v. refl) S)) outputs_none
 
-  pub targets_once : AreOnce (flat_map targets (task_elements S))
-  targets_once =
+  pub blocks_once : AreOnce (flat_map targets (task_elements S))
+  blocks_once =
       let front = inputs S ++ held S ++ decodes ++ offers ++ reads ++ states ++ choices S ++ outputs S in
       subst AreOnce (sym (flat_map-append targets front (blocks S) ∙ ap (λ l. l ++ flat_map targets (blocks S)) front_none)) (block_targets (right_short front (blocks S) c.elements)).once
-
-pub names_once : NamesAreOnce
-names_once S c = all_once S c
-
-pub nets_named : NetsAreNamed
-nets_named S c = all_names S c
-
-pub blocks_once : BlocksAreOnce
-blocks_once S c = targets_once S c

@@ -14,7 +14,6 @@ use Rattle.vlog_tree.specs.Table.{Name, clk}
 use Rattle.hw_build.specs.Elements.{Element, Input, Output, Wire}
 use Rattle.hw_build.specs.Order.{is_closed, is_closed_at}
 use Rattle.hw_build.specs.Trees.{numbered}
-use Rattle.hw_build.proofs.Forms.{yes_and}
 use Rattle.hw_build.specs.Scope.{each}
 use Rattle.hw_build.specs.Choices.{Entry, choice}
 use Rattle.hw_build.proofs.Parts.{of_each}
@@ -37,6 +36,7 @@ use Rattle.hw_task_laws.proofs.form.Asked.{of_at}
 use Rattle.hw_task_laws.proofs.form.States.{value_net}
 use Rattle.hw_task_laws.proofs.rests.Free.{is_free, is_free_word, free_by, clk_bound, rst_bound, FreeAtom, FreeValue, free_net, free_binary, free_choose, free_concat, Closed, wire_closed, bound_closed, output_closed, output_bound, input_closed, row_bound, one_closed, both_closed, each_closed, by_end_closed, unless_closed}
 use Rattle.hw_task_laws.proofs.rests.Wires.{low_free, drivers_closed, IsFree, compiled_free, any_closed, pick_closed, root_free}
+use Rattle.std.proofs.lemmas.Bool.{and_from as yes_and}
 
 -- ---- fronts
 

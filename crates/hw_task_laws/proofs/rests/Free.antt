@@ -14,17 +14,18 @@ use Rattle.vlog_tree.specs.Table.{Name, clk}
 use Rattle.hw_build.specs.Elements.{Element, Input, Output, Wire}
 use Rattle.hw_build.specs.Trees.{numbered}
 use Rattle.hw_build.specs.Order.{is_closed_at}
-use Rattle.hw_build.proofs.Forms.{yes_and, all_append}
+use Rattle.hw_build.proofs.Forms.{all_append}
 use Rattle.hw_build.specs.Scope.{each}
 use Rattle.hw_build.specs.Choices.{Entry}
 use Rattle.hw_lines.specs.declared.nets.Choice.{Choice}
 use Rattle.hw_lines.specs.declared.nets.Net.{Net}
-use Rattle.hw_lines.specs.declared.nets.Choice.TheVariants.{ToState, ToEnd, Clear, Set, NextValue, Stores, WriteIndex, WriteData, Reads, ArrayIndex, Puts, Token, Takes, Address, StoreEnable, Data}
+use Rattle.hw_lines.specs.declared.nets.Choice.TheVariants.{ToState}
 use Rattle.hw_lines.specs.declared.nets.Net.TheVariants.{State, Node}
 use Rattle.hw_lines.specs.Nets.{word, choice_word, choice_numbers, numbers, name}
 use Rattle.hw_lines.specs.Texts.{by_end, unless_none}
 use Rattle.hw_lines.proofs.Names.{tail_of, spelled_tail}
 use Rattle.hw_task_laws.proofs.names.Rows.{AreRow}
+use Rattle.std.proofs.lemmas.Bool.{and_from as yes_and, or_right}
 
 -- the bytes before the first mark
 abbrev pub word_of : Name → Name
@@ -44,21 +45,7 @@ is_free x = is_free_word (word_of x)
 
 choice_back : (c : Choice) (j : ℕ) → word_of (choice_word c ++ tail_of (choice_numbers c ++ j ∷ [])) ≡ choice_word c
 choice_back ToState j = refl
-choice_back ToEnd j = refl
-choice_back (Clear a) j = refl
-choice_back (Set a) j = refl
-choice_back (NextValue a) j = refl
-choice_back (Stores a) j = refl
-choice_back (WriteIndex a) j = refl
-choice_back (WriteData a) j = refl
-choice_back (Reads a b) j = refl
-choice_back (ArrayIndex a b) j = refl
-choice_back (Puts a) j = refl
-choice_back (Token a) j = refl
-choice_back (Takes a) j = refl
-choice_back (Address a) j = refl
-choice_back (StoreEnable a) j = refl
-choice_back (Data a) j = refl
+choice_back _ j = refl
 
 word_back : (y : Net) → word_of (word y ++ tail_of (numbers y)) ≡ word y
 word_back (Node c j) = choice_back c j
@@ -106,10 +93,6 @@ free_concat a b h k = all_append is_free (atom_nets a) (atom_nets b ++ []) h (al
 
 abbrev pub Closed : List Element → Type 0
 Closed es = list_all (is_closed_at is_free) es ≡ true
-
-or_right : (a b : Bool) → b ≡ true → (a || b) ≡ true
-or_right true b h = refl
-or_right false b h = h
 
 pub wire_closed : (w : ℕ) (x : Name) (v : Value) → FreeValue v → is_closed_at is_free (Wire w x v) ≡ true
 wire_closed w x v h = or_right (not (is_free x)) (list_all is_free (value_nets v)) h

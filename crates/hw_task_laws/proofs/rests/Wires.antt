@@ -1,5 +1,5 @@
 -- The wires of an expression read registers, answers and each other alone.
-use Rattle.std.proofs.Common.{◌≡◌, ℕ, zero, suc, ◌+◌, ◌-◌, ◌*◌, Bool, true, false, cond, eqb, List, [], ◌∷◌, ◌++◌, length, Option, Some, None, inl, inr, refl}
+use Rattle.std.proofs.Common.{◌≡◌, ℕ, zero, suc, ◌+◌, ◌-◌, Bool, true, false, cond, eqb, List, [], ◌∷◌, ◌++◌, length, Option, Some, None, inl, inr, refl}
 use Rattle.std.specs.Prelude.{nat_lt}
 use Rattle.std.specs.List.{AllByRecursion}
 use Rattle.tapa_base.specs.declared.kind.Kind.{Kind}
@@ -9,7 +9,7 @@ use Rattle.tapa_base.specs.declared.op.Op.TheVariants as op
 use Rattle.tapa_base.specs.Kinds.{bits_of, is_signed}
 use Rattle.tapa_syntax.specs.Typed.{right_kind}
 use Rattle.vlog_tree.specs.declared.tree.Atom.{Atom}
-use Rattle.vlog_tree.specs.declared.tree.Atom.TheVariants.{Net, Part, Literal}
+use Rattle.vlog_tree.specs.declared.tree.Atom.TheVariants.{Net, Literal}
 use Rattle.vlog_tree.specs.declared.tree.BinaryOp.{BinaryOp}
 use Rattle.vlog_tree.specs.declared.tree.BinaryOp.TheVariants.{Plus, Minus, Times, Divide, Remainder, And, Or, Xor, ShiftLeft, ShiftRight, Equals, Differs, Less}
 use Rattle.vlog_tree.specs.declared.tree.Value.{Value}
@@ -18,7 +18,7 @@ use Rattle.tapa_base.specs.Lists.{Has}
 use Rattle.vlog_tree.specs.Table.{Name}
 use Rattle.hw_build.specs.Elements.{Element, Wire}
 use Rattle.hw_build.specs.Trees.{numbered}
-use Rattle.hw_build.specs.Choices.{Entry, row, any_driver, any_elements, pick_driver, pick_elements, choice}
+use Rattle.hw_build.specs.Choices.{Entry, row_of, any_driver, any_elements, pick_driver, pick_elements, choice}
 use Rattle.task_fsm.specs.Machine.{Expression, Number, Reg, CellOf, Converted, Applied, Flipped, Inverse, Both, Either, Chosen}
 use Rattle.hw_lines.specs.declared.nets.Net.TheVariants.{Variable, Answer}
 use Rattle.hw_lines.specs.Nets.{name}
@@ -37,29 +37,24 @@ drivers_append (x ∷ xs) ys h k = (h.0, drivers_append xs ys h.1 k)
 -- ---- parts of atoms
 
 pub low_free : (w : ℕ) (a : Atom) → FreeAtom a → FreeAtom (low_bits w a)
-low_free w (Net x) h = h
-low_free w (Part x high low) h = h
 low_free w (Literal v n) h = refl
+low_free w _ h = h
 
 sign_free : (w : ℕ) (a : Atom) → FreeAtom a → FreeAtom (sign_of w a)
-sign_free w (Net x) h = h
-sign_free w (Part x high low) h = h
 sign_free w (Literal v n) h = refl
+sign_free w _ h = h
 
 count_free : (w : ℕ) (a : Atom) → FreeAtom a → FreeAtom (shift_count w a)
-count_free w (Net x) h = h
-count_free w (Part x high low) h = h
 count_free w (Literal v n) h = refl
+count_free w _ h = h
 
 absolute_free : (w : ℕ) (a : Atom) → FreeAtom a → FreeAtom (absolute w a)
-absolute_free w (Net x) h = h
-absolute_free w (Part x high low) h = h
 absolute_free w (Literal v n) h = refl
+absolute_free w _ h = h
 
 turned_free : (w : ℕ) (a : Atom) → FreeAtom a → FreeDrivers (turned w a)
-turned_free w (Net x) h = (free_binary (Net x) Xor (Literal w (half w)) h refl, tt)
-turned_free w (Part x high low) h = (free_binary (Part x high low) Xor (Literal w (half w)) h refl, tt)
 turned_free w (Literal v n) h = tt
+turned_free w g h = (free_binary g Xor (Literal w (half w)) h refl, tt)
 
 pick_free : (c : Bool) (x y : Atom) → FreeAtom x → FreeAtom y → FreeAtom (cond c x y)
 pick_free true x y h k = h
@@ -80,9 +75,8 @@ module _ (front : Name) (own : (i : ℕ) → is_free (numbered front i) ≡ true
   drivers_closed n (d ∷ drivers) h = one_closed (Wire d.0 (numbered front n) d.1) (wires_of front (suc n) drivers) (wire_closed d.0 (numbered front n) d.1 h.0) (drivers_closed (suc n) drivers h.1)
 
   turned_atom_free : (n w : ℕ) (a : Atom) → FreeAtom (turned_atom front n w a)
-  turned_atom_free n w (Net x) = wire_free n
-  turned_atom_free n w (Part x high low) = wire_free n
   turned_atom_free n w (Literal v m) = refl
+  turned_atom_free n w _ = wire_free n
 
   extended_free : (s : Bool) (n narrow w : ℕ) (a : Atom) → FreeAtom a → FreeDrivers (extended s front n narrow w a)
   extended_free false n narrow w a h = (free_concat (Literal (w - narrow) 0) a refl h, tt)
@@ -103,14 +97,13 @@ module _ (front : Name) (own : (i : ℕ) → is_free (numbered front i) ≡ true
 
   conversion_free : (n : ℕ) (source target : Kind) (a : Atom) → FreeAtom a → FreeDrivers (conversion front n source target a)
   conversion_free n source kind.Bool a h = tested_free (bits_of source) a h
-  conversion_free n source kind.I8 a h = resized_free (is_signed source) n (bits_of source) 8 a h
-  conversion_free n source kind.U8 a h = resized_free (is_signed source) n (bits_of source) 8 a h
   conversion_free n source kind.I16 a h = resized_free (is_signed source) n (bits_of source) 16 a h
   conversion_free n source kind.U16 a h = resized_free (is_signed source) n (bits_of source) 16 a h
   conversion_free n source kind.I32 a h = resized_free (is_signed source) n (bits_of source) 32 a h
   conversion_free n source kind.U32 a h = resized_free (is_signed source) n (bits_of source) 32 a h
   conversion_free n source kind.I64 a h = resized_free (is_signed source) n (bits_of source) 64 a h
   conversion_free n source kind.U64 a h = resized_free (is_signed source) n (bits_of source) 64 a h
+  conversion_free n source _ a h = resized_free (is_signed source) n (bits_of source) 8 a h
 
   less_free : (s : Bool) (n w : ℕ) (a b : Atom) → FreeAtom a → FreeAtom b → FreeDrivers (less s front n w a b)
   less_free false n w a b h k = (free_binary a Less b h k, tt)
@@ -249,10 +242,10 @@ module _ (front : Name) (own : (i : ℕ) → is_free (numbered front i) ≡ true
   abbrev pub FreeEntries : List Entry → Type 0
   FreeEntries entries = (d : Entry) → Has entries d → (is_free d.condition ≡ true) × FreeAtom d.value
 
-  row_closed : (w : ℕ) (driver : ℕ → Entry → Value) (j : ℕ) (entries : List Entry) → ((i : ℕ) (e : Entry) → Has entries e → FreeValue (driver i e)) → Closed (row w front driver j entries)
+  row_closed : (w : ℕ) (driver : ℕ → Entry → Value) (j : ℕ) (entries : List Entry) → ((i : ℕ) (e : Entry) → Has entries e → FreeValue (driver i e)) → Closed (row_of w front driver j entries)
   row_closed w driver j [] h = refl
   row_closed w driver j (e ∷ entries) h =
-      one_closed (Wire w (numbered front j) (driver j e)) (row w front driver (suc j) entries) (wire_closed w (numbered front j) (driver j e) (h j e (inl refl))) (row_closed w driver (suc j) entries (λ i d k. h i d (inr k)))
+      one_closed (Wire w (numbered front j) (driver j e)) (row_of w front driver (suc j) entries) (wire_closed w (numbered front j) (driver j e) (h j e (inl refl))) (row_closed w driver (suc j) entries (λ i d k. h i d (inr k)))
 
   any_driver_free : (entries : List Entry) → FreeEntries entries → (j : ℕ) (e : Entry) → Has entries e → FreeValue (any_driver front j e)
   any_driver_free entries h zero e k = free_net e.condition (h e k).0

@@ -12,7 +12,7 @@ use Rattle.kahn_model.specs.Behavior.{Answer, judge_token, on_offer}
 use Rattle.kahn_model.specs.Fits.{IsTokenOf}
 use Rattle.kahn_model.specs.Trace.{State, at_zero, set_var, set_cell, store_cell}
 use Rattle.vlog_tree.specs.Cycle.{Cycle}
-use Rattle.task_fsm.specs.Machine.{StateForm, SetAt, CellAt, TestAt, ReadAt, WriteAt, PeekAt, EotAt, OpenAt, CloseAt, LoadAt, StoreAt, ClearAt, EndAt, TrapAt}
+use Rattle.task_fsm.specs.Machine.{StateForm, SetAt, CellAt, TestAt, ReadAt, PeekAt, EotAt, OpenAt, CloseAt, LoadAt, StoreAt, ClearAt, EndAt, TrapAt}
 use Rattle.task_fsm.specs.MachineKinds.{HoldsValues, StepFits}
 use Rattle.task_fsm.specs.Ranges.{Ranges, IsInRange, AreInRange}
 use Rattle.task_fsm.specs.Run.{StateStep, Performs, Awaits, Completes, Halts, value, step, put_into, is_last, clear_step}
@@ -48,18 +48,13 @@ module _ (S : Shape) where
   after_sizes : (g : StateForm) (k v : ℕ) (σ : State) → HasSizes S σ → HasSizes S (held_after (step g k σ) σ v)
   after_sizes (SetAt r e next) k v σ h = var_sizes σ r (value e σ) h
   after_sizes (CellAt a i e next) k v σ h = cell_sizes σ a (value i σ) (value e σ) h
-  after_sizes (TestAt e y m) k v σ h = h
   after_sizes (ReadAt s into next) k v σ h = into_sizes σ into v h
-  after_sizes (WriteAt s e next) k v σ h = h
   after_sizes (PeekAt s into next) k v σ h = into_sizes σ into v h
   after_sizes (EotAt s into next) k v σ h = into_sizes σ into v h
-  after_sizes (OpenAt s next) k v σ h = h
-  after_sizes (CloseAt s next) k v σ h = h
   after_sizes (LoadAt m i into next) k v σ h = into_sizes σ into _ h
   after_sizes (StoreAt m i e next) k v σ h = store_sizes σ m (value i σ) (value e σ) h
   after_sizes (ClearAt a c next) k v σ h = clear_sizes σ a c k next v (is_last σ a c) h
-  after_sizes EndAt k v σ h = h
-  after_sizes TrapAt k v σ h = h
+  after_sizes _ k v σ h = h
 
   cond_sizes : (b : Bool) (τ σ : State) → HasSizes S τ → HasSizes S σ → HasSizes S (cond b τ σ)
   cond_sizes true τ σ p q = p
@@ -71,14 +66,12 @@ module _ (S : Shape) where
 -- ---- values
 
 answer_of : (how : StreamOperation) (t : Token) → on_offer (judge_token how t) false false (λ x v. true) ≡ true → judge_token how t ≡ Answer t (on_offer (judge_token how t) 0 0 (λ x v. v))
-answer_of Read (Datum v) h = refl
 answer_of Read Eot h = cc
-answer_of Peek (Datum v) h = refl
 answer_of Peek Eot h = cc
-answer_of TestEot (Datum v) h = refl
 answer_of TestEot Eot h = refl
 answer_of Open (Datum v) h = cc
 answer_of Open Eot h = refl
+answer_of _ (Datum v) h = refl
 
 offer_answer : (has : Bool) (how : StreamOperation) (t : Token) → on_offer (offered has how t) false false (λ x v. true) ≡ true → judge_token how t ≡ Answer t (on_offer (offered has how t) 0 0 (λ x v. v))
 offer_answer true how t h = answer_of how t h
@@ -121,13 +114,8 @@ clear_low σ a c k next n true h l = h
 clear_low σ a c k next n false h l = l
 
 after_low : (S : Shape) (g : StateForm) (k : ℕ) (σ : State) → IsInRange (ranges_in S) g → k < state_count S → at_after (step g k σ) k < state_count S
-after_low S (SetAt r e next) k σ h l = h.2
 after_low S (CellAt a i e next) k σ h l = h.3
 after_low S (TestAt e y m) k σ h l = choice_low (value e σ) y m (state_count S) h.1 h.2
-after_low S (ReadAt s into next) k σ h l = h.2
-after_low S (WriteAt s e next) k σ h l = h.2
-after_low S (PeekAt s into next) k σ h l = h.2
-after_low S (EotAt s into next) k σ h l = h.2
 after_low S (OpenAt s next) k σ h l = h.1
 after_low S (CloseAt s next) k σ h l = h.1
 after_low S (LoadAt m i into next) k σ h l = h.3
@@ -135,6 +123,7 @@ after_low S (StoreAt m i e next) k σ h l = h.3
 after_low S (ClearAt a c next) k σ h l = clear_low σ a c k next (state_count S) (is_last σ a c) l h.2
 after_low S EndAt k σ h l = l
 after_low S TrapAt k σ h l = l
+after_low S _ k σ h l = h.2
 
 cond_low : (b : Bool) (x y n : ℕ) → x < n → y < n → cond b x y < n
 cond_low true x y n h l = h
@@ -151,24 +140,11 @@ clear_goes_on σ a c k next false h = cc
 
 -- a step that ends is that of the end
 pub ends_at_end : (g : StateForm) (k : ℕ) (σ : State) → ends_by (step g k σ) ≡ true → g ≡ EndAt
-ends_at_end (SetAt r e next) k σ h = cc
-ends_at_end (CellAt a i e next) k σ h = cc
-ends_at_end (TestAt e y m) k σ h = cc
-ends_at_end (ReadAt s into next) k σ h = cc
-ends_at_end (WriteAt s e next) k σ h = cc
-ends_at_end (PeekAt s into next) k σ h = cc
-ends_at_end (EotAt s into next) k σ h = cc
-ends_at_end (OpenAt s next) k σ h = cc
-ends_at_end (CloseAt s next) k σ h = cc
-ends_at_end (LoadAt m i into next) k σ h = cc
-ends_at_end (StoreAt m i e next) k σ h = cc
 ends_at_end (ClearAt a c next) k σ h = clear_goes_on σ a c k next (is_last σ a c) h
 ends_at_end EndAt k σ h = refl
-ends_at_end TrapAt k σ h = cc
+ends_at_end _ k σ h = cc
 
 -- and it is allowed
 pub end_allowed : (S : Shape) (run : ℕ → Cycle) (n : ℕ) (t : StateStep) → allowed S run n t ≡ false → ends_by t ≡ false
-end_allowed S run n (Performs a pc σ) h = refl
-end_allowed S run n (Awaits s how pc into) h = refl
 end_allowed S run n Completes h = cc
-end_allowed S run n Halts h = refl
+end_allowed S run n _ h = refl

@@ -40,16 +40,17 @@ use Rattle.hw_task_laws.specs.names.Countable.{IsCountable}
 use Rattle.hw_task_laws.proofs.names.Bounds.{bounds}
 use Rattle.hw_task_laws.specs.steps.Steps.{ranges_in, allowed, found_by, IsAt}
 use Rattle.hw_task_laws.proofs.steps.Places.{place_goes_on}
-use Rattle.hw_task_laws.proofs.effects.Outs.{and_false, same_cond}
+use Rattle.hw_task_laws.proofs.effects.Outs.{and_false}
 use Rattle.hw_task_laws.proofs.effects.Streams.{takes_are_made, puts_are_made}
 use Rattle.hw_task_laws.proofs.effects.Memories.{asks_are_made, stores_are_asked}
 use Rattle.hw_task_laws.proofs.effects.Ends.{end_is_held}
 use Rattle.hw_task_laws.proofs.form.Whole.{tasks_are_fitting}
-use Rattle.hw_task_laws.specs.runs.Machines.{IsMachine, RunsMachines, LoweredIsMachine, InstancesRun}
+use Rattle.hw_task_laws.specs.runs.Machines.{IsMachine, InstancesRun}
 use Rattle.hw_task_laws.proofs.runs.Lists.{ones_are, ones_length, ones_at, same_held}
 use Rattle.hw_task_laws.proofs.runs.Kept.{end_allowed}
 use Rattle.hw_task_laws.proofs.runs.Starts.{step_is, is_at, first_var}
 use Rattle.hw_task_laws.proofs.runs.Goes.{end_bit, held_goes, Stands, at_start, not_ended, stands}
+use Rattle.vlog_tree.proofs.Nesting.{same_both as same_cond}
 
 -- ---- once it has ended, a machine makes no step, and its step would change nothing
 
@@ -161,8 +162,8 @@ module _ (S : Shape) (title : Name) (run : ℕ → Cycle) (f : Follows (built ti
       (among_left ((Output 1 (name Done) (Plain (net Ended)) ∷ []) ++ each (stream_outputs S) (length S.streams)) (each (memory_outputs S) (length S.memories)) (all S) (outputs_in S))
       (Output 1 (name Done) (Plain (net Ended))) (inl refl)
 
-  runs_task : RunsTask S (writes_of S.streams) run cells
-  runs_task = record {
+  pub runs_machines : RunsTask S (writes_of S.streams) run cells
+  runs_machines = record {
     machine = record {
       at_first = at_start S title run f ms fit machine cells around;
       holds_first = held_first;
@@ -177,9 +178,6 @@ module _ (S : Shape) (title : Name) (run : ℕ → Cycle) (f : Follows (built ti
     stores = λ n m low. stores_is (suc n) (stands S title run f ms fit machine cells around n) (around.runs n) m low;
     done = λ n. output_driven title (task_elements S) run f 1 (name Done) (Plain (net Ended)) done_there n;
   }
-
-pub runs_machines : RunsMachines
-runs_machines S title run f ms fit machine cells around = runs_task S title run f ms fit machine cells around
 
 -- ---- the machines of leaves
 
@@ -223,8 +221,8 @@ module _ (leaf : Leaf) (machine : Fsm) where
       ap (λ (l : List ArrayOf). ranges_with (length l) (length machine.states.items - 1)) (sym e)
       ∙ ap (λ n. ranges_with (length machine.arrays.items) (n - 1)) (sym (form_count machine.states.items))
 
-  lowered_machine : IsLeaf leaf → IsLowered leaf machine → IsCountable S → IsMachine S
-  lowered_machine is low count = record {
+  pub lowered_is_machine : IsLeaf leaf → IsLowered leaf machine → IsCountable S → IsMachine S
+  lowered_is_machine is low count = record {
     typed = subst (λ K. AreTypedStates K (forms_of machine.states.items)) (same_kinds low.arrays) low.typed;
     ranged = subst (λ R. AreInRange R (forms_of machine.states.items)) (same_ranges low.arrays) low.in_range;
     some = (let c = form_count machine.states.items in let s = low.states in omega (arith, c, s));
@@ -232,10 +230,7 @@ module _ (leaf : Leaf) (machine : Fsm) where
     few = (let b = bounds S count in record { registers = b.registers; arrays = b.arrays });
   }
 
-pub lowered_is_machine : LoweredIsMachine
-lowered_is_machine leaf machine is low count = lowered_machine leaf machine is low count
-
 pub instances_run : InstancesRun
 instances_run leaf machine is low count modules top nets runs path at cells around =
     runs_machines (shape_of machine leaf.memories.items leaf.streams.items) (task_name machine.name) (λ n. nets n path) (runs.each path (task_tree machine leaf.memories.items leaf.streams.items) at) [] (tasks_are_fitting leaf machine is low count [])
-    (lowered_machine leaf machine is low count) cells around
+    (lowered_is_machine leaf machine is low count) cells around

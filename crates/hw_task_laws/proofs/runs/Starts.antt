@@ -29,27 +29,24 @@ use Rattle.task_fsm.specs.MachineKinds.{HoldsValues}
 use Rattle.task_fsm.specs.Run.{step, step_at}
 use Rattle.task_fsm.proofs.Steps.{step_fits, typed_at}
 use Rattle.hw_lines.specs.declared.nets.Choice.TheVariants.{Set, NextValue, Stores, ToState, ToEnd, Clear}
-use Rattle.hw_lines.specs.declared.nets.Net.TheVariants.{State as StateNet, Ended, Scalar, Variable, Array, Reset}
+use Rattle.hw_lines.specs.declared.nets.Net.TheVariants.{State as StateNet, Scalar, Variable, Array, Reset}
 use Rattle.hw_lines.specs.Nets.{name, front}
 use Rattle.hw_lines.specs.Shape.{Shape, kinds_in, array_kind, array_cells, register_kind, state_count, state_bits, form_at}
 use Rattle.hw_lines.specs.States.{net}
 use Rattle.hw_lines.specs.Effects.{effect, entries, first_by, first_value}
-use Rattle.hw_lines.specs.Texts.{variable, array, root, task_elements, any, pick, variable_choices, array_choices, reset_of, reset_by}
+use Rattle.hw_lines.specs.Texts.{root, task_elements, any, pick, variable_choices, array_choices, reset_of, reset_by}
 use Rattle.hw_lines.specs.Runs.{number_at, array_at, held_at, first_of, StandsAround}
-use Rattle.hw_lines.proofs.Members.{all, held_in, among_left, among_right, among_each, choices_in}
+use Rattle.hw_lines.proofs.Members.{all, among_left, among_right, among_each, choices_in}
 use Rattle.hw_lines.proofs.Decodes.{own, others_off, conditions_low}
 use Rattle.hw_task_laws.specs.acts.Moves.{set_next}
+use Rattle.hw_task_laws.proofs.acts.Answered.{some_length, variable_there}
 use Rattle.hw_task_laws.proofs.acts.Moves.{registers_go_on}
 use Rattle.hw_task_laws.specs.steps.Steps.{ranges_in, HasSizes, IsAt}
 use Rattle.hw_task_laws.specs.effects.Held.{held_by}
-use Rattle.hw_task_laws.proofs.effects.Arrays.{memory_line, any_among, left, arrays_are_held}
+use Rattle.hw_task_laws.proofs.effects.Arrays.{memory_line, parts, left, arrays_are_held}
 use Rattle.hw_task_laws.specs.runs.Machines.{IsMachine}
 use Rattle.hw_task_laws.proofs.runs.Lists.{ones_length, ones_at, ones_past, got_form}
 use Rattle.hw_task_laws.proofs.runs.Kept.{values_kept, ranged_at}
-
-some_entry : (es : List Entry) (d : Entry) → Has es d → 0 < length es
-some_entry [] d h = absurd h
-some_entry (e ∷ es) d h = omega arith
 
 module _ (S : Shape) (run : ℕ → Cycle) (cells : ℕ → List (List ℕ)) where
   abbrev held : ℕ → State
@@ -112,11 +109,7 @@ module _ (S : Shape) (title : Name) (run : ℕ → Cycle) (f : Follows (built ti
   register_line : (r : ℕ) → r < length S.registers → Has (built title (task_elements S)).items (Reg (bits_of (register_kind S r)) (name (Variable r)))
   register_line r l =
       line_there title (task_elements S) (Register (bits_of (register_kind S r)) (name (Variable r))) (Reg (bits_of (register_kind S r)) (name (Variable r)))
-      (among_each (variable S) (length S.registers) r (all S) l
-      (among_left (each (variable S) (length S.registers)) (each (array S) (length S.arrays)) (all S)
-      (among_right (Register (state_bits S) (name StateNet) ∷ Register 1 (name Ended) ∷ []) (each (variable S) (length S.registers) ++ each (array S) (length S.arrays)) (all S) (held_in S)))
-      (Register (bits_of (register_kind S r)) (name (Variable r))) (inl refl))
-      (inl refl)
+      (variable_there S r l) (inl refl)
 
   got : (n : ℕ) → place n < state_count S → slice_get S.states (place n) ≡ Some (form_at S (place n))
   got n low = got_form S.states (place n) TrapAt (omega (arith, low))
@@ -232,11 +225,11 @@ module _ (S : Shape) (title : Name) (run : ℕ → Cycle) (f : Follows (built ti
         subst (λ z. z < values_of (array_kind S a)) (sym (arrays_are_held S title run f ms fit machine.few cells 0 (place 0) (σ 0) (is_at 0 fits_at_reset low) a i l m)) ((fits_after 0 fits_at_reset low).arrays a i))
         (λ (high : state_count S ≤ place 0).
         subst (λ z. z < values_of (array_kind S a))
-        (sym (left S title run f ms fit machine.few 0 a i l m (λ e h. none_on high (some_entry (entries S (Stores a)) e h)))) (powered_cell a i l m))
+        (sym (left S title run f ms fit machine.few 0 a i l m (λ e h. none_on high (some_length (entries S (Stores a)) e h)))) (powered_cell a i l m))
         (cases_lt (place 0) (state_count S)) where
           none_on : state_count S ≤ place 0 → 0 < length (entries S (Stores a)) → (run 0).net (root S (Stores a)) ≡ 0
           none_on high some =
-              any_clear title (task_elements S) run f (front (Stores a)) (entries S (Stores a)) (any_among S title run f ms fit machine.few 0 a i l m) 0 some
+              any_clear title (task_elements S) run f (front (Stores a)) (entries S (Stores a)) (parts S title run f ms fit machine.few 0 a i l m).0 0 some
               (λ d h.
               let r = of_each (effect S (Stores a)) (state_count S) d h in
               let k = r.0 in

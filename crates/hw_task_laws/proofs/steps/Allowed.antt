@@ -34,9 +34,10 @@ use Rattle.hw_lines.specs.Signals.{Streams}
 use Rattle.hw_lines.specs.Machine.{offered, offer_in}
 use Rattle.hw_lines.specs.Runs.{number_at, bit_at, streams_at, StandsAround}
 use Rattle.hw_lines.proofs.Members.{all, offer_in as offers_in, go_in}
-use Rattle.hw_lines.proofs.Decodes.{at_here, got_low}
+use Rattle.hw_lines.proofs.Decodes.{at_here}
 use Rattle.hw_task_laws.proofs.wires.Shown.{high_bit}
 use Rattle.hw_task_laws.specs.steps.Steps.{ranges_in, allowed, halts, IsAt, AwaitedIsAllowed, OthersAreAllowed, GoIsAllowed}
+use Rattle.tapa_base.proofs.Got.{got_low}
 
 -- ---- bits
 
@@ -204,9 +205,6 @@ module _ (S : Shape) (title : Name) (run : ℕ → Cycle) (f : Follows (built ti
   named x w b e h = subst (λ z. (run n).net (name z) ≡ one_if b) (same_Some x w e) h
 
   pub awaits_is : (g : StateForm) → form_at S k ≡ g → (w : Net) → awaited g ≡ Some w → (run n).net (name w) ≡ one_if (allowed S run n (step g k σ))
-  awaits_is (SetAt r e next) same w h = cc
-  awaits_is (CellAt a i e next) same w h = cc
-  awaits_is (TestAt e y m) same w h = cc
   awaits_is (ReadAt s into next) same w h =
       named (DatumNet s) w (allowed S run n (step (ReadAt s into next) k σ)) h (read_net S title run f cells is.around n s (ranged (ReadAt s into next) same).0)
   awaits_is (WriteAt s e next) same w h = named (Rdy s) w (bit_at run (Rdy s) n) h (as_bit ((run n).net (name (Rdy s))) (is.around.rdy n s (ranged (WriteAt s e next) same).0))
@@ -218,9 +216,7 @@ module _ (S : Shape) (title : Name) (run : ℕ → Cycle) (f : Follows (built ti
   awaits_is (CloseAt s next) same w h = named (Rdy s) w (bit_at run (Rdy s) n) h (as_bit ((run n).net (name (Rdy s))) (is.around.rdy n s (ranged (CloseAt s next) same).0))
   awaits_is (LoadAt m i into next) same w h = named (Ack m) w (bit_at run (Ack m) n) h (as_bit ((run n).net (name (Ack m))) (is.around.ack n m (ranged (LoadAt m i into next) same).0))
   awaits_is (StoreAt m i e next) same w h = named (Ack m) w (bit_at run (Ack m) n) h (as_bit ((run n).net (name (Ack m))) (is.around.ack n m (ranged (StoreAt m i e next) same).0))
-  awaits_is (ClearAt a c next) same w h = cc
-  awaits_is EndAt same w h = cc
-  awaits_is TrapAt same w h = cc
+  awaits_is _ same w h = cc
 
   go_there : (g : StateForm) → form_at S k ≡ g → (w : Net) → awaited g ≡ Some w → needs_go g ≡ true → Has (all S) (Wire 1 (name (Go k)) (Binary (net (At k)) And (net w)))
   go_there g same w e l =
@@ -249,17 +245,10 @@ others : (S : Shape) (run : ℕ → Cycle) (n k : ℕ) (σ : State) (g : StateFo
 others S run n k σ (SetAt r e next) h = refl
 others S run n k σ (CellAt a i e next) h = refl
 others S run n k σ (TestAt e y m) h = refl
-others S run n k σ (ReadAt s into next) h = cc
-others S run n k σ (WriteAt s e next) h = cc
-others S run n k σ (PeekAt s into next) h = cc
-others S run n k σ (EotAt s into next) h = cc
-others S run n k σ (OpenAt s next) h = cc
-others S run n k σ (CloseAt s next) h = cc
-others S run n k σ (LoadAt m i into next) h = cc
-others S run n k σ (StoreAt m i e next) h = cc
 others S run n k σ (ClearAt a c next) h = clear_allowed S run n k a c next σ (is_last σ a c)
 others S run n k σ EndAt h = refl
 others S run n k σ TrapAt h = refl
+others S run n k σ _ h = cc
 
 pub others_are_allowed : OthersAreAllowed
 others_are_allowed S run n k σ h = others S run n k σ (form_at S k) h

@@ -9,7 +9,7 @@ use Rattle.vlog_tree.specs.Table.{Name, one_if}
 use Rattle.vlog_tree.specs.Cycle.{Cycle, Follows}
 use Rattle.hw_build.specs.Elements.{built}
 use Rattle.hw_build.specs.Fitting.{AreFitting}
-use Rattle.task_fsm.specs.Machine.{StateForm, SetAt, CellAt, TestAt, ReadAt, WriteAt, PeekAt, EotAt, OpenAt, CloseAt, LoadAt, StoreAt, ClearAt, EndAt, TrapAt}
+use Rattle.task_fsm.specs.Machine.{StateForm, ReadAt, WriteAt, PeekAt, EotAt, OpenAt, CloseAt, LoadAt, StoreAt, ClearAt}
 use Rattle.task_fsm.specs.Ranges.{IsInRange}
 use Rattle.task_fsm.specs.Run.{step, is_last, clear_step}
 use Rattle.hw_lines.specs.declared.nets.Choice.TheVariants.{ToState}
@@ -49,9 +49,6 @@ module _ (S : Shape) (title : Name) (run : ℕ → Cycle) (f : Follows (built ti
 
   -- where it is next is where its step leads
   pub next_place : (g : StateForm) → form_at S k ≡ g → place_after S (run n) k σ g ≡ cond (allowed S run n (step g k σ)) (at_after (step g k σ) k) k
-  next_place (SetAt r e next) same = refl
-  next_place (CellAt a i e next) same = refl
-  next_place (TestAt e y m) same = refl
   next_place (ReadAt s into next) same = awaited_next (ReadAt s into next) same (DatumNet s) refl next
   next_place (WriteAt s e next) same = awaited_next (WriteAt s e next) same (Rdy s) refl next
   next_place (PeekAt s into next) same = awaited_next (PeekAt s into next) same (DatumNet s) refl next
@@ -64,8 +61,7 @@ module _ (S : Shape) (title : Name) (run : ℕ → Cycle) (f : Follows (built ti
       let g : IsInRange (ranges_in S) (ClearAt a c next) = subst (IsInRange (ranges_in S)) same is.shows.ranged in
       ap (λ z. cond z k next) (more_cells (slice_index σ.vars c) (array_cells S a)) ∙ ap (λ z. cond (nat_lt (slice_index σ.vars c + 1) z) k next) (sym (is.sizes.rows a g.0))
       ∙ clear_goes S run n a c k next σ (is_last σ a c)
-  next_place EndAt same = refl
-  next_place TrapAt same = refl
+  next_place _ same = refl
 
   pub goes_on : (ms : List ModuleTree) → AreFitting ms (task_elements S) → (run n).net rst ≡ 0
       → (run (suc n)).net (name StateNet) ≡ cond (allowed S run n (step (form_at S k) k σ)) (at_after (step (form_at S k) k σ) k) k

@@ -1,5 +1,5 @@
 -- The wires of an expression show its value.
-use Rattle.std.proofs.Common.{◌≡◌, ℕ, zero, suc, ◌+◌, ◌-◌, ◌*◌, ◌^◌, ◌<◌, Bool, cond, eqb, List, [], ◌∷◌, ◌++◌, length, Option, Some, None, refl, sym, ap, subst, ◌∙◌, arith, length-append}
+use Rattle.std.proofs.Common.{◌≡◌, ℕ, zero, suc, ◌+◌, ◌-◌, ◌*◌, ◌^◌, ◌<◌, cond, eqb, List, [], ◌∷◌, ◌++◌, length, Option, Some, None, refl, sym, ap, subst, ◌∙◌, arith, length-append}
 use Rattle.std.specs.Prelude.{slice_index, bit_and, bit_or}
 use Rattle.tapa_base.specs.declared.kind.Kind.{Kind}
 use Rattle.tapa_base.specs.declared.kind.Kind.TheVariants as kind
@@ -30,7 +30,7 @@ use Rattle.hw_lines.specs.Fixed.{fixed}
 use Rattle.hw_lines.specs.Drivers.{wires_of, one, conversion, operation}
 use Rattle.hw_lines.specs.Wires.{ArrayRead, read_count, reads_in, Compiled, by_fixed, converting, one_more, joining, choosing, compiled}
 use Rattle.hw_task_laws.specs.wires.Shows.{IsNumber, IsDivisor, Shows, AreSaid}
-use Rattle.hw_task_laws.specs.wires.Computes.{Numbered, RegistersShown, AnswerShown, AnswersShown, ShowsValue}
+use Rattle.hw_task_laws.specs.wires.Computes.{Numbered, RegistersShown, AnswerShown, AnswersShown}
 use Rattle.hw_task_laws.proofs.wires.Shown.{said_first, conversion_shown}
 use Rattle.hw_task_laws.proofs.wires.Operated.{operation_shown}
 use Rattle.hw_task_laws.proofs.wires.Fixes.{fixed_value, numbers_fixed}
@@ -39,8 +39,6 @@ sum_length : (xs ys : List ArrayRead) (n m : ℕ) → length xs ≡ n → length
 sum_length xs ys n m e f = let g = length-append xs ys in omega (arith, e, f, g)
 
 pub reads_counted : (m : ℕ) (e : Expression) → length (reads_in m e) ≡ read_count e
-reads_counted m (Number k n) = refl
-reads_counted m (Reg x) = refl
 reads_counted m (CellOf a i) = sum_length (reads_in m i) (record { array = a; index = i; first = m } ∷ []) (read_count i) 1 (reads_counted m i) refl
 reads_counted m (Converted s t e) = reads_counted m e
 reads_counted m (Applied o k l r) = sum_length (reads_in m l) (reads_in (m + read_count l) r) (read_count l) (read_count r) (reads_counted m l) (reads_counted (m + read_count l) r)
@@ -51,6 +49,7 @@ reads_counted m (Either l r) = sum_length (reads_in m l) (reads_in (m + read_cou
 reads_counted m (Chosen e a b) =
     sum_length (reads_in m e) (reads_in (m + read_count e) a ++ reads_in (m + read_count e + read_count a) b) (read_count e) (read_count a + read_count b) (reads_counted m e)
     (sum_length (reads_in (m + read_count e) a) (reads_in (m + read_count e + read_count a) b) (read_count a) (read_count b) (reads_counted (m + read_count e) a) (reads_counted (m + read_count e + read_count a) b))
+reads_counted m _ = refl
 
 -- reads before and behind others
 module _ (P : ℕ → ArrayRead → Type 0) where
@@ -82,13 +81,7 @@ constant_atom : (front : Name) (m n : ℕ) (k : Kind) (e : Expression) (v : ℕ)
 constant_atom front m n k (Number j w) v f h = tt
 constant_atom front m n k (Reg x) v f h = absurd f
 constant_atom front m n k (CellOf a i) v f h = absurd f
-constant_atom front m n k (Converted s t e) v f h = number_of (fixed (Converted s t e)) v h k _
-constant_atom front m n k (Applied o j l r) v f h = number_of (fixed (Applied o j l r)) v h k _
-constant_atom front m n k (Flipped j e) v f h = number_of (fixed (Flipped j e)) v h k _
-constant_atom front m n k (Inverse e) v f h = number_of (fixed (Inverse e)) v h k _
-constant_atom front m n k (Both l r) v f h = number_of (fixed (Both l r)) v h k _
-constant_atom front m n k (Either l r) v f h = number_of (fixed (Either l r)) v h k _
-constant_atom front m n k (Chosen e a b) v f h = number_of (fixed (Chosen e a b)) v h k _
+constant_atom front m n k g v f h = number_of (fixed g) v h k _
 
 and_bits : (a b : ℕ) → a < 2 → b < 2 → bit_and a b ≡ a * b
 and_bits zero zero h i = refl
@@ -114,40 +107,16 @@ choose_bit (suc zero) x y h = refl
 choose_bit (suc (suc v)) x y h = absurd (omega (arith, h))
 
 can_apply : (o : Op) (j : Kind) (r : Expression) (σ : State) → value r σ < values_of (right_kind o j) → machine.IsDivisor o r → CanApply o j (value r σ)
-can_apply op.Add j r σ h d = h
-can_apply op.Sub j r σ h d = h
-can_apply op.Mul j r σ h d = h
 can_apply op.Div j r σ h d = (d.1 σ, h)
 can_apply op.Rem j r σ h d = (d.1 σ, h)
-can_apply op.And j r σ h d = h
-can_apply op.Or j r σ h d = h
-can_apply op.Xor j r σ h d = h
 can_apply op.Shl j r σ h d = tt
 can_apply op.Shr j r σ h d = tt
-can_apply op.Eq j r σ h d = h
-can_apply op.Ne j r σ h d = h
-can_apply op.Lt j r σ h d = h
-can_apply op.Le j r σ h d = h
-can_apply op.Gt j r σ h d = h
-can_apply op.Ge j r σ h d = h
+can_apply _ j r σ h d = h
 
 divisor_atom : (o : Op) (r : Expression) (a : Atom) → (IsFixed r → IsNumber a) → machine.IsDivisor o r → IsDivisor o a
-divisor_atom op.Add r a f d = tt
-divisor_atom op.Sub r a f d = tt
-divisor_atom op.Mul r a f d = tt
 divisor_atom op.Div r a f d = f d.0
 divisor_atom op.Rem r a f d = f d.0
-divisor_atom op.And r a f d = tt
-divisor_atom op.Or r a f d = tt
-divisor_atom op.Xor r a f d = tt
-divisor_atom op.Shl r a f d = tt
-divisor_atom op.Shr r a f d = tt
-divisor_atom op.Eq r a f d = tt
-divisor_atom op.Ne r a f d = tt
-divisor_atom op.Lt r a f d = tt
-divisor_atom op.Le r a f d = tt
-divisor_atom op.Gt r a f d = tt
-divisor_atom op.Ge r a f d = tt
+divisor_atom _ r a f d = tt
 
 module _ (s : Sizes) (c : Cycle) where
   -- wires before and behind
@@ -270,6 +239,3 @@ module _ (s : Sizes) (c : Cycle) where
         (ap (λ q. cond (eqb q 1) (atom_value c D.atom) (atom_value c E.atom)) x.value ∙ ap (λ q. cond (eqb (value e σ) 1) q (atom_value c E.atom)) y.value ∙ ap (cond (eqb (value e σ) 1) (value a σ)) z.value
         ∙ choose_bit (value e σ) (value a σ) (value b σ) (value_fits K e kind.Bool σ t.0 fits)))
         said
-
-pub shows_value : ShowsValue
-shows_value s c K R σ fits registers e k front m n t g answers said = computed s c K R σ fits registers e k front m n t g answers said

@@ -1,7 +1,7 @@
 -- What is computed before anything is printed is the value.
 use Rattle.std.proofs.Common.{◌≡◌, ℕ, ◌-◌, ◌*◌, ◌^◌, ◌<◌, Bool, true, false, ◌&&◌, Option, Some, None, refl, ap, ◌∙◌}
 use Rattle.std.specs.Prelude.{nat_lt}
-use Rattle.std.proofs.lemmas.Bool.{lt-ltb}
+use Rattle.std.proofs.lemmas.Bool.{lt-ltb, and_from as both_hold}
 use Rattle.tapa_base.specs.declared.kind.Kind.{Kind}
 use Rattle.tapa_base.specs.declared.kind.Kind.TheVariants as kind
 use Rattle.tapa_base.specs.declared.op.Op.{Op}
@@ -10,14 +10,14 @@ use Rattle.tapa_base.specs.Kinds.{bits_of, values_of, converted}
 use Rattle.tapa_base.specs.Operators.{applied}
 use Rattle.tapa_syntax.specs.Typed.{right_kind}
 use Rattle.kahn_model.specs.Trace.{State, at_zero}
-use Rattle.task_fsm.specs.Machine.{Expression, Number, Reg, CellOf, Converted, Applied, Flipped, Inverse, Both, Either, Chosen}
+use Rattle.task_fsm.specs.Machine.{Expression, Number, Converted, Applied, Flipped, Inverse, Both, Either, Chosen}
 use Rattle.task_fsm.specs.MachineKinds.{IsDivisor}
 use Rattle.task_fsm.specs.Run.{value}
 use Rattle.task_fsm.proofs.Steps.{value_fits}
 use Rattle.hw_lines.specs.Fixed.{only_if, on_one, on_two, on_three, can_apply, fixed}
 use Rattle.hw_task_laws.specs.wires.Computes.{FixedIsValue, NumbersAreFixed}
 
-some_same : (n v : ℕ) → Some n ≡ Some v → n ≡ v
+pub some_same : (n v : ℕ) → Some n ≡ Some v → n ≡ v
 some_same n v e = cc
 
 only_is : (b : Bool) (n v : ℕ) → only_if b n ≡ Some v → n ≡ v
@@ -41,8 +41,6 @@ three_is (Some a) p q u w t h i j f g k v e = ap (λ z. g z w t) (h a refl) ∙ 
 
 pub fixed_value : FixedIsValue
 fixed_value (Number k n) σ v h = some_same n v h
-fixed_value (Reg x) σ v h = cc
-fixed_value (CellOf a i) σ v h = cc
 fixed_value (Converted s t e) σ v h = one_is (fixed e) (value e σ) (λ a g. fixed_value e σ a g) _ (converted s t) (λ a b. only_is (nat_lt a (values_of s)) (converted s t a) b) v h
 fixed_value (Applied o k l r) σ v h =
     two_is (fixed l) (fixed r) (value l σ) (value r σ) (λ a g. fixed_value l σ a g) (λ a g. fixed_value r σ a g) _ (applied o k) (λ a b. only_is (nat_lt a (values_of k) && can_apply o k b) (applied o k a b)) v h
@@ -54,6 +52,7 @@ fixed_value (Either l r) σ v h =
     two_is (fixed l) (fixed r) (value l σ) (value r σ) (λ a g. fixed_value l σ a g) (λ a g. fixed_value r σ a g) _ (λ a b. 1 - (1 - a) * (1 - b)) (λ a b. only_is (nat_lt a 2 && nat_lt b 2) (1 - (1 - a) * (1 - b))) v h
 fixed_value (Chosen e a b) σ v h =
     three_is (fixed e) (fixed a) (fixed b) (value e σ) (value a σ) (value b σ) (λ x g. fixed_value e σ x g) (λ x g. fixed_value a σ x g) (λ x g. fixed_value b σ x g) _ (λ x y z. at_zero x z y) (λ x y z r g. some_same (at_zero x z y) r g) v h
+fixed_value _ σ v h = cc
 
 -- ---- and the other way
 
@@ -66,34 +65,18 @@ one_there o u e f b h = ap (λ z. on_one z f) e ∙ h
 two_there : (o p : Option ℕ) (u w : ℕ) → o ≡ Some u → p ≡ Some w → (f : ℕ → ℕ → Option ℕ) (b : ℕ) → f u w ≡ Some b → on_two o p f ≡ Some b
 two_there o p u w e d f b h = ap (λ z. on_two z p f) e ∙ ap (λ z. on_two (Some u) z f) d ∙ h
 
-both_hold : (a b : Bool) → a ≡ true → b ≡ true → (a && b) ≡ true
-both_hold a b e f = ap (λ z. z && b) e ∙ f
-
 can_hold : (o : Op) (j : Kind) (r : Expression) (σ : State) → value r σ < values_of (right_kind o j) → IsDivisor o r → can_apply o j (value r σ) ≡ true
-can_hold op.Add j r σ h d = lt-ltb (value r σ) (values_of j) h
-can_hold op.Sub j r σ h d = lt-ltb (value r σ) (values_of j) h
-can_hold op.Mul j r σ h d = lt-ltb (value r σ) (values_of j) h
 can_hold op.Div j r σ h d = both_hold (nat_lt 0 (value r σ)) (nat_lt (value r σ) (values_of j)) (lt-ltb 0 (value r σ) (d.1 σ)) (lt-ltb (value r σ) (values_of j) h)
 can_hold op.Rem j r σ h d = both_hold (nat_lt 0 (value r σ)) (nat_lt (value r σ) (values_of j)) (lt-ltb 0 (value r σ) (d.1 σ)) (lt-ltb (value r σ) (values_of j) h)
-can_hold op.And j r σ h d = lt-ltb (value r σ) (values_of j) h
-can_hold op.Or j r σ h d = lt-ltb (value r σ) (values_of j) h
-can_hold op.Xor j r σ h d = lt-ltb (value r σ) (values_of j) h
 can_hold op.Shl j r σ h d = refl
 can_hold op.Shr j r σ h d = refl
-can_hold op.Eq j r σ h d = lt-ltb (value r σ) (values_of j) h
-can_hold op.Ne j r σ h d = lt-ltb (value r σ) (values_of j) h
-can_hold op.Lt j r σ h d = lt-ltb (value r σ) (values_of j) h
-can_hold op.Le j r σ h d = lt-ltb (value r σ) (values_of j) h
-can_hold op.Gt j r σ h d = lt-ltb (value r σ) (values_of j) h
-can_hold op.Ge j r σ h d = lt-ltb (value r σ) (values_of j) h
+can_hold _ j r σ h d = lt-ltb (value r σ) (values_of j) h
 
 two_bits : (a b : ℕ) → a < 2 → b < 2 → (nat_lt a 2 && nat_lt b 2) ≡ true
 two_bits a b h i = both_hold (nat_lt a 2) (nat_lt b 2) (lt-ltb a 2 h) (lt-ltb b 2 i)
 
 pub numbers_fixed : NumbersAreFixed
 numbers_fixed K (Number j n) k σ t h f = refl
-numbers_fixed K (Reg x) k σ t h f = absurd f
-numbers_fixed K (CellOf a i) k σ t h f = absurd f
 numbers_fixed K (Converted s q e) k σ t h f =
     one_there (fixed e) (value e σ) (numbers_fixed K e s σ t.1 h f) _ (converted s q (value e σ)) (only_there (nat_lt (value e σ) (values_of s)) (converted s q (value e σ)) (lt-ltb (value e σ) (values_of s) (value_fits K e s σ t.1 h)))
 numbers_fixed K (Applied o j l r) k σ t h f =
@@ -113,3 +96,4 @@ numbers_fixed K (Either l r) k σ t h f =
 numbers_fixed K (Chosen e a b) k σ t h f =
     ap (λ z. on_three z (fixed a) (fixed b) (λ v x y. Some (at_zero v y x))) (numbers_fixed K e kind.Bool σ t.0 h f.0)
     ∙ two_there (fixed a) (fixed b) (value a σ) (value b σ) (numbers_fixed K a k σ t.1 h f.1) (numbers_fixed K b k σ t.2 h f.2) (λ x y. Some (at_zero (value e σ) y x)) (at_zero (value e σ) (value b σ) (value a σ)) refl
+numbers_fixed K _ k σ t h f = absurd f

@@ -62,12 +62,11 @@ module _ (s : Sizes) (c : Cycle) where
   -- ---- shifts
 
   count_is : (w n : ℕ) (b : Atom) (y : ℕ) → atom_value c b ≡ y → (f : ℕ → ℕ) → ((m : ℕ) → w ≤ m → f m ≡ f w) → f (atom_value c (shift_count w b)) ≡ f y
-  count_is w n (Net x) y e f far = ap f e
-  count_is w n (Part x high low) y e f far = ap f e
   count_is w n (Literal v m) y e f far = here (nat_le w m) refl ∙ ap f e where
     here : (d : Bool) → nat_le w m ≡ d → f (min m w) ≡ f m
     here true g = let l : w ≤ m = leb-true w m g in let q : min m w ≡ w = omega (arith, l) in ap f q ∙ sym (far m l)
     here false g = let l : m < w = leb-false w m g in let q : min m w ≡ m = omega (arith, l) in ap f q
+  count_is w n _ y e f far = ap f e
 
   left_shown : (k : Kind) (front : Name) (n x y : ℕ) (a b : Atom) → Shows s c a (bits_of k) x → atom_value c b ≡ y → AreSaid s c (wires_of front n (one (bits_of k) (Binary a ShiftLeft (shift_count (bits_of k) b))))
       → Shows s c (wire front n) (bits_of k) (applied op.Shl k x y)
@@ -204,11 +203,10 @@ module _ (s : Sizes) (c : Cycle) where
 
   absolute_is : (k : Kind) (b : Atom) (y : ℕ) → IsNumber b → is_signed k ≡ true → atom_value c b ≡ y
       → (atom_value c (absolute (bits_of k) b) ≡ signed.absolute k y) × (is_negative (bits_of k) b ≡ word.is_negative k y)
-  absolute_is k (Net x) y lit g e = absurd lit
-  absolute_is k (Part x high low) y lit g e = absurd lit
   absolute_is k (Literal v m) y lit g e =
       let n = is_high k m true g in
       (swapped (half (bits_of k)) m m (2 ^ bits_of k - m) ∙ ap (λ z. cond z (values_of k - m) m) (sym n) ∙ ap (signed.absolute k) e, sym n ∙ ap (word.is_negative k) e)
+  absolute_is k _ y lit g e = absurd lit
 
   no_front : (v x : ℕ) → 0 + v - x ≡ v - x
   no_front v x = omega arith

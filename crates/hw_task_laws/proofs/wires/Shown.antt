@@ -61,7 +61,7 @@ copied true (suc n) =
 copied false zero = refl
 copied false (suc n) = ap (λ z. z * 2 + 0) (copied false n)
 
-zero_front : (x y v : ℕ) → (0 * x + 0) * y + v ≡ v
+pub zero_front : (x y v : ℕ) → (0 * x + 0) * y + v ≡ v
 zero_front x y v = omega arith
 
 bits_front : (x u y v : ℕ) → (0 * x + u) * y + v ≡ u * y + v
@@ -69,14 +69,7 @@ bits_front x u y v = omega arith
 
 pub some_bits : (k : Kind) → 0 < bits_of k
 some_bits kind.Bool = omega arith
-some_bits kind.I8 = omega arith
-some_bits kind.U8 = omega arith
-some_bits kind.I16 = omega arith
-some_bits kind.U16 = omega arith
-some_bits kind.I32 = omega arith
-some_bits kind.U32 = omega arith
-some_bits kind.I64 = omega arith
-some_bits kind.U64 = omega arith
+some_bits _ = omega arith
 
 module _ (s : Sizes) (c : Cycle) where
   -- a wire and its driver's value
@@ -219,11 +212,4 @@ module _ (s : Sizes) (c : Cycle) where
   pub conversion_shown : (source target : Kind) (front : Name) (n v : ℕ) (a : Atom) → v < values_of source → Shows s c a (bits_of source) v → AreSaid s c (wires_of front n (conversion front n source target a))
       → Shows s c (last_of front n (conversion front n source target a) a) (bits_of target) (converted source target v)
   conversion_shown source kind.Bool front n v a low h said = tested_shown source front n v a low h said
-  conversion_shown source kind.I8 front n v a low h said = resized_shown source kind.I8 (λ e. cc) front n v a low h said
-  conversion_shown source kind.U8 front n v a low h said = resized_shown source kind.U8 (λ e. cc) front n v a low h said
-  conversion_shown source kind.I16 front n v a low h said = resized_shown source kind.I16 (λ e. cc) front n v a low h said
-  conversion_shown source kind.U16 front n v a low h said = resized_shown source kind.U16 (λ e. cc) front n v a low h said
-  conversion_shown source kind.I32 front n v a low h said = resized_shown source kind.I32 (λ e. cc) front n v a low h said
-  conversion_shown source kind.U32 front n v a low h said = resized_shown source kind.U32 (λ e. cc) front n v a low h said
-  conversion_shown source kind.I64 front n v a low h said = resized_shown source kind.I64 (λ e. cc) front n v a low h said
-  conversion_shown source kind.U64 front n v a low h said = resized_shown source kind.U64 (λ e. cc) front n v a low h said
+  conversion_shown source g front n v a low h said = resized_shown source g (λ e. cc) front n v a low h said

@@ -1,15 +1,15 @@
 -- The number that a word stands for, and the word of a number.
-use Rattle.std.proofs.Common.{◌≡◌, ℕ, zero, suc, ◌+◌, ◌-◌, ◌*◌, ◌/◌, ◌%◌, ◌<◌, ◌≤◌, Bool, true, false, cond, ◌&&◌, refl, sym, ap, ◌∙◌, arith}
+use Rattle.std.proofs.Common.{◌≡◌, ℕ, zero, suc, ◌+◌, ◌-◌, ◌*◌, ◌/◌, ◌%◌, ◌<◌, ◌≤◌, true, false, cond, ◌&&◌, refl, sym, ap, ◌∙◌, arith}
 use Rattle.std.specs.Prelude.{pos, negsuc, ◌-ℤ◌, nat_le}
 use Rattle.std.proofs.Math.Nat.{mod-eq_of_lt}
 use Rattle.std.proofs.Math.Arith.{digits_mod}
-use Rattle.std.proofs.Math.Pow.{pow_pos}
 use Rattle.std.proofs.lemmas.Bool.{lt-ltb, leb-true, leb-false}
 use Rattle.std.proofs.lemmas.Nat.{div-mul-add, div-add-mod'}
 use Rattle.tapa_base.specs.declared.kind.Kind.{Kind}
 use Rattle.tapa_base.specs.declared.kind.Kind.TheVariants as kind
-use Rattle.tapa_base.specs.Kinds.{bits_of, is_signed, values_of, number, residue}
+use Rattle.tapa_base.specs.Kinds.{is_signed, values_of, number, residue}
 use Rattle.hw_task_laws.specs.words.Words.{half_of, is_negative}
+use Rattle.tapa_base.proofs.Tests.{both_true as both_of}
 
 minus_is : (a v : ℕ) → a < v → pos a -ℤ pos v ≡ negsuc (v - a - 1)
 minus_is a zero h = absurd (omega arith)
@@ -21,26 +21,13 @@ number_plain k a e = ap (λ b. cond b (pos a -ℤ pos (values_of k)) (pos a)) e
 pub number_negative : (k : Kind) (a : ℕ) → a < values_of k → is_negative k a ≡ true → number k a ≡ negsuc (values_of k - a - 1)
 number_negative k a h e = ap (λ b. cond b (pos a -ℤ pos (values_of k)) (pos a)) e ∙ minus_is a (values_of k) h
 
-pub some_values : (k : Kind) → 0 < values_of k
-some_values k = pow_pos (bits_of k)
-
 -- a signed kind has as many negative numbers as others
 pub two_halves : (k : Kind) → is_signed k ≡ true → values_of k ≡ half_of k + half_of k
-two_halves kind.Bool e = cc
 two_halves kind.I8 e = refl
-two_halves kind.U8 e = cc
 two_halves kind.I16 e = refl
-two_halves kind.U16 e = cc
 two_halves kind.I32 e = refl
-two_halves kind.U32 e = cc
 two_halves kind.I64 e = refl
-two_halves kind.U64 e = cc
-
--- of a negative word
-both_of : (a b : Bool) → (a && b) ≡ true → (a ≡ true) × (b ≡ true)
-both_of true true e = (refl, refl)
-both_of true false e = cc
-both_of false b e = cc
+two_halves _ e = cc
 
 pub negative_high : (k : Kind) (a : ℕ) → is_negative k a ≡ true → (half_of k ≤ a) × (is_signed k ≡ true)
 negative_high k a e = let p = both_of (is_signed k) (nat_le (half_of k) a) e in (leb-true (half_of k) a p.1, p.0)

@@ -11,7 +11,7 @@ use Rattle.std.proofs.lemmas.Bool.{lt-ltb, ltb-true}
 use Rattle.tapa_base.specs.declared.kind.Kind.{Kind}
 use Rattle.tapa_base.specs.Kinds.{bits_of, is_signed, values_of, number, residue}
 use Rattle.hw_task_laws.specs.words.Words.{half_of, is_negative}
-use Rattle.hw_task_laws.specs.words.Signed.{OrdersWords, OrdersTurnedWords, NotAboveIsNotBelow, absolute, opposite_if, differ, DividesWords, LeavesWords}
+use Rattle.hw_task_laws.specs.words.Signed.{OrdersWords, OrdersTurnedWords, NotAboveIsNotBelow, opposite_if, differ, DividesWords, LeavesWords}
 use Rattle.hw_task_laws.proofs.words.Numbers.{number_plain, number_negative, two_halves, negative_high, plain_low, residue_low, residue_back}
 
 unsigned_plain : (k : Kind) (a : ℕ) → is_signed k ≡ false → is_negative k a ≡ false

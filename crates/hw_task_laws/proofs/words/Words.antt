@@ -10,19 +10,13 @@ use Rattle.tapa_base.specs.declared.kind.Kind.TheVariants as kind
 use Rattle.tapa_base.specs.Kinds.{bits_of, values_of, number, residue, converted}
 use Rattle.tapa_base.specs.Operators.{floor_div, sign_bits}
 use Rattle.hw_task_laws.specs.words.Words.{is_negative, CutsWords, ExtendsWords, ShiftsWordsLeft, ShiftsWordsRight}
-use Rattle.hw_task_laws.proofs.words.Numbers.{number_plain, number_negative, some_values, turned_remainder, residue_low, residue_back, quotient_none}
+use Rattle.hw_task_laws.proofs.words.Numbers.{number_plain, number_negative, turned_remainder, residue_low, residue_back, quotient_none}
+use Rattle.tapa_base.proofs.Tests.{some_values}
 
 -- to a kind other than Bool by the number
 converted_is : (s t : Kind) (a : ℕ) → (t ≡ kind.Bool → ⊥) → converted s t a ≡ residue (values_of t) (number s a)
 converted_is s kind.Bool a n = absurd (n refl)
-converted_is s kind.I8 a n = refl
-converted_is s kind.U8 a n = refl
-converted_is s kind.I16 a n = refl
-converted_is s kind.U16 a n = refl
-converted_is s kind.I32 a n = refl
-converted_is s kind.U32 a n = refl
-converted_is s kind.I64 a n = refl
-converted_is s kind.U64 a n = refl
+converted_is s _ a n = refl
 
 -- a power is a multiple of a lower one
 power_of : (v w : ℕ) → v ≤ w → (q : ℕ) × (2 ^ w ≡ q * 2 ^ v)

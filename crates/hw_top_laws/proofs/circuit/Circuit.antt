@@ -1,5 +1,5 @@
 -- The modules of a program are its circuit.
-use Rattle.std.proofs.Common.{◌≡◌, ℕ, List, [], ◌∷◌, ◌++◌, length, Some, refl, ap, ◌∙◌}
+use Rattle.std.proofs.Common.{◌≡◌, ℕ, List, [], ◌∷◌, length, Some, ap, ◌∙◌}
 use Rattle.std.specs.Prelude.{slice_get, slice_index}
 use Rattle.tapa_syntax.specs.declared.program.Instance.{Instance}
 use Rattle.tapa_syntax.specs.declared.program.Leaf.{Leaf}
@@ -25,23 +25,17 @@ use Rattle.hw_top_laws.specs.runs.Designs.{StandsForTask, StandsForChannel, IsCi
 use Rattle.hw_top_laws.proofs.runs.Designs.{circuits_are_designs}
 use Rattle.hw_top_laws.proofs.kahn.Carries.{circuits_carry_streams, circuits_carry_beside}
 use Rattle.hw_top_laws.specs.circuit.Circuit.{machine_in, machine_of, DesignsAreCircuits, DesignsRunPrograms, DesignsCarryStreams, DesignsCarryBeside}
-
-last_there : (xs : List ModuleTree) (x : ModuleTree) → slice_get (xs ++ x ∷ []) (length xs) ≡ Some x
-last_there [] x = refl
-last_there (y ∷ xs) x = last_there xs x
+use Rattle.hw_top_laws.proofs.design.Whole.{last_there}
 
 module _ (program : Program) (machines : List Fsm) (added : List ℕ) (ready : IsReady program machines added) (kept : KeepPromises program machines) where
   abbrev lower : List ModuleTree
   lower = lower_modules program machines added
 
-  abbrev tree : ModuleTree
-  tree = top_tree program added
-
   abbrev all : List ModuleTree
   all = design_tree program machines added
 
   within : IsWithin lower all
-  within = front_within lower (tree ∷ [])
+  within = front_within lower (top_tree program added ∷ [])
 
   task_stands : (i : ℕ) (x : Instance) (leaf : Leaf) → slice_get program.instances.items i ≡ Some x → slice_get program.bodies.items x.body ≡ Some leaf → StandsForTask leaf (machine_of program machines i) all
   task_stands i x leaf g e =
@@ -64,7 +58,7 @@ module _ (program : Program) (machines : List Fsm) (added : List ℕ) (ready : I
   pub circuit : IsCircuit program added (machine_of program machines) all (length lower)
   circuit = record {
     design = designs_are_legal program machines added ready kept;
-    is_top = last_there lower tree;
+    is_top = last_there lower (top_tree program added);
     scalars = tops_have_scalars program machines added ready kept;
     memories = tops_have_memories program machines added ready kept;
     tasks = task_stands;

@@ -5,14 +5,12 @@ use Rattle.std.specs.Prelude.{◌⊎◌, slice_get, slice_index}
 use Rattle.tapa_syntax.specs.declared.program.Program.{Program}
 use Rattle.tapa_syntax.specs.declared.program.Stream.{Stream}
 use Rattle.task_fsm.specs.declared.machine.Fsm.{Fsm}
-use Rattle.vlog_tree.specs.declared.tree.Item.{Item}
-use Rattle.vlog_tree.specs.declared.tree.Item.TheVariants.{Wire, Reg, Memory, Assign, Always, Instance}
 use Rattle.vlog_tree.specs.Form.{ModuleTree}
 use Rattle.tapa_base.specs.Lists.{Has, Chain, one, more}
-use Rattle.vlog_tree.specs.Loops.{Reaches, containment, own_containment, instances, item_instances}
+use Rattle.vlog_tree.specs.Loops.{Reaches, containment, own_containment}
 use Rattle.vlog_tree.specs.Table.{Name, module_named}
-use Rattle.vlog_tree.specs.V6.{module_children, item_children}
-use Rattle.tapa_base.proofs.Lists.{has_left, has_right, has_split, has_flat, of_flat, of_map}
+use Rattle.vlog_tree.specs.V6.{module_children}
+use Rattle.tapa_base.proofs.Lists.{has_left, has_right, has_split, of_flat, of_map}
 use Rattle.vlog_module_laws.proofs.Larger.{right_has_instances}
 use Rattle.vlog_run_laws.proofs.runs.Alone.{module_is, module_there}
 use Rattle.hw_build.specs.Elements.{empty}
@@ -30,19 +28,7 @@ use Rattle.hw_top_laws.proofs.modules.Lower.{one_of, apart, stream_has, no_top}
 use Rattle.hw_top_laws.proofs.modules.Tasks.{IsTask}
 use Rattle.hw_top_laws.proofs.form.Whole.{tops_are_right}
 use Rattle.hw_top_laws.proofs.design.Kept.{same_module}
-
--- what a module contains is an instance of it
-pub child_instance : (m : ModuleTree) (y : Name) → Has (module_children m) y → (i : Name) × Has (instances m) (y, i)
-unfolding module_children
-child_instance m y h = let t = of_flat item_children m.items y h in at t.0 t.1 t.2 where
-  at : (it : Item) → Has m.items it → Has (item_children it) y → (i : Name) × Has (instances m) (y, i)
-  at (Instance k j ls) has (inl e) = (j, subst (λ z. Has (instances m) (z, j)) e (has_flat item_instances m.items (Instance k j ls) (k, j) has (inl refl)))
-  at (Instance k j ls) has (inr n) = absurd n
-  at (Wire w z) has e = absurd e
-  at (Reg w z) has e = absurd e
-  at (Memory w z n) has e = absurd e
-  at (Assign z v) has e = absurd e
-  at (Always b) has e = absurd e
+use Rattle.vlog_run_laws.proofs.loops.Climbed.{instance_in as child_instance}
 
 -- a module of a name
 abbrev pub IsNamed : List ModuleTree → Name → Type 0

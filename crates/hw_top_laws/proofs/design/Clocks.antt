@@ -1,5 +1,5 @@
 -- A clock of an instance is joined to the clock.
-use Rattle.std.proofs.Common.{◌≡◌, ℕ, ◌≤◌, Bool, true, false, ◌&&◌, List, [], ◌++◌, map, Some, inl, inr, refl, sym, ap, subst, ◌∙◌, arith, ⊎_elim}
+use Rattle.std.proofs.Common.{◌≡◌, ℕ, ◌≤◌, Bool, true, false, ◌&&◌, List, ◌++◌, map, Some, inl, refl, sym, ap, subst, ◌∙◌, arith, ⊎_elim}
 use Rattle.std.specs.Prelude.{codes, not, slice_get, slice_index}
 use Rattle.std.specs.List.{flat_map}
 use Rattle.std.specs.Cmp.Lexicographic.{bytes_decides}
@@ -10,7 +10,7 @@ use Rattle.tapa_syntax.specs.declared.program.Program.{Program}
 use Rattle.task_fsm.specs.declared.machine.Fsm.{Fsm}
 use Rattle.vlog_tree.specs.declared.tree.Connection.{Connection}
 use Rattle.vlog_tree.specs.declared.tree.Item.{Item}
-use Rattle.vlog_tree.specs.declared.tree.Item.TheVariants.{Wire, Reg, Memory, Assign, Always, Instance as InstanceLine}
+use Rattle.vlog_tree.specs.declared.tree.Item.TheVariants.{Instance as InstanceLine}
 use Rattle.vlog_tree.specs.declared.tree.PortDecl.{PortDecl}
 use Rattle.vlog_tree.specs.Form.{ModuleTree}
 use Rattle.tapa_base.specs.Lists.{Has}
@@ -33,11 +33,13 @@ use Rattle.hw_top_laws.specs.modules.Lower.{lower_modules, KeepPromises}
 use Rattle.hw_top_laws.proofs.modules.Channels.{channel_are}
 use Rattle.hw_top_laws.proofs.modules.Lower.{one_of, lower_ports}
 use Rattle.hw_top_laws.proofs.modules.Tasks.{IsTask}
-use Rattle.hw_top_laws.proofs.form.Drives.{ports_none, wires_none, done_none}
+use Rattle.hw_top_laws.proofs.form.Drives.{standing_none}
 use Rattle.hw_top_laws.proofs.form.Tasks.{part_at, child, named, ports_are, same}
 use Rattle.hw_top_laws.proofs.design.Chains.{task_alone}
 use Rattle.hw_top_laws.proofs.design.OrderParts.{IsOfTop, OfTask, OfChannel, in_instances}
 use Rattle.hw_top_laws.proofs.design.Places.{same_connection}
+use Rattle.std.proofs.lemmas.Bool.{not-true}
+use Rattle.hw_build.proofs.Uses.{all_has}
 
 -- a use that breaks no rule
 abbrev pub IsKept : NameUse → Type 0
@@ -56,25 +58,13 @@ clock_kept l h = kept_by (is_clk l.port) (is_clk l.net) (λ e. (bytes_decides l.
 line_kept : (m : ModuleTree) → ((k i : Name) (ls : List Connection) → Has m.items (InstanceLine k i ls) → (l : Connection) → Has ls l → IsKept (clock_connection l)) → (it : Item) → Has m.items it → (u : NameUse)
     → Has (clock_connections it) u → IsKept u
 line_kept m f (InstanceLine k i ls) h u c = let t = of_map clock_connection ls u c in subst IsKept t.2 (f k i ls h t.0 t.1)
-line_kept m f (Wire w x) h u c = absurd c
-line_kept m f (Reg w x) h u c = absurd c
-line_kept m f (Memory w x n) h u c = absurd c
-line_kept m f (Assign x v) h u c = absurd c
-line_kept m f (Always b) h u c = absurd c
+line_kept m f _ h u c = absurd c
 
 -- ---- the ends of a channel
 
 channel_kept : (x : Name) (l : Connection) → Has (channel_connections x) l → IsKept (clock_connection l)
 unfolding clock_connection clk rst
-channel_kept x l (inl e) = subst (λ z. IsKept (clock_connection z)) e refl
-channel_kept x l (inr (inl e)) = subst (λ z. IsKept (clock_connection z)) e refl
-channel_kept x l (inr (inr (inl e))) = subst (λ z. IsKept (clock_connection z)) e refl
-channel_kept x l (inr (inr (inr (inl e)))) = subst (λ z. IsKept (clock_connection z)) e refl
-channel_kept x l (inr (inr (inr (inr (inl e))))) = subst (λ z. IsKept (clock_connection z)) e refl
-channel_kept x l (inr (inr (inr (inr (inr (inl e)))))) = subst (λ z. IsKept (clock_connection z)) e refl
-channel_kept x l (inr (inr (inr (inr (inr (inr (inl e))))))) = subst (λ z. IsKept (clock_connection z)) e refl
-channel_kept x l (inr (inr (inr (inr (inr (inr (inr (inl e)))))))) = subst (λ z. IsKept (clock_connection z)) e refl
-channel_kept x l (inr (inr (inr (inr (inr (inr (inr (inr n)))))))) = absurd n
+channel_kept x l h = not-true (clock_connection l).1 (all_has (λ (c : Connection). not (clock_connection c).1) (channel_connections x) refl l h)
 
 clock_is : clk ≡ codes "clk"
 unfolding clk
@@ -84,12 +74,6 @@ abbrev line_uses : Element → List NameUse
 line_uses e = flat_map clock_connections (element_items e)
 
 module _ (program : Program) (machines : List Fsm) (added : List ℕ) (ready : IsReady program machines added) (kept : KeepPromises program machines) where
-  abbrev tree : ModuleTree
-  tree = top_tree program added
-
-  abbrev top : List Element
-  top = top_elements program added
-
   -- ---- the ends of a task
 
   task_clock : (i : ℕ) (x : Instance) (leaf : Leaf) → slice_get program.instances.items i ≡ Some x → slice_get program.bodies.items x.body ≡ Some leaf → (l : Connection) → Has (task_connections program i x leaf) l
@@ -118,25 +102,17 @@ module _ (program : Program) (machines : List Fsm) (added : List ℕ) (ready : I
   part_kept e (OfChannel n r g s) u h =
       joined_kept (channel_name (token_bits r.kind) r.depth (slice_index added n)) (channel_instance r.label) (channel_connections r.label) (λ l j. channel_kept r.label l j) u (subst (λ z. Has (line_uses z) u) (sym s) h)
 
-  no_use : (xs : List Element) → flat_map line_uses xs ≡ [] → (e : Element) → Has xs e → (u : NameUse) → Has (line_uses e) u → ⊥
-  no_use xs none e h u k = subst (λ (l : List NameUse). Has l u) none (has_flat line_uses xs e u h k)
-
-  element_kept : (e : Element) → Has top e → (u : NameUse) → Has (line_uses e) u → IsKept u
+  element_kept : (e : Element) → Has (top_elements program added) e → (u : NameUse) → Has (line_uses e) u → IsKept u
   element_kept e h u k =
-      ⊎_elim
-      (λ s.
-      ⊎_elim
-      (λ q.
-      ⊎_elim (λ l. absurd (no_use (ports program) (ports_none line_uses (λ w x. refl) (λ w x. refl) program) e l u k))
-      (λ l. absurd (no_use (wires program) (wires_none line_uses (λ w x v. refl) (λ w x. refl) program) e l u k)) (has_split (ports program) (wires program) e q))
-      (λ l. absurd (no_use (doneness program) (done_none line_uses (λ w x v. refl) program (λ v. refl)) e l u k)) (has_split (ports program ++ wires program) (doneness program) e s))
-      (λ l. part_kept e (in_instances program added e l) u k)
-      (has_split (ports program ++ wires program ++ doneness program) (instances program added) e h)
+      let standing = ports program ++ wires program ++ doneness program in
+      let none = standing_none line_uses program (λ w x v. refl) (λ w x. refl) (λ v. refl) (λ w x. refl) (λ w x. refl) in
+      ⊎_elim (λ s. absurd (subst (λ (l : List NameUse). Has l u) none (has_flat line_uses standing e u s k))) (λ l. part_kept e (in_instances program added e l) u k)
+      (has_split standing (instances program added) e h)
 
-  pub top_clocks : (u : NameUse) → Has (flat_map clock_connections tree.items) u → IsKept u
+  pub top_clocks : (u : NameUse) → Has (flat_map clock_connections (top_tree program added).items) u → IsKept u
   top_clocks u h =
-      let a = of_flat clock_connections tree.items u h in
-      let b = of_flat element_items top a.0 (subst (λ (l : List Item). Has l a.0) (items_of_all top (empty (task_name program.top))) a.1) in
+      let a = of_flat clock_connections (top_tree program added).items u h in
+      let b = of_flat element_items (top_elements program added) a.0 (subst (λ (l : List Item). Has l a.0) (items_of_all (top_elements program added) (empty (task_name program.top))) a.1) in
       element_kept b.0 b.1 u (has_flat clock_connections (element_items b.0) a.0 u b.2 a.2)
 
   -- ---- the lines of the others

@@ -1,10 +1,10 @@
 -- Each port of the top fits its name.
-use Rattle.std.proofs.Common.{◌≡◌, ℕ, ◌<◌, Bool, true, false, cond, eqb, ◌&&◌, ◌||◌, List, [], ◌∷◌, length, map, Option, Some, None, inl, inr, refl, sym, ap, subst, ◌∙◌, arith}
+use Rattle.std.proofs.Common.{◌≡◌, ℕ, ◌<◌, Bool, true, false, cond, eqb, ◌&&◌, ◌||◌, List, [], ◌∷◌, length, map, Option, Some, None, inl, inr, refl, sym, ap, subst, ◌∙◌}
 use Rattle.std.specs.Prelude.{bytes_eq, is_some, nat_le, not, slice_get}
 use Rattle.std.specs.List.{flat_map}
 use Rattle.std.specs.Option.{option_map_or}
 use Rattle.std.specs.Cmp.Lexicographic.{bytes_decides}
-use Rattle.std.proofs.lemmas.Bool.{eq-eqb, le-leb, false_from_ne_true}
+use Rattle.std.proofs.lemmas.Bool.{eq-eqb, le-leb, false_from_ne_true, and_from as yes_and}
 use Rattle.tapa_base.specs.Kinds.{bits_of}
 use Rattle.tapa_syntax.specs.declared.program.Memory.{Memory}
 use Rattle.tapa_syntax.specs.declared.program.Program.{Program}
@@ -18,16 +18,15 @@ use Rattle.vlog_tree.specs.Table.{Name, NameUse, clk, is_clk, port_declared, fin
 use Rattle.vlog_tree.specs.V6.{has_port, has_all_five, bits_before, agrees, is_in, is_out, is_memory_port, is_expected, fixed_fits, scalar_fits, ack_fits, rdata_fits, addr_fits, wdata_fits, we_fits, port_fits, top_ports}
 use Rattle.vlog_module_laws.proofs.Labelled.{labels}
 use Rattle.hw_build.specs.Elements.{element_ports}
-use Rattle.hw_build.proofs.Forms.{yes_and}
-use Rattle.hw_build.proofs.Tables.{same_name}
 use Rattle.hw_build.specs.Fits.{AreOnce}
-use Rattle.hw_task_laws.proofs.fit.Scopes.{few_bits}
 use Rattle.hw_top_laws.specs.joins.Joins.{input_port, output_port, port_names}
 use Rattle.hw_top_laws.proofs.joins.Joined.{found_port, input_kind, output_kind}
 use Rattle.hw_top_lines.specs.Texts.{memory_ports}
-use Rattle.hw_top_laws.proofs.names.Made.{sort, clk_sort, rst_sort, scalar_sort, addr_sort, wdata_sort, we_sort, ack_sort, rdata_sort, done_sort}
+use Rattle.hw_top_laws.proofs.names.Made.{sort, clk_sort, rst_sort, scalar_sort, addr_names, wdata_names, we_names, ack_names, rdata_names, done_sort}
 use Rattle.hw_top_laws.proofs.design.OutsideParts.{no_scalar, no_ack, no_rdata, no_addr, no_wdata, no_we}
 use Rattle.hw_top_laws.proofs.design.Ports.{whole, IsTopPort, AtClock, AtReset, AtDone, AtScalar, AtMemory, port_is, clock_there, reset_there, done_there, memory_there}
+use Rattle.tapa_base.proofs.Tests.{few_bits}
+use Rattle.vlog_module_laws.proofs.Forms.{itself as same_name}
 
 -- ---- the ports one after another
 
@@ -68,204 +67,41 @@ shown_is : (ds : List Declaration) (before : List PortDecl) (p : PortDecl)
 unfolding is_memory_port is_expected fixed_fits scalar_fits ack_fits rdata_fits addr_fits wdata_fits we_fits port_fits
 shown_is ds before p = refl
 
--- what the name of a port is
-record Says (x : Name) (c t o : Bool) (s a r d w e : Option Name) : Type 0 where
-  clock : is_clk x ≡ c
-  reset : bytes_eq x rst ≡ t
-  ended : bytes_eq x done ≡ o
-  scalar_label : scalar_of x ≡ s
-  ack_label : ack_of x ≡ a
-  rdata_label : rdata_of x ≡ r
-  addr_label : addr_of x ≡ d
-  wdata_label : wdata_of x ≡ w
-  we_label : we_of x ≡ e
-
-fits_by : (ds : List Declaration) (before : List PortDecl) (p : PortDecl) (c t o : Bool) (s a r d w e : Option Name) → Says p.name c t o s a r d w e → shown ds before p c t o s a r d w e ≡ true → port_fits ds before p ≡ true
-fits_by ds before p c t o s a r d w e h k =
-    let x = p.name in
-    shown_is ds before p
-    ∙ ap (λ z. shown ds before p z (bytes_eq x rst) (bytes_eq x done) (scalar_of x) (ack_of x) (rdata_of x) (addr_of x) (wdata_of x) (we_of x)) h.clock
-    ∙ ap (λ z. shown ds before p c z (bytes_eq x done) (scalar_of x) (ack_of x) (rdata_of x) (addr_of x) (wdata_of x) (we_of x)) h.reset
-    ∙ ap (λ z. shown ds before p c t z (scalar_of x) (ack_of x) (rdata_of x) (addr_of x) (wdata_of x) (we_of x)) h.ended
-    ∙ ap (λ z. shown ds before p c t o z (ack_of x) (rdata_of x) (addr_of x) (wdata_of x) (we_of x)) h.scalar_label
-    ∙ ap (λ z. shown ds before p c t o s z (rdata_of x) (addr_of x) (wdata_of x) (we_of x)) h.ack_label
-    ∙ ap (λ z. shown ds before p c t o s a z (addr_of x) (wdata_of x) (we_of x)) h.rdata_label
-    ∙ ap (λ z. shown ds before p c t o s a r z (wdata_of x) (we_of x)) h.addr_label
-    ∙ ap (λ z. shown ds before p c t o s a r d z (we_of x)) h.wdata_label
-    ∙ ap (λ z. shown ds before p c t o s a r d w z) h.we_label ∙ k
-
 -- names of different sorts differ
 differ : (x y : Name) (j k : ℕ) → sort x ≡ j → sort y ≡ k → (j ≡ k → ⊥) → bytes_eq x y ≡ false
 differ x y j k e f n = false_from_ne_true (bytes_eq x y) (λ s. n (sym e ∙ ap sort ((bytes_decides x y).0 s) ∙ f))
 
--- the name of a sort, with the label of that sort alone
-module _ (x : Name) (k : ℕ) (is : sort x ≡ k) where
-  not_sort : (j : ℕ) → (k ≡ j → ⊥) → sort x ≡ j → ⊥
-  not_sort j n e = n (sym is ∙ e)
+-- a where the sorts are the same, and otherwise b
+abbrev own : {A : Type 0} (k j : ℕ) (a b : A) → A
+own k j a b = cond (eqb k j) a b
 
-  says_clock : (k ≡ 0 → ⊥) → is_clk x ≡ false
-  says_clock n = differ x clk k 0 is clk_sort n
+is_own : {A : Type 0} (k j : ℕ) (a b : A) → ((k ≡ j → ⊥) → a ≡ b) → a ≡ own k j a b
+is_own k j a b other = by (eqb k j) refl where
+  by : (t : Bool) → eqb k j ≡ t → a ≡ cond t a b
+  by true e = refl
+  by false e = other (λ s. let bad : true ≡ false = sym (eq-eqb k j s) ∙ e in cc)
 
-  says_reset : (k ≡ 1 → ⊥) → bytes_eq x rst ≡ false
-  says_reset n = differ x rst k 1 is rst_sort n
+-- where the name of the port is of sort k, and so has no label of another sort
+abbrev shown_by : List Declaration → List PortDecl → PortDecl → ℕ → Bool
+shown_by ds before p k =
+    shown ds before p (own k 0 (is_clk p.name) false) (own k 1 (bytes_eq p.name rst) false) (own k 17 (bytes_eq p.name done) false) (own k 2 (scalar_of p.name) None) (own k 6 (ack_of p.name) None)
+    (own k 7 (rdata_of p.name) None) (own k 3 (addr_of p.name) None) (own k 4 (wdata_of p.name) None) (own k 5 (we_of p.name) None)
 
-  says_done : (k ≡ 17 → ⊥) → bytes_eq x done ≡ false
-  says_done n = differ x done k 17 is done_sort n
-
-  says_scalar : (k ≡ 2 → ⊥) → scalar_of x ≡ None
-  says_scalar n = no_scalar x (not_sort 2 n)
-
-  says_addr : (k ≡ 3 → ⊥) → addr_of x ≡ None
-  says_addr n = no_addr x (not_sort 3 n)
-
-  says_wdata : (k ≡ 4 → ⊥) → wdata_of x ≡ None
-  says_wdata n = no_wdata x (not_sort 4 n)
-
-  says_we : (k ≡ 5 → ⊥) → we_of x ≡ None
-  says_we n = no_we x (not_sort 5 n)
-
-  says_ack : (k ≡ 6 → ⊥) → ack_of x ≡ None
-  says_ack n = no_ack x (not_sort 6 n)
-
-  says_rdata : (k ≡ 7 → ⊥) → rdata_of x ≡ None
-  says_rdata n = no_rdata x (not_sort 7 n)
-
-says_clk : Says clk true false false None None None None None None
-says_clk =
-    let s = clk_sort in
-    record {
-      clock = same_name clk;
-      reset = says_reset clk 0 s (λ t. omega arith);
-      ended = says_done clk 0 s (λ t. omega arith);
-      scalar_label = says_scalar clk 0 s (λ t. omega arith);
-      ack_label = says_ack clk 0 s (λ t. omega arith);
-      rdata_label = says_rdata clk 0 s (λ t. omega arith);
-      addr_label = says_addr clk 0 s (λ t. omega arith);
-      wdata_label = says_wdata clk 0 s (λ t. omega arith);
-      we_label = says_we clk 0 s (λ t. omega arith);
-    }
-
-says_rst : Says rst false true false None None None None None None
-says_rst =
-    let s = rst_sort in
-    record {
-      clock = says_clock rst 1 s (λ t. omega arith);
-      reset = same_name rst;
-      ended = says_done rst 1 s (λ t. omega arith);
-      scalar_label = says_scalar rst 1 s (λ t. omega arith);
-      ack_label = says_ack rst 1 s (λ t. omega arith);
-      rdata_label = says_rdata rst 1 s (λ t. omega arith);
-      addr_label = says_addr rst 1 s (λ t. omega arith);
-      wdata_label = says_wdata rst 1 s (λ t. omega arith);
-      we_label = says_we rst 1 s (λ t. omega arith);
-    }
-
-says_ended : Says done false false true None None None None None None
-says_ended =
-    let s = done_sort in
-    record {
-      clock = says_clock done 17 s (λ t. omega arith);
-      reset = says_reset done 17 s (λ t. omega arith);
-      ended = same_name done;
-      scalar_label = says_scalar done 17 s (λ t. omega arith);
-      ack_label = says_ack done 17 s (λ t. omega arith);
-      rdata_label = says_rdata done 17 s (λ t. omega arith);
-      addr_label = says_addr done 17 s (λ t. omega arith);
-      wdata_label = says_wdata done 17 s (λ t. omega arith);
-      we_label = says_we done 17 s (λ t. omega arith);
-    }
-
--- a label, which isn't empty
-module _ (l : Name) (some : 0 < length l) where
-  says_scalar_name : Says (scalar l) false false false (Some l) None None None None None
-  says_scalar_name =
-      let s = scalar_sort l in
-      record {
-        clock = says_clock (scalar l) 2 s (λ t. omega arith);
-        reset = says_reset (scalar l) 2 s (λ t. omega arith);
-        ended = says_done (scalar l) 2 s (λ t. omega arith);
-        scalar_label = labels.scalars.there l some;
-        ack_label = says_ack (scalar l) 2 s (λ t. omega arith);
-        rdata_label = says_rdata (scalar l) 2 s (λ t. omega arith);
-        addr_label = says_addr (scalar l) 2 s (λ t. omega arith);
-        wdata_label = says_wdata (scalar l) 2 s (λ t. omega arith);
-        we_label = says_we (scalar l) 2 s (λ t. omega arith);
-      }
-
-  says_ack_name : Says (m_ack l) false false false None (Some l) None None None None
-  says_ack_name =
-      let s = ack_sort l in
-      record {
-        clock = says_clock (m_ack l) 6 s (λ t. omega arith);
-        reset = says_reset (m_ack l) 6 s (λ t. omega arith);
-        ended = says_done (m_ack l) 6 s (λ t. omega arith);
-        scalar_label = says_scalar (m_ack l) 6 s (λ t. omega arith);
-        ack_label = labels.acks.there l some;
-        rdata_label = says_rdata (m_ack l) 6 s (λ t. omega arith);
-        addr_label = says_addr (m_ack l) 6 s (λ t. omega arith);
-        wdata_label = says_wdata (m_ack l) 6 s (λ t. omega arith);
-        we_label = says_we (m_ack l) 6 s (λ t. omega arith);
-      }
-
-  says_rdata_name : Says (m_rdata l) false false false None None (Some l) None None None
-  says_rdata_name =
-      let s = rdata_sort l in
-      record {
-        clock = says_clock (m_rdata l) 7 s (λ t. omega arith);
-        reset = says_reset (m_rdata l) 7 s (λ t. omega arith);
-        ended = says_done (m_rdata l) 7 s (λ t. omega arith);
-        scalar_label = says_scalar (m_rdata l) 7 s (λ t. omega arith);
-        ack_label = says_ack (m_rdata l) 7 s (λ t. omega arith);
-        rdata_label = labels.rdatas.there l some;
-        addr_label = says_addr (m_rdata l) 7 s (λ t. omega arith);
-        wdata_label = says_wdata (m_rdata l) 7 s (λ t. omega arith);
-        we_label = says_we (m_rdata l) 7 s (λ t. omega arith);
-      }
-
-  says_addr_name : Says (m_addr l) false false false None None None (Some l) None None
-  says_addr_name =
-      let s = addr_sort l in
-      record {
-        clock = says_clock (m_addr l) 3 s (λ t. omega arith);
-        reset = says_reset (m_addr l) 3 s (λ t. omega arith);
-        ended = says_done (m_addr l) 3 s (λ t. omega arith);
-        scalar_label = says_scalar (m_addr l) 3 s (λ t. omega arith);
-        ack_label = says_ack (m_addr l) 3 s (λ t. omega arith);
-        rdata_label = says_rdata (m_addr l) 3 s (λ t. omega arith);
-        addr_label = labels.addrs.there l some;
-        wdata_label = says_wdata (m_addr l) 3 s (λ t. omega arith);
-        we_label = says_we (m_addr l) 3 s (λ t. omega arith);
-      }
-
-  says_wdata_name : Says (m_wdata l) false false false None None None None (Some l) None
-  says_wdata_name =
-      let s = wdata_sort l in
-      record {
-        clock = says_clock (m_wdata l) 4 s (λ t. omega arith);
-        reset = says_reset (m_wdata l) 4 s (λ t. omega arith);
-        ended = says_done (m_wdata l) 4 s (λ t. omega arith);
-        scalar_label = says_scalar (m_wdata l) 4 s (λ t. omega arith);
-        ack_label = says_ack (m_wdata l) 4 s (λ t. omega arith);
-        rdata_label = says_rdata (m_wdata l) 4 s (λ t. omega arith);
-        addr_label = says_addr (m_wdata l) 4 s (λ t. omega arith);
-        wdata_label = labels.wdatas.there l some;
-        we_label = says_we (m_wdata l) 4 s (λ t. omega arith);
-      }
-
-  says_we_name : Says (m_we l) false false false None None None None None (Some l)
-  says_we_name =
-      let s = we_sort l in
-      record {
-        clock = says_clock (m_we l) 5 s (λ t. omega arith);
-        reset = says_reset (m_we l) 5 s (λ t. omega arith);
-        ended = says_done (m_we l) 5 s (λ t. omega arith);
-        scalar_label = says_scalar (m_we l) 5 s (λ t. omega arith);
-        ack_label = says_ack (m_we l) 5 s (λ t. omega arith);
-        rdata_label = says_rdata (m_we l) 5 s (λ t. omega arith);
-        addr_label = says_addr (m_we l) 5 s (λ t. omega arith);
-        wdata_label = says_wdata (m_we l) 5 s (λ t. omega arith);
-        we_label = labels.wes.there l some;
-      }
+fits_by : (ds : List Declaration) (before : List PortDecl) (p : PortDecl) (k : ℕ) → sort p.name ≡ k → port_fits ds before p ≡ shown_by ds before p k
+fits_by ds before p k is =
+    let x = p.name in
+    let not_sort : (j : ℕ) → (k ≡ j → ⊥) → sort x ≡ j → ⊥ = λ j n e. n (sym is ∙ e) in
+    let c = is_own k 0 (is_clk x) false (differ x clk k 0 is clk_sort) in
+    let t = is_own k 1 (bytes_eq x rst) false (differ x rst k 1 is rst_sort) in
+    let o = is_own k 17 (bytes_eq x done) false (differ x done k 17 is done_sort) in
+    let s = is_own k 2 (scalar_of x) None (λ n. no_scalar x (not_sort 2 n)) in
+    let a = is_own k 6 (ack_of x) None (λ n. no_ack x (not_sort 6 n)) in
+    let r = is_own k 7 (rdata_of x) None (λ n. no_rdata x (not_sort 7 n)) in
+    let d = is_own k 3 (addr_of x) None (λ n. no_addr x (not_sort 3 n)) in
+    let w = is_own k 4 (wdata_of x) None (λ n. no_wdata x (not_sort 4 n)) in
+    let e = is_own k 5 (we_of x) None (λ n. no_we x (not_sort 5 n)) in
+    let all : shown ds before p (is_clk x) (bytes_eq x rst) (bytes_eq x done) (scalar_of x) (ack_of x) (rdata_of x) (addr_of x) (wdata_of x) (we_of x) ≡ shown_by ds before p k = cc in
+    shown_is ds before p ∙ all
 
 -- ---- each port of the top
 
@@ -289,42 +125,28 @@ module _ (program : Program) (added : List ℕ) (once : AreOnce (port_names (who
   pub has_done : has_port ds done ≡ true
   has_done = ap net_kind_is_read (output_kind ps once 1 done (done_there program added))
 
+  fitting : (before : List PortDecl) (p q : PortDecl) → q ≡ p → (k : ℕ) → sort q.name ≡ k → shown_by ds before q k ≡ true → port_fits ds before p ≡ true
+  fitting before p q s k is h = subst (λ z. port_fits ds before z ≡ true) s (fits_by ds before q k is ∙ h)
+
   module _ (m : ℕ) (r : Memory) (got : slice_get program.memories.items m ≡ Some r) where
     abbrev w : ℕ
     w = bits_of r.kind
 
+    abbrev long : 0 < length r.name
+    long = memory_long m r got
+
     there : (p : PortDecl) → Has (flat_map element_ports (memory_ports (Some r))) p → Has ps p
     there p h = memory_there program added m r got p h
-
-    addr_there : Has ps (output_port 64 (m_addr r.name))
-    addr_there = there (output_port 64 (m_addr r.name)) (inl refl)
-
-    wdata_there : Has ps (output_port w (m_wdata r.name))
-    wdata_there = there (output_port w (m_wdata r.name)) (inr (inl refl))
-
-    we_there : Has ps (output_port 1 (m_we r.name))
-    we_there = there (output_port 1 (m_we r.name)) (inr (inr (inl refl)))
-
-    ack_there : Has ps (input_port 1 (m_ack r.name))
-    ack_there = there (input_port 1 (m_ack r.name)) (inr (inr (inr (inl refl))))
-
-    rdata_there : Has ps (input_port w (m_rdata r.name))
-    rdata_there = there (input_port w (m_rdata r.name)) (inr (inr (inr (inr (inl refl)))))
 
     five : has_all_five ds r.name ≡ true
     unfolding has_all_five
     five =
-        let a = has_port ds (m_ack r.name) in
-        let b = has_port ds (m_rdata r.name) in
-        let c = has_port ds (m_addr r.name) in
-        let d = has_port ds (m_wdata r.name) in
-        let e = has_port ds (m_we r.name) in
-        let ea : a ≡ true = ap net_kind_is_read (input_kind ps once 1 (m_ack r.name) ack_there) in
-        let eb : b ≡ true = ap net_kind_is_read (input_kind ps once w (m_rdata r.name) rdata_there) in
-        let ec : c ≡ true = ap net_kind_is_read (output_kind ps once 64 (m_addr r.name) addr_there) in
-        let ed : d ≡ true = ap net_kind_is_read (output_kind ps once w (m_wdata r.name) wdata_there) in
-        let ee : e ≡ true = ap net_kind_is_read (output_kind ps once 1 (m_we r.name) we_there) in
-        yes_and (a && b && c && d) e (yes_and (a && b && c) d (yes_and (a && b) c (yes_and a b ea eb) ec) ed) ee
+        let ea : has_port ds (m_ack r.name) ≡ true = ap net_kind_is_read (input_kind ps once 1 (m_ack r.name) (there _ (inr (inr (inr (inl refl)))))) in
+        let eb : has_port ds (m_rdata r.name) ≡ true = ap net_kind_is_read (input_kind ps once w (m_rdata r.name) (there _ (inr (inr (inr (inr (inl refl))))))) in
+        let ec : has_port ds (m_addr r.name) ≡ true = ap net_kind_is_read (output_kind ps once 64 (m_addr r.name) (there _ (inl refl))) in
+        let ed : has_port ds (m_wdata r.name) ≡ true = ap net_kind_is_read (output_kind ps once w (m_wdata r.name) (there _ (inr (inl refl)))) in
+        let ee : has_port ds (m_we r.name) ≡ true = ap net_kind_is_read (output_kind ps once 1 (m_we r.name) (there _ (inr (inr (inl refl))))) in
+        rw (ea, eb, ec, ed, ee) refl
 
     narrow : nat_le w 64 ≡ true
     narrow = le-leb w 64 (few_bits r.kind)
@@ -337,39 +159,41 @@ module _ (program : Program) (added : List ℕ) (once : AreOnce (port_names (who
 
       memory_fits : (p : PortDecl) → Has (flat_map element_ports (memory_ports (Some r))) p → port_fits ds before p ≡ true
       memory_fits p (inl s) =
-          let f : Bool → Bool = λ b. true && true && true && true && true && b && true && true in
-          subst (λ z. port_fits ds before z ≡ true) s
-          (fits_by ds before (output_port 64 (m_addr r.name)) false false false None None None (Some r.name) None None (says_addr_name r.name (memory_long m r got)) (ap f five))
+          let q = output_port 64 (m_addr r.name) in
+          fitting before p q s 3 (addr_names.sorts r.name) (ap (λ z. shown ds before q false false false None None None z None None) (labels.addrs.there r.name long) ∙ ap (λ b. true && true && true && true && true && b && true && true) five)
       memory_fits p (inr (inl s)) =
-          let f : Bool → Bool = λ b. true && true && true && true && true && true && b && true in
-          subst (λ z. port_fits ds before z ≡ true) s
-          (fits_by ds before (output_port w (m_wdata r.name)) false false false None None None None (Some r.name) None (says_wdata_name r.name (memory_long m r got))
-          (ap f (data_fits (m_rdata r.name) (input_port w (m_rdata r.name)) rdata_there refl refl)))
+          let q = output_port w (m_wdata r.name) in
+          fitting before p q s 4 (wdata_names.sorts r.name)
+          (ap (λ z. shown ds before q false false false None None None None z None) (labels.wdatas.there r.name long)
+          ∙ ap (λ b. true && true && true && true && true && true && b && true) (data_fits (m_rdata r.name) (input_port w (m_rdata r.name)) (there _ (inr (inr (inr (inr (inl refl)))))) refl refl))
       memory_fits p (inr (inr (inl s))) =
-          let f : Bool → Bool = λ b. true && true && true && true && true && true && true && b in
-          subst (λ z. port_fits ds before z ≡ true) s (fits_by ds before (output_port 1 (m_we r.name)) false false false None None None None None (Some r.name) (says_we_name r.name (memory_long m r got)) (ap f five))
+          let q = output_port 1 (m_we r.name) in
+          fitting before p q s 5 (we_names.sorts r.name) (ap (λ z. shown ds before q false false false None None None None None z) (labels.wes.there r.name long) ∙ ap (λ b. true && true && true && true && true && true && true && b) five)
       memory_fits p (inr (inr (inr (inl s)))) =
-          let f : Bool → Bool = λ b. true && true && true && b && true && true && true && true in
-          subst (λ z. port_fits ds before z ≡ true) s (fits_by ds before (input_port 1 (m_ack r.name)) false false false None (Some r.name) None None None None (says_ack_name r.name (memory_long m r got)) (ap f five))
+          let q = input_port 1 (m_ack r.name) in
+          fitting before p q s 6 (ack_names.sorts r.name) (ap (λ z. shown ds before q false false false None z None None None None) (labels.acks.there r.name long) ∙ ap (λ b. true && true && true && b && true && true && true && true) five)
       memory_fits p (inr (inr (inr (inr (inl s))))) =
-          let f : Bool → Bool = λ b. true && true && true && true && b && true && true && true in
-          subst (λ z. port_fits ds before z ≡ true) s
-          (fits_by ds before (input_port w (m_rdata r.name)) false false false None None (Some r.name) None None None (says_rdata_name r.name (memory_long m r got))
-          (ap f (data_fits (m_wdata r.name) (output_port w (m_wdata r.name)) wdata_there refl refl)))
+          let q = input_port w (m_rdata r.name) in
+          fitting before p q s 7 (rdata_names.sorts r.name)
+          (ap (λ z. shown ds before q false false false None None z None None None) (labels.rdatas.there r.name long)
+          ∙ ap (λ b. true && true && true && true && b && true && true && true) (data_fits (m_wdata r.name) (output_port w (m_wdata r.name)) (there _ (inr (inl refl))) refl refl))
       memory_fits p (inr (inr (inr (inr (inr n))))) = absurd n
 
   port_fitting : (before : List PortDecl) → ((q : PortDecl) → Has before q → Has ps q) → (p : PortDecl) → IsTopPort program added p → port_fits ds before p ≡ true
   port_fitting before bs p (AtClock s) =
-      subst (λ z. port_fits ds before z ≡ true) s (fits_by ds before (input_port 1 clk) true false false None None None None None None says_clk refl)
+      let q = input_port 1 clk in
+      fitting before p q s 0 clk_sort (ap (λ z. shown ds before q z false false None None None None None None) (same_name clk))
   port_fitting before bs p (AtReset s) =
-      subst (λ z. port_fits ds before z ≡ true) s (fits_by ds before (input_port 1 rst) false true false None None None None None None says_rst refl)
+      let q = input_port 1 rst in
+      fitting before p q s 1 rst_sort (ap (λ z. shown ds before q false z false None None None None None None) (same_name rst))
   port_fitting before bs p (AtDone s) =
-      subst (λ z. port_fits ds before z ≡ true) s (fits_by ds before (output_port 1 done) false false true None None None None None None says_ended refl)
+      let q = output_port 1 done in
+      fitting before p q s 17 done_sort (ap (λ z. shown ds before q false false z None None None None None None) (same_name done))
   port_fitting before bs p (AtScalar k c g s) =
-      let f : Bool → Bool = λ b. true && true && b && true && true && true && true && true in
-      subst (λ z. port_fits ds before z ≡ true) s
-      (fits_by ds before (input_port (bits_of c.kind) (scalar c.name)) false false false (Some c.name) None None None None None (says_scalar_name c.name (scalar_long k c g))
-      (ap f (le-leb (bits_of c.kind) 64 (few_bits c.kind))))
+      let q = input_port (bits_of c.kind) (scalar c.name) in
+      fitting before p q s 2 (scalar_sort c.name)
+      (ap (λ z. shown ds before q false false false z None None None None None) (labels.scalars.there c.name (scalar_long k c g))
+      ∙ ap (λ b. true && true && b && true && true && true && true && true) (le-leb (bits_of c.kind) 64 (few_bits c.kind)))
   port_fitting before bs p (AtMemory m r g h) = memory_fits m r g before bs p h
 
   pub top_ports_kept : (u : NameUse) → Has (top_ports ds [] ps) u → u.1 ≡ false

@@ -41,7 +41,7 @@ use Rattle.hw_top_lines.specs.Texts.{ports, doneness, take_wire, token_bits, str
 use Rattle.hw_top_laws.specs.modules.Lower.{lower_modules, KeepPromises}
 use Rattle.hw_top_laws.proofs.modules.Channels.{sizes, channel_are}
 use Rattle.hw_top_laws.proofs.modules.Lower.{channel_within, lower_ports}
-use Rattle.hw_top_laws.proofs.modules.Tasks.{title, some_index}
+use Rattle.hw_top_laws.proofs.modules.Tasks.{title}
 use Rattle.hw_top_laws.proofs.form.Channels.{outer}
 use Rattle.hw_top_laws.proofs.form.Standing.{front, streams, bounds, ends as ends_of, takes}
 use Rattle.hw_top_laws.proofs.form.Tasks.{IsPart, part_at, used, child, all_ports, ports_are, named, same, stream_at, IsOrdered, AtClock, AtInput, AtOutput, end_right}
@@ -49,6 +49,7 @@ use Rattle.hw_top_laws.proofs.form.Whole.{tops_are_fitting}
 use Rattle.hw_top_laws.specs.design.Order.{AreBelow, TopsKeepOrder}
 use Rattle.hw_top_laws.proofs.design.OrderParts.{IsOfTop, OfTask, OfChannel, of_top}
 use Rattle.hw_top_laws.proofs.design.Places.{split_order, net_known, clock_known, same_connection}
+use Rattle.tapa_base.proofs.Got.{got_low as some_index}
 
 pub same_module : (a b : ModuleTree) → Some a ≡ Some b → a ≡ b
 same_module a b e = cc
@@ -81,9 +82,6 @@ module _ (program : Program) (machines : List Fsm) (added : List ℕ) (ready : I
     (below : AreBelow is_top (lower_modules program machines added)) where
   abbrev lower : List ModuleTree
   lower = lower_modules program machines added
-
-  abbrev top : List Element
-  top = top_elements program added
 
   fits : have_fitting_names lower first_table (front program ++ back program added) ≡ true
   fits = subst (λ (l : List Element). have_fitting_names lower first_table l ≡ true) (top_is program added) (tops_are_fitting program machines added ready kept).names
@@ -139,7 +137,7 @@ module _ (program : Program) (machines : List Fsm) (added : List ℕ) (ready : I
         (stream_label program (slice_index x.streams.items t.0), taken_net t.0 t.1 t.2 out ho t.3)
 
     task_order : (out into : Connection) → Has ends out → Has ends into → net_kind_of (map port_declared k.ports) out.port ≡ OutputNet → net_kind_of (map port_declared k.ports) into.port ≡ InputNet
-        → Rests lower is_top k out.port into.port → StandsBefore top into.net out.net
+        → Rests lower is_top k out.port into.port → StandsBefore (top_elements program added) into.net out.net
     task_order out into ho hi o n r =
         let promise = kept x.body leaf part.machine part.got_leaf part.got_machine (used program machines added ready kept i x leaf part) in
         let t = promise.rests lower is_top no_top out.port into.port o n r in
@@ -151,7 +149,7 @@ module _ (program : Program) (machines : List Fsm) (added : List ℕ) (ready : I
         let d : Declaration = record { name = s_take at.at.stream.label; net_kind = WireNet; bits = 1; cells = 0 } in
         let before : StandsBefore (front program ++ back program added) into.net (s_take at.at.stream.label) =
         split_order lower (front program) (back program added) fits into.net known (InstanceWire 1 (s_take at.at.stream.label)) d (take_behind program added at.number at.at.stream at.at.is) refl in
-        subst (λ (z : Name). StandsBefore top into.net z) (sym net) (subst (λ (l : List Element). StandsBefore l into.net (s_take at.at.stream.label)) (sym (top_is program added)) before)
+        subst (λ (z : Name). StandsBefore (top_elements program added) into.net z) (sym net) (subst (λ (l : List Element). StandsBefore l into.net (s_take at.at.stream.label)) (sym (top_is program added)) before)
 
   module _ (s : ℕ) (r : Stream) (got : slice_get program.streams.items s ≡ Some r) where
     pub channel_clear : (k : ModuleTree) → module_named lower (channel_name (token_bits r.kind) r.depth (slice_index added s)) ≡ Some k → (x y : Name)
@@ -173,7 +171,7 @@ module _ (program : Program) (machines : List Fsm) (added : List ℕ) (ready : I
         (rests_fewer ms lower is_top is_top (channel_within program machines added ready kept s r got) (λ q h. right_has_instances ms q (each_right ms sound q h)) (λ q h. refl) rests here)
 
   kept_by : (kn i : Name) (ls : List Connection) (k : ModuleTree) (out into : Connection) → IsOfTop program added (InstanceElement kn i ls) → module_named lower kn ≡ Some k → Has ls out → Has ls into
-      → net_kind_of (map port_declared k.ports) out.port ≡ OutputNet → net_kind_of (map port_declared k.ports) into.port ≡ InputNet → Rests lower is_top k out.port into.port → StandsBefore top into.net out.net
+      → net_kind_of (map port_declared k.ports) out.port ≡ OutputNet → net_kind_of (map port_declared k.ports) into.port ≡ InputNet → Rests lower is_top k out.port into.port → StandsBefore (top_elements program added) into.net out.net
   kept_by kn i ls k out into (OfTask j x leaf g gl e) n ho hi o p r =
       let part = part_at program machines added ready kept j x leaf g gl in
       let ek : task_name leaf.name ≡ kn = cc e in

@@ -1,11 +1,10 @@
 -- The scalars, memories and streams of the top.
-use Rattle.std.proofs.Common.{◌≡◌, ℕ, ◌+◌, ◌<◌, ◌≤◌, true, cond, eqb, ◌&&◌, List, [], ◌∷◌, ◌++◌, length, Option, Some, None, inl, inr, refl, ap, ◌∙◌, arith, append_assoc}
+use Rattle.std.proofs.Common.{◌≡◌, ℕ, ◌+◌, ◌<◌, true, cond, eqb, ◌&&◌, List, [], ◌∷◌, ◌++◌, length, Option, Some, None, inl, inr, refl, ap, ◌∙◌, arith, append_assoc}
 use Rattle.std.specs.Prelude.{map, nat_le, slice_get}
 use Rattle.std.specs.List.{flat_map}
-use Rattle.std.proofs.lemmas.Bool.{le-leb, leb-true}
+use Rattle.std.proofs.lemmas.Bool.{le-leb, and_from as yes_and}
 use Rattle.std.proofs.lemmas.List.{append-nil}
 use Rattle.tapa_base.specs.declared.shape.Port.{Port}
-use Rattle.tapa_base.specs.declared.kind.Kind.{Kind}
 use Rattle.tapa_base.specs.Kinds.{bits_of}
 use Rattle.tapa_syntax.specs.declared.program.Memory.{Memory}
 use Rattle.tapa_syntax.specs.declared.program.Program.{Program}
@@ -23,40 +22,34 @@ use Rattle.vlog_tree.specs.Labels.{rst, done, scalar, scalar_of, ack_of, din_of,
 use Rattle.vlog_tree.specs.Table.{Name, clk, declared, find_name, net_kind_is_wire, bits_of as bits_in}
 use Rattle.tapa_base.proofs.Lists.{has_left, has_right, has_flat}
 use Rattle.vlog_module_laws.proofs.Labelled.{labels}
-use Rattle.vlog_module_laws.proofs.Lists.{both_true}
-use Rattle.hw_build.specs.Elements.{Element, Input, Output, Outlet, Wire, InstanceWire, Register, Memory as MemoryElement, Block, Instance as InstanceElement, empty, element_ports, element_items}
+use Rattle.hw_build.specs.Elements.{Element, Input, Wire, InstanceWire, empty, element_ports, element_items}
 use Rattle.hw_build.specs.Fitting.{declarations, first_table}
-use Rattle.hw_build.proofs.Forms.{yes_and}
 use Rattle.hw_build.proofs.Right.{table, all_once}
 use Rattle.hw_build.proofs.Tables.{stays_new, found, items_of_all, ports_of_all}
 use Rattle.hw_build.specs.Scope.{each}
 use Rattle.hw_build.specs.Fits.{declared_names}
 use Rattle.hw_top_laws.specs.joins.Joins.{input_port, output_port}
 use Rattle.hw_lines.specs.Texts.{task_name}
-use Rattle.hw_top_lines.specs.Legal.{scalar_ports, memory_ports as memory_shapes, stream_ports}
+use Rattle.hw_top_lines.specs.Legal.{scalar_ports, memory_ports as memory_shapes, stream_ports, IsReady}
 use Rattle.hw_top_lines.specs.Names.{s_has, s_dout}
 use Rattle.hw_top_lines.specs.Bounds.{parameters}
-use Rattle.hw_top_lines.specs.Legal.{IsReady}
 use Rattle.hw_top_lines.specs.Texts.{scalar_port, memory_ports, ports, token_bits, stream_wires, take_wire, at_instance, ended_wire, doneness, wires, instances, top_elements, top_tree}
 use Rattle.hw_top_laws.specs.modules.Lower.{lower_modules, KeepPromises}
-use Rattle.hw_top_laws.proofs.names.Made.{sort, scalar_sort, addr_sort, wdata_sort, we_sort, ack_sort, rdata_sort, clk_sort, rst_sort, done_sort, wr_sort, rdy_sort, has_sort, dout_sort}
-use Rattle.hw_top_laws.proofs.names.Top.{got_map, got_left, got_right, rest_sorts, done_sorts}
-use Rattle.hw_task_laws.proofs.fit.Scopes.{few_bits, kind_wide}
+use Rattle.hw_top_laws.proofs.names.Made.{sort, scalar_sort, addr_names, wdata_names, we_names, ack_names, rdata_names, clk_sort, rst_sort, done_sort, wr_names, rdy_names, has_names, dout_names}
+use Rattle.hw_top_laws.proofs.names.Top.{rest_sorts, done_sorts}
 use Rattle.hw_top_laws.proofs.form.Drives.{ports_none, wires_none, done_none, instances_none}
-use Rattle.hw_top_laws.proofs.form.Standing.{stream_there, memory_there}
+use Rattle.hw_top_laws.proofs.form.Standing.{stream_there, memory_there, scalars, memories, streams}
 use Rattle.hw_top_laws.proofs.form.Whole.{tops_are_fitting}
 use Rattle.hw_top_laws.specs.design.Outside.{TopsHaveScalars, TopsHaveMemories, TopsHaveStreams}
 use Rattle.hw_top_laws.proofs.design.OutsideParts.{flat_flat, flat_none, flat_both, flat_each, gives, each_given, each_nothing, no_scalar, no_ack, no_din}
+use Rattle.hw_top_laws.proofs.modules.Channels.{some_bit}
+use Rattle.tapa_base.proofs.Tests.{few_bits}
+use Rattle.tapa_base.proofs.Got.{got_left, get_right as got_right, got_map}
 
 -- a name is not empty
 some_bytes : (x : Name) → (x ≡ [] → ⊥) → 0 < length x
 some_bytes [] h = absurd (h refl)
 some_bytes (c ∷ x) h = omega arith
-
-some_bit : (k : Kind) → 1 ≤ bits_of k
-some_bit k = positive (bits_of k) (both_true (nat_le 1 (bits_of k)) (nat_le (bits_of k) 128) (kind_wide k)).0 where
-  positive : (n : ℕ) → nat_le 1 n ≡ true → 1 ≤ n
-  positive n h = leb-true 1 n h
 
 module _ (program : Program) (machines : List Fsm) (added : List ℕ) (ready : IsReady program machines added) (kept : KeepPromises program machines) where
   abbrev top : List Element
@@ -64,15 +57,6 @@ module _ (program : Program) (machines : List Fsm) (added : List ℕ) (ready : I
 
   abbrev tree : ModuleTree
   tree = top_tree program added
-
-  abbrev scalars : List Element
-  scalars = each (λ x. scalar_port (slice_get program.scalars.items x)) (length program.scalars.items)
-
-  abbrev memories : List Element
-  memories = each (λ m. memory_ports (slice_get program.memories.items m)) (length program.memories.items)
-
-  abbrev streams : List Element
-  streams = each (λ s. stream_wires (slice_get program.streams.items s)) (length program.streams.items)
 
   tree_ports : tree.ports ≡ (empty (task_name program.top)).ports ++ flat_map element_ports top
   tree_ports = ports_of_all top (empty (task_name program.top))
@@ -100,22 +84,16 @@ module _ (program : Program) (machines : List Fsm) (added : List ℕ) (ready : I
     of_element e = flat_map G (element_ports e)
 
     -- the ports of the top, part by part
-    over_ports : (us vs : List Port) → flat_map G (empty (task_name program.top)).ports ≡ [] → G (output_port 1 done) ≡ [] → flat_map of_element scalars ≡ us → flat_map of_element memories ≡ vs → flat_map G tree.ports ≡ us ++ vs
+    over_ports : (us vs : List Port) → flat_map G (empty (task_name program.top)).ports ≡ [] → G (output_port 1 done) ≡ [] → flat_map of_element (scalars program) ≡ us → flat_map of_element (memories program) ≡ vs → flat_map G tree.ports ≡ us ++ vs
     over_ports us vs first last e f =
         ap (λ (l : List PortDecl). flat_map G l) tree_ports
         ∙ flat_both G (empty (task_name program.top)).ports (flat_map element_ports top) [] (us ++ vs) first
         (flat_flat G element_ports top
         ∙ flat_both of_element (ports program ++ wires program ++ doneness program) (instances program added) (us ++ vs) []
         (flat_both of_element (ports program ++ wires program) (doneness program) (us ++ vs) []
-        (flat_both of_element (ports program) (wires program) (us ++ vs) [] (flat_both of_element scalars memories us vs e f) (wires_none of_element (λ w x v. refl) (λ w x. refl) program) ∙ append-nil (us ++ vs))
+        (flat_both of_element (ports program) (wires program) (us ++ vs) [] (flat_both of_element (scalars program) (memories program) us vs e f) (wires_none of_element (λ w x v. refl) program (λ w x. refl)) ∙ append-nil (us ++ vs))
         (done_none of_element (λ w x v. refl) program (λ v. ap (λ l. l ++ []) last)) ∙ append-nil (us ++ vs)) (instances_none of_element (λ k i ls. refl) program added)
         ∙ append-nil (us ++ vs))
-
-    one_port : (p : PortDecl) (us : List Port) → G p ≡ us → flat_map G (p ∷ []) ≡ us
-    one_port p us e = ap (λ l. l ++ []) e ∙ append-nil us
-
-    next_element : (e : Element) (es : List Element) (us vs : List Port) → of_element e ≡ us → flat_map of_element es ≡ vs → flat_map of_element (e ∷ es) ≡ us ++ vs
-    next_element e es us vs h k = ap (λ l. l ++ flat_map of_element es) h ∙ ap (λ l. us ++ l) k
 
   -- scalars
   abbrev of_scalar : PortDecl → List Port
@@ -131,23 +109,18 @@ module _ (program : Program) (machines : List Fsm) (added : List ℕ) (ready : I
   scalar_at k None e = refl
   scalar_at k (Some c) e =
       let p = input_port (bits_of c.kind) (scalar c.name) in
-      next_element of_scalar (Input (bits_of c.kind) (scalar c.name)) [] (scalar_given c ∷ []) []
-      (one_port of_scalar p (scalar_given c ∷ []) (ap (scalar_label p) (labels.scalars.there c.name (scalar_long k c e)))) refl
+      rw (ap (scalar_label p) (labels.scalars.there c.name (scalar_long k c e))) refl
 
   no_scalar_at : (k : ℕ) (o : Option Memory) → flat_map (of_element of_scalar) (memory_ports o) ≡ []
   no_scalar_at k None = refl
   no_scalar_at k (Some m) =
       let b = bits_of m.kind in
-      let e5 = Input b (m_rdata m.name) in
-      let e4 = Input 1 (m_ack m.name) in
-      let e3 = Outlet 1 (m_we m.name) in
-      let e2 = Outlet b (m_wdata m.name) in
-      let e1 = Outlet 64 (m_addr m.name) in
-      next_element of_scalar e1 (e2 ∷ e3 ∷ e4 ∷ e5 ∷ []) [] [] (one_port of_scalar (output_port 64 (m_addr m.name)) [] (scalar_none (output_port 64 (m_addr m.name)) (λ s. let t = addr_sort m.name in omega (arith, s, t))))
-      (next_element of_scalar e2 (e3 ∷ e4 ∷ e5 ∷ []) [] [] (one_port of_scalar (output_port b (m_wdata m.name)) [] (scalar_none (output_port b (m_wdata m.name)) (λ s. let t = wdata_sort m.name in omega (arith, s, t))))
-      (next_element of_scalar e3 (e4 ∷ e5 ∷ []) [] [] (one_port of_scalar (output_port 1 (m_we m.name)) [] (scalar_none (output_port 1 (m_we m.name)) (λ s. let t = we_sort m.name in omega (arith, s, t))))
-      (next_element of_scalar e4 (e5 ∷ []) [] [] (one_port of_scalar (input_port 1 (m_ack m.name)) [] (scalar_none (input_port 1 (m_ack m.name)) (λ s. let t = ack_sort m.name in omega (arith, s, t))))
-      (next_element of_scalar e5 [] [] [] (one_port of_scalar (input_port b (m_rdata m.name)) [] (scalar_none (input_port b (m_rdata m.name)) (λ s. let t = rdata_sort m.name in omega (arith, s, t)))) refl))))
+      let e1 = scalar_none (output_port 64 (m_addr m.name)) (λ s. let t = addr_names.sorts m.name in omega (arith, s, t)) in
+      let e2 = scalar_none (output_port b (m_wdata m.name)) (λ s. let t = wdata_names.sorts m.name in omega (arith, s, t)) in
+      let e3 = scalar_none (output_port 1 (m_we m.name)) (λ s. let t = we_names.sorts m.name in omega (arith, s, t)) in
+      let e4 = scalar_none (input_port 1 (m_ack m.name)) (λ s. let t = ack_names.sorts m.name in omega (arith, s, t)) in
+      let e5 = scalar_none (input_port b (m_rdata m.name)) (λ s. let t = rdata_names.sorts m.name in omega (arith, s, t)) in
+      rw (e1, e2, e3, e4, e5) refl
 
   first_scalars : flat_map of_scalar (empty (task_name program.top)).ports ≡ []
   first_scalars =
@@ -164,13 +137,10 @@ module _ (program : Program) (machines : List Fsm) (added : List ℕ) (ready : I
 
   -- ---- what is declared
 
-  abbrev lower : List ModuleTree
-  lower = lower_modules program machines added
-
   in_tree : (e : Element) (d : Declaration) → Has top e → Has (declarations e) d → find_name (declared tree) d.name ≡ d
   in_tree e d h k =
       let fit = tops_are_fitting program machines added ready kept in
-      found (declared tree) d ((table lower (task_name program.top) top fit).has d (stays_new top first_table e d h k)) (all_once lower (task_name program.top) top fit d.name)
+      found (declared tree) d ((table (lower_modules program machines added) (task_name program.top) top fit).has d (stays_new top first_table e d h k)) (all_once (lower_modules program machines added) (task_name program.top) top fit d.name)
 
   port_there : (e : Element) → Has (ports program) e → Has top e
   port_there e h = has_left (ports program ++ wires program ++ doneness program) (instances program added) e (has_left (ports program ++ wires program) (doneness program) e (has_left (ports program) (wires program) e h))
@@ -198,23 +168,17 @@ module _ (program : Program) (machines : List Fsm) (added : List ℕ) (ready : I
   memory_at k None e = refl
   memory_at k (Some m) e =
       let b = bits_of m.kind in
-      let e5 = Input b (m_rdata m.name) in
-      let e4 = Input 1 (m_ack m.name) in
-      let e3 = Outlet 1 (m_we m.name) in
-      let e2 = Outlet b (m_wdata m.name) in
-      let e1 = Outlet 64 (m_addr m.name) in
-      let own : of_memory (input_port 1 (m_ack m.name)) ≡ memory_given m ∷ [] =
+      let e1 = memory_none (output_port 64 (m_addr m.name)) (λ s. let t = addr_names.sorts m.name in omega (arith, s, t)) in
+      let e2 = memory_none (output_port b (m_wdata m.name)) (λ s. let t = wdata_names.sorts m.name in omega (arith, s, t)) in
+      let e3 = memory_none (output_port 1 (m_we m.name)) (λ s. let t = we_names.sorts m.name in omega (arith, s, t)) in
+      let e4 : of_memory (input_port 1 (m_ack m.name)) ≡ memory_given m ∷ [] =
       ap (memory_label (declared tree)) (labels.acks.there m.name (memory_long k m e)) ∙ ap (λ n. record { name = m.name; bits = n } ∷ []) (cell_bits k m e) in
-      next_element of_memory e1 (e2 ∷ e3 ∷ e4 ∷ e5 ∷ []) [] (memory_given m ∷ []) (one_port of_memory (output_port 64 (m_addr m.name)) [] (memory_none (output_port 64 (m_addr m.name)) (λ s. let t = addr_sort m.name in omega (arith, s, t))))
-      (next_element of_memory e2 (e3 ∷ e4 ∷ e5 ∷ []) [] (memory_given m ∷ []) (one_port of_memory (output_port b (m_wdata m.name)) [] (memory_none (output_port b (m_wdata m.name)) (λ s. let t = wdata_sort m.name in omega (arith, s, t))))
-      (next_element of_memory e3 (e4 ∷ e5 ∷ []) [] (memory_given m ∷ []) (one_port of_memory (output_port 1 (m_we m.name)) [] (memory_none (output_port 1 (m_we m.name)) (λ s. let t = we_sort m.name in omega (arith, s, t))))
-      (next_element of_memory e4 (e5 ∷ []) (memory_given m ∷ []) [] (one_port of_memory (input_port 1 (m_ack m.name)) (memory_given m ∷ []) own)
-      (next_element of_memory e5 [] [] [] (one_port of_memory (input_port b (m_rdata m.name)) [] (memory_none (input_port b (m_rdata m.name)) (λ s. let t = rdata_sort m.name in omega (arith, s, t)))) refl))))
+      let e5 = memory_none (input_port b (m_rdata m.name)) (λ s. let t = rdata_names.sorts m.name in omega (arith, s, t)) in
+      rw (e1, e2, e3, e4, e5) refl
 
   no_memory_at : (o : Option Scalar) → flat_map (of_element of_memory) (scalar_port o) ≡ []
   no_memory_at None = refl
-  no_memory_at (Some c) =
-      next_element of_memory (Input (bits_of c.kind) (scalar c.name)) [] [] [] (one_port of_memory (input_port (bits_of c.kind) (scalar c.name)) [] (memory_none (input_port (bits_of c.kind) (scalar c.name)) (λ s. let t = scalar_sort c.name in omega (arith, s, t)))) refl
+  no_memory_at (Some c) = rw (memory_none (input_port (bits_of c.kind) (scalar c.name)) (λ s. let t = scalar_sort c.name in omega (arith, s, t))) refl
 
   first_memories : flat_map of_memory (empty (task_name program.top)).ports ≡ []
   first_memories =
@@ -243,13 +207,7 @@ module _ (program : Program) (machines : List Fsm) (added : List ℕ) (ready : I
   other_lines : (e : Element) → ((y : Name) → Has (declared_names e) y → sort y ≡ 8 → ⊥) → of_lines e ≡ []
   other_lines (Wire w x v) h = ap (λ l. l ++ []) (other_wire w x (h x (inl refl)))
   other_lines (InstanceWire w x) h = ap (λ l. l ++ []) (other_wire w x (h x (inl refl)))
-  other_lines (Input w x) h = refl
-  other_lines (Output w x v) h = refl
-  other_lines (Outlet w x) h = refl
-  other_lines (Register w x) h = refl
-  other_lines (MemoryElement w x n) h = refl
-  other_lines (Block b) h = refl
-  other_lines (InstanceElement k i ls) h = refl
+  other_lines _ h = refl
 
   others : (es : List Element) → ((y : Name) → Has (flat_map declared_names es) y → sort y ≡ 8 → ⊥) → flat_map of_lines es ≡ []
   others es h = flat_none of_lines es (λ e k. other_lines e (λ y i. h y (has_flat declared_names es e y k i)))
@@ -287,10 +245,10 @@ module _ (program : Program) (machines : List Fsm) (added : List ℕ) (ready : I
       ∙ ap (λ b. cond b (stream_given r ∷ []) [] ++ []) (stream_is k r e) in
       next_line (InstanceWire w (s_din r.label)) rest (stream_given r ∷ []) [] own (others rest no_others) where
         no_others : (y : Name) → Has (s_wr r.label ∷ s_rdy r.label ∷ s_has r.label ∷ s_dout r.label ∷ []) y → sort y ≡ 8 → ⊥
-        no_others y (inl f) s = let t = wr_sort r.label in let u = ap sort f in omega (arith, s, t, u)
-        no_others y (inr (inl f)) s = let t = rdy_sort r.label in let u = ap sort f in omega (arith, s, t, u)
-        no_others y (inr (inr (inl f))) s = let t = has_sort r.label in let u = ap sort f in omega (arith, s, t, u)
-        no_others y (inr (inr (inr (inl f)))) s = let t = dout_sort r.label in let u = ap sort f in omega (arith, s, t, u)
+        no_others y (inl f) s = let t = wr_names.sorts r.label in let u = ap sort f in omega (arith, s, t, u)
+        no_others y (inr (inl f)) s = let t = rdy_names.sorts r.label in let u = ap sort f in omega (arith, s, t, u)
+        no_others y (inr (inr (inl f))) s = let t = has_names.sorts r.label in let u = ap sort f in omega (arith, s, t, u)
+        no_others y (inr (inr (inr (inl f)))) s = let t = dout_names.sorts r.label in let u = ap sort f in omega (arith, s, t, u)
         no_others y (inr (inr (inr (inr n)))) s = absurd n
 
   pub streams_are : flat_map of_item tree.items ≡ stream_ports program
@@ -299,15 +257,15 @@ module _ (program : Program) (machines : List Fsm) (added : List ℕ) (ready : I
       let bounds = each (at_instance program (parameters program)) n in
       let ends = each ended_wire n in
       let takes = each (λ s. take_wire (slice_get program.streams.items s)) (length program.streams.items) in
-      let all : flat_map of_lines streams ≡ stream_ports program =
+      let all : flat_map of_lines (streams program) ≡ stream_ports program =
       flat_each of_lines (λ s. stream_wires (slice_get program.streams.items s)) (λ s. gives stream_given (slice_get program.streams.items s)) (length program.streams.items) (λ k l. stream_at k (slice_get program.streams.items k) refl)
       ∙ each_given stream_given program.streams.items in
       let behind : flat_map of_lines (bounds ++ ends ++ takes) ≡ [] =
       others (bounds ++ ends ++ takes) (λ y h s. let t = rest_sorts program ready.told_apart ready.well_formed added ready.countable y h in omega (arith, s, t)) in
       let at_end : flat_map of_lines (doneness program) ≡ [] = others (doneness program) (λ y h s. let t = done_sorts program ready.told_apart ready.well_formed added ready.countable y h in omega (arith, s, t)) in
-      let grouped : wires program ≡ streams ++ (bounds ++ ends ++ takes) = ap (λ l. l ++ takes) (append_assoc streams bounds ends) ∙ append_assoc streams (bounds ++ ends) takes in
+      let grouped : wires program ≡ streams program ++ (bounds ++ ends ++ takes) = ap (λ l. l ++ takes) (append_assoc (streams program) bounds ends) ∙ append_assoc (streams program) (bounds ++ ends) takes in
       let in_wires : flat_map of_lines (wires program) ≡ stream_ports program =
-      ap (λ (l : List Element). flat_map of_lines l) grouped ∙ flat_both of_lines streams (bounds ++ ends ++ takes) (stream_ports program) [] all behind ∙ append-nil (stream_ports program) in
+      ap (λ (l : List Element). flat_map of_lines l) grouped ∙ flat_both of_lines (streams program) (bounds ++ ends ++ takes) (stream_ports program) [] all behind ∙ append-nil (stream_ports program) in
       ap (λ (l : List Item). flat_map of_item l) tree_items ∙ flat_flat of_item element_items top
       ∙ flat_both of_lines (ports program ++ wires program ++ doneness program) (instances program added) (stream_ports program) []
       (flat_both of_lines (ports program ++ wires program) (doneness program) (stream_ports program) []

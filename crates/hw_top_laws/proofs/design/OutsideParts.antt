@@ -10,7 +10,7 @@ use Rattle.vlog_tree.specs.Table.{Name}
 use Rattle.vlog_module_laws.specs.Labelled.{IsLabelOf}
 use Rattle.vlog_module_laws.proofs.Labelled.{labels}
 use Rattle.hw_build.specs.Scope.{each}
-use Rattle.hw_top_laws.proofs.names.Made.{sort, scalar_sort, addr_sort, wdata_sort, we_sort, ack_sort, rdata_sort, din_sort}
+use Rattle.hw_top_laws.proofs.names.Made.{sort, scalar_sort, addr_names, wdata_names, we_names, ack_names, rdata_names, din_names}
 
 -- ---- lists of lists
 
@@ -60,19 +60,19 @@ module _ (y : Name) where
   no_scalar h = no_label _ scalar_of 2 labels.scalars scalar_sort y h
 
   pub no_addr : (sort y ≡ 3 → ⊥) → addr_of y ≡ None
-  no_addr h = no_label _ addr_of 3 labels.addrs addr_sort y h
+  no_addr h = no_label _ addr_of 3 labels.addrs addr_names.sorts y h
 
   pub no_wdata : (sort y ≡ 4 → ⊥) → wdata_of y ≡ None
-  no_wdata h = no_label _ wdata_of 4 labels.wdatas wdata_sort y h
+  no_wdata h = no_label _ wdata_of 4 labels.wdatas wdata_names.sorts y h
 
   pub no_we : (sort y ≡ 5 → ⊥) → we_of y ≡ None
-  no_we h = no_label _ we_of 5 labels.wes we_sort y h
+  no_we h = no_label _ we_of 5 labels.wes we_names.sorts y h
 
   pub no_ack : (sort y ≡ 6 → ⊥) → ack_of y ≡ None
-  no_ack h = no_label _ ack_of 6 labels.acks ack_sort y h
+  no_ack h = no_label _ ack_of 6 labels.acks ack_names.sorts y h
 
   pub no_rdata : (sort y ≡ 7 → ⊥) → rdata_of y ≡ None
-  no_rdata h = no_label _ rdata_of 7 labels.rdatas rdata_sort y h
+  no_rdata h = no_label _ rdata_of 7 labels.rdatas rdata_names.sorts y h
 
   pub no_din : (sort y ≡ 8 → ⊥) → din_of y ≡ None
-  no_din h = no_label _ din_of 8 labels.dins din_sort y h
+  no_din h = no_label _ din_of 8 labels.dins din_names.sorts y h

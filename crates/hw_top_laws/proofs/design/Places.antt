@@ -2,24 +2,25 @@
 use Rattle.std.proofs.Common.{◌≡◌, ℕ, zero, suc, ◌+◌, ◌<◌, ◌≤◌, true, cond, List, [], ◌∷◌, ◌++◌, length, inl, inr, refl, sym, ap, subst, ◌∙◌, arith, append_assoc, ⊎_elim}
 use Rattle.std.specs.Prelude.{bytes_eq}
 use Rattle.std.specs.Cmp.Lexicographic.{bytes_decides}
-use Rattle.std.proofs.lemmas.Bool.{cases_eq}
+use Rattle.std.proofs.lemmas.Bool.{cases_eq, and_from as yes_and}
 use Rattle.vlog_tree.specs.declared.tree.Connection.{Connection}
 use Rattle.vlog_tree.specs.declared.table.Declaration.{Declaration}
 use Rattle.vlog_tree.specs.Form.{ModuleTree}
 use Rattle.tapa_base.specs.Lists.{Has}
 use Rattle.vlog_tree.specs.Table.{Name, clk, times_in, one_if}
 use Rattle.tapa_base.proofs.Lists.{has_left, has_right, has_map}
-use Rattle.vlog_module_laws.proofs.Lists.{both_true, count_cons, counted}
+use Rattle.vlog_module_laws.proofs.Lists.{count_cons, counted}
 use Rattle.hw_build.specs.Elements.{Element}
 use Rattle.hw_build.specs.Fitting.{declarations, first_table, table_after, has_fitting_names, have_fitting_names}
 use Rattle.hw_build.specs.Order.{place_in, place, StandsBefore}
 use Rattle.hw_build.proofs.Appended.{table_append}
-use Rattle.hw_build.proofs.Forms.{yes_and}
 use Rattle.hw_build.proofs.Places.{has_times, place_low, place_some, place_after}
-use Rattle.hw_build.proofs.Tables.{times, same_name, clock_declared, stays, stays_new}
+use Rattle.hw_build.proofs.Tables.{times, clock_declared, stays, stays_new}
 use Rattle.hw_build.specs.Scope.{each, IsNet}
 use Rattle.hw_build.proofs.ListTables.{table, net_declared}
 use Rattle.hw_top_laws.specs.joins.Joins.{joined_ports}
+use Rattle.vlog_module_laws.proofs.Forms.{itself as same_name}
+use Rattle.tapa_base.proofs.Tests.{both_true}
 
 longer : (xs ys : List Declaration) → length ys ≤ length (xs ++ ys)
 longer [] ys = omega arith

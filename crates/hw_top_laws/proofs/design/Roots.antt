@@ -1,12 +1,10 @@
 -- The top is the only module that stands in no other.
-use Rattle.std.proofs.Common.{◌≡◌, ℕ, zero, suc, ◌≤◌, Bool, true, false, cond, eqb, ◌||◌, List, [], ◌∷◌, ◌++◌, length, Some, inl, inr, refl, sym, ap, subst, ◌∙◌, arith, ⊎_elim}
+use Rattle.std.proofs.Common.{◌≡◌, ℕ, zero, suc, ◌≤◌, Bool, true, false, cond, eqb, ◌||◌, List, [], ◌∷◌, ◌++◌, Some, inl, inr, refl, sym, ap, subst, ◌∙◌, arith, ⊎_elim}
 use Rattle.std.specs.Prelude.{◌⊎◌, bytes_eq, filter, slice_get, slice_index}
 use Rattle.std.specs.List.{list_any, flat_map}
 use Rattle.std.proofs.lemmas.Bool.{eqb-true, eq-eqb, ne_eqb}
 use Rattle.tapa_syntax.specs.declared.program.Instance.{Instance}
-use Rattle.tapa_syntax.specs.declared.program.Leaf.{Leaf}
 use Rattle.tapa_syntax.specs.declared.program.Program.{Program}
-use Rattle.tapa_syntax.specs.declared.program.Stream.{Stream}
 use Rattle.task_fsm.specs.declared.machine.Fsm.{Fsm}
 use Rattle.vlog_tree.specs.declared.tree.Connection.{Connection}
 use Rattle.vlog_tree.specs.declared.tree.Item.{Item}
@@ -15,26 +13,26 @@ use Rattle.vlog_tree.specs.Form.{ModuleTree}
 use Rattle.tapa_base.specs.Lists.{Has}
 use Rattle.vlog_tree.specs.Table.{Name, times_in}
 use Rattle.vlog_tree.specs.V6.{item_children, module_children, contained_names, roots}
-use Rattle.tapa_base.proofs.Lists.{has_left, has_right, has_split, has_flat, of_flat}
+use Rattle.tapa_base.proofs.Lists.{has_split, has_flat, of_flat}
 use Rattle.vlog_module_laws.proofs.Lists.{counted}
 use Rattle.hw_build.specs.Elements.{Element, Instance as InstanceElement, element_items, empty}
 use Rattle.hw_build.proofs.Drivers.{times_has}
-use Rattle.hw_build.proofs.Tables.{same_name, items_of_all}
-use Rattle.hw_build.specs.Scope.{each}
-use Rattle.hw_build.proofs.Parts.{has_each}
+use Rattle.hw_build.proofs.Tables.{items_of_all}
 use Rattle.hw_channel_lines.specs.Names.{channel_name}
 use Rattle.hw_lines.specs.Texts.{task_name}
 use Rattle.hw_top_lines.specs.Designs.{design_tree}
 use Rattle.hw_top_lines.specs.Legal.{IsReady}
 use Rattle.hw_top_lines.specs.Names.{task_instance, channel_instance}
-use Rattle.hw_top_lines.specs.Texts.{ports, wires, doneness, token_bits, of_leaf, of_instance, at_instance, task_connections, task_part, channel_connections, channel_part, instances, top_elements, top_tree}
+use Rattle.hw_top_lines.specs.Texts.{token_bits, task_connections, channel_connections, top_elements, top_tree}
 use Rattle.hw_top_laws.specs.modules.Lower.{lower_modules, KeepPromises}
 use Rattle.hw_top_laws.proofs.modules.Channels.{IsOfStream, channel_are}
 use Rattle.hw_top_laws.proofs.modules.Lower.{one_of, no_top}
-use Rattle.hw_top_laws.proofs.modules.Tasks.{IsTask, task_title, some_index}
+use Rattle.hw_top_laws.proofs.modules.Tasks.{IsTask, task_title}
+use Rattle.hw_top_laws.proofs.runs.Elements.{task_there, channel_there}
 use Rattle.hw_top_laws.proofs.design.Chains.{IsNamed, top_title, lower_there, top_there, own_there, lower_child, top_child}
 use Rattle.hw_top_laws.specs.design.Design.{TopsAreRoots}
 use Rattle.hw_top_laws.proofs.design.Contained.{StandsIn, stands_in}
+use Rattle.vlog_module_laws.proofs.Forms.{itself as same_name}
 
 -- ---- lists
 
@@ -63,33 +61,6 @@ module _ (program : Program) (added : List ℕ) where
   abbrev top : List Element
   top = top_elements program added
 
-  abbrev parts : List Element
-  parts = each (at_instance program (task_part program)) (length program.instances.items)
-
-  abbrev channels : List Element
-  channels = each (λ s. channel_part (slice_index added s) (slice_get program.streams.items s)) (length program.streams.items)
-
-  instance_there : (e : Element) → Has (parts ++ channels) e → Has top e
-  instance_there e h = has_right (ports program ++ wires program ++ doneness program) (instances program added) e h
-
-  task_there : (i : ℕ) (x : Instance) (leaf : Leaf) → slice_get program.instances.items i ≡ Some x → slice_get program.bodies.items x.body ≡ Some leaf
-      → Has top (InstanceElement (task_name leaf.name) (task_instance x.label) (task_connections program i x leaf))
-  task_there i x leaf g k =
-      let e = InstanceElement (task_name leaf.name) (task_instance x.label) (task_connections program i x leaf) in
-      let is : at_instance program (task_part program) i ≡ e ∷ [] = ap (of_instance program (task_part program i)) g ∙ ap (of_leaf (task_part program i) x) k in
-      instance_there e
-      (has_left parts channels e
-      (has_each (at_instance program (task_part program)) (length program.instances.items) i e (some_index program.instances.items i x g) (subst (λ (l : List Element). Has l e) (sym is) (inl refl))))
-
-  channel_there : (s : ℕ) (r : Stream) → slice_get program.streams.items s ≡ Some r
-      → Has top (InstanceElement (channel_name (token_bits r.kind) r.depth (slice_index added s)) (channel_instance r.label) (channel_connections r.label))
-  channel_there s r g =
-      let e = InstanceElement (channel_name (token_bits r.kind) r.depth (slice_index added s)) (channel_instance r.label) (channel_connections r.label) in
-      instance_there e
-      (has_right parts channels e
-      (has_each (λ s. channel_part (slice_index added s) (slice_get program.streams.items s)) (length program.streams.items) s e (some_index program.streams.items s r g)
-      (subst (λ o. Has (channel_part (slice_index added s) o) e) (sym g) (inl refl))))
-
   -- the module of an instance stands in the top
   top_has : (k i : Name) (ls : List Connection) → Has top (InstanceElement k i ls) → Has (module_children (top_tree program added)) k
   unfolding module_children
@@ -109,9 +80,6 @@ module _ (program : Program) (machines : List Fsm) (added : List ℕ) (ready : I
   all = design_tree program machines added
 
   -- ---- the modules below the top stand in others
-
-  same_leaf : (a b : Leaf) → Some a ≡ Some b → a ≡ b
-  same_leaf a b e = cc
 
   task_stands : (m : ModuleTree) → IsTask program ready.told_apart machines ready.lowered m → Has (module_children tree) m.name
   task_stands m t =

@@ -10,15 +10,12 @@ use Rattle.task_fsm.specs.declared.machine.Fsm.{Fsm}
 use Rattle.vlog_tree.specs.declared.table.Declaration.{Declaration}
 use Rattle.vlog_tree.specs.Form.{ModuleTree, IsModule}
 use Rattle.tapa_base.specs.Lists.{Has}
-use Rattle.vlog_tree.specs.Labels.{rst, done}
-use Rattle.vlog_tree.specs.Table.{Name, NameUse, clk, port_declared, module_declared, is_doubled_name, first_violation}
-use Rattle.vlog_tree.specs.V6.{roots, first_name, is_top, has_port, top_ports, clock_connections, is_whole_top, module_tops, v6_uses}
+use Rattle.vlog_tree.specs.Table.{Name, NameUse, port_declared, first_violation}
+use Rattle.vlog_tree.specs.V6.{roots, first_name, is_top, top_ports, clock_connections, is_whole_top, module_tops, v6_uses}
 use Rattle.tapa_base.proofs.Lists.{has_split, of_flat}
 use Rattle.vlog_module_laws.specs.Larger.{IsRightBeside}
 use Rattle.vlog_module_laws.proofs.Larger.{front_within, stays_right, sound_of}
-use Rattle.vlog_module_laws.proofs.Lists.{all_right, all_from}
-use Rattle.hw_build.proofs.Forms.{yes_and}
-use Rattle.hw_build.proofs.Tables.{same_name}
+use Rattle.vlog_module_laws.proofs.Lists.{all_right}
 use Rattle.hw_build.specs.Fits.{AreOnce}
 use Rattle.hw_channel_laws.proofs.modules.Together.{single}
 use Rattle.hw_top_laws.specs.joins.Joins.{port_names}
@@ -36,8 +33,10 @@ use Rattle.hw_top_laws.specs.design.Design.{DesignsAreSound, OutsidesAreRight, D
 use Rattle.hw_top_laws.proofs.design.Clocks.{IsKept, top_clocks, lower_clocks}
 use Rattle.hw_top_laws.proofs.design.Fits.{has_clock, has_reset, has_done, top_ports_kept}
 use Rattle.hw_top_laws.proofs.design.Roots.{one_root}
+use Rattle.vlog_module_laws.proofs.Forms.{itself as same_name}
+use Rattle.tapa_base.proofs.Got.{all_from}
 
-last_there : (xs : List ModuleTree) (x : ModuleTree) → slice_get (xs ++ x ∷ []) (length xs) ≡ Some x
+pub last_there : (xs : List ModuleTree) (x : ModuleTree) → slice_get (xs ++ x ∷ []) (length xs) ≡ Some x
 last_there [] x = refl
 last_there (y ∷ xs) x = last_there xs x
 
@@ -53,11 +52,8 @@ module _ (program : Program) (machines : List Fsm) (added : List ℕ) (ready : I
 
   -- ---- names, widths and drivers
 
-  single_name : (m : ModuleTree) → Has all m → is_doubled_name (map module_declared all) m.name ≡ false
-  single_name m h = single all (all_apart program machines added ready kept) m h
-
   right_in_all : (m : ModuleTree) → Has all m → IsRightBeside lower m → IsRightBeside all m
-  right_in_all m h r = stays_right lower all m (front_within lower (tree ∷ [])) r (single_name m h)
+  right_in_all m h r = stays_right lower all m (front_within lower (tree ∷ [])) r (single all (all_apart program machines added ready kept) m h)
 
   right_by : (m : ModuleTree) → Has all m → Has lower m ⊎ Has (tree ∷ []) m → IsRightBeside all m
   right_by m h (inl l) = right_in_all m h (lower_right program machines added ready kept m l)
@@ -101,8 +97,7 @@ module _ (program : Program) (machines : List Fsm) (added : List ℕ) (ready : I
       let r = has_reset program added once (scalar_long program machines added ready kept) (memory_long program machines added ready kept) in
       let d = has_done program added once (scalar_long program machines added ready kept) (memory_long program machines added ready kept) in
       let one : eqb (length (roots all)) 1 ≡ true = ap (λ (l : List ModuleTree). eqb (length l) 1) (one_root program machines added ready kept) in
-      yes_and (eqb (length (roots all)) 1 && has_port table clk && has_port table rst) (has_port table done)
-      (yes_and (eqb (length (roots all)) 1 && has_port table clk) (has_port table rst) (yes_and (eqb (length (roots all)) 1) (has_port table clk) one c) r) d
+      rw (one, c, r, d) refl
 
   lower_kept : (m : ModuleTree) → Has lower m → (u : NameUse) → Has (module_tops all m) u → IsKept u
   unfolding module_tops

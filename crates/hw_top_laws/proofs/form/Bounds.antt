@@ -24,12 +24,12 @@ use Rattle.hw_build.specs.Scope.{each, IsNet, FitInOrder}
 use Rattle.hw_build.specs.Fits.{IsAmong}
 use Rattle.hw_build.proofs.Parts.{has_each, parts_fit, each_part_fits}
 use Rattle.hw_lines.specs.Drivers.{wires_of, last_of, conversion}
-use Rattle.hw_task_laws.proofs.names.Bounds.{got_some}
 use Rattle.hw_task_laws.proofs.fit.Operators.{conversion_driven}
 use Rattle.hw_task_laws.proofs.fit.Scopes.{left_among, right_among, both_among, wire_net, input_net, net_in, kind_wide}
 use Rattle.hw_top_lines.specs.Names.{bound_net}
 use Rattle.hw_top_lines.specs.Bounds.{scalar_kind, scalar_name, parameter_kind, converted_net, kind_before, conversion_step, bound_nets, bound_elements, conversions, bound_by, parameters}
 use Rattle.hw_top_laws.proofs.form.Standing.{scalars, scalar_there}
+use Rattle.tapa_base.proofs.Got.{some_at as got_some}
 
 -- ---- chains of conversions
 

@@ -8,7 +8,7 @@ use Rattle.task_fsm.specs.declared.machine.Fsm.{Fsm}
 use Rattle.vlog_tree.specs.declared.tree.PortDecl.{PortDecl}
 use Rattle.vlog_tree.specs.Form.{ModuleTree}
 use Rattle.tapa_base.specs.Lists.{Has}
-use Rattle.vlog_tree.specs.Labels.{rst}
+use Rattle.vlog_tree.specs.Labels.{rst, s_din, s_wr, s_rdy}
 use Rattle.vlog_tree.specs.Table.{Name, clk, module_named}
 use Rattle.hw_channel_lines.specs.Names.{channel_name}
 use Rattle.hw_channel_laws.specs.modules.Rules.{OfFirst, IsOutermost, outer_ports}
@@ -16,11 +16,12 @@ use Rattle.hw_channel_laws.proofs.modules.Clear.{outermost}
 use Rattle.hw_top_laws.specs.joins.Joins.{IsJoin, ToClock, ToInput, FromOutput, IsJoined}
 use Rattle.hw_top_lines.specs.Channels.{channel_modules}
 use Rattle.hw_top_lines.specs.Legal.{IsReady}
+use Rattle.hw_top_lines.specs.Names.{s_has, s_dout}
 use Rattle.hw_top_lines.specs.Texts.{token_bits, channel_connections}
 use Rattle.hw_top_laws.specs.modules.Lower.{lower_modules, KeepPromises}
 use Rattle.hw_top_laws.proofs.modules.Channels.{channel_are}
 use Rattle.hw_top_laws.proofs.modules.Lower.{channels_found}
-use Rattle.hw_top_laws.proofs.form.Standing.{standing, rdy_open, has_open, dout_open, din_net, wr_net, take_net}
+use Rattle.hw_top_laws.proofs.form.Standing.{standing, link_open, link_net, take_net}
 use Rattle.hw_top_laws.proofs.form.Tasks.{joined, ported}
 
 first_of : (P : ModuleTree → Type 0) (ms : List ModuleTree) → OfFirst P ms → (m : ModuleTree) × Has ms m × P m
@@ -65,16 +66,16 @@ module _ (program : Program) (machines : List Fsm) (added : List ℕ) (ready : I
       (
         ToInput 1 (inr (inl refl)) (inl refl),
         (
-          ToInput bits (inr (inr (inl refl))) (din_net program s r got),
+          ToInput bits (inr (inr (inl refl))) (link_net program s r got bits (s_din r.label) (inl refl)),
           (
-            ToInput 1 (inr (inr (inr (inl refl)))) (wr_net program s r got),
+            ToInput 1 (inr (inr (inr (inl refl)))) (link_net program s r got 1 (s_wr r.label) (inr (inl refl))),
             (
               ToInput 1 (inr (inr (inr (inr (inl refl))))) (take_net program s r got),
               (
-                FromOutput 1 (inr (inr (inr (inr (inr (inl refl)))))) (rdy_open program s r got),
+                FromOutput 1 (inr (inr (inr (inr (inr (inl refl)))))) (link_open program s r got 1 (s_rdy r.label) (inr (inr (inl refl)))),
                 (
-                  FromOutput 1 (inr (inr (inr (inr (inr (inr (inl refl))))))) (has_open program s r got),
-                  (FromOutput bits (inr (inr (inr (inr (inr (inr (inr (inl refl)))))))) (dout_open program s r got), tt),
+                  FromOutput 1 (inr (inr (inr (inr (inr (inr (inl refl))))))) (link_open program s r got 1 (s_has r.label) (inr (inr (inr (inl refl))))),
+                  (FromOutput bits (inr (inr (inr (inr (inr (inr (inr (inl refl)))))))) (link_open program s r got bits (s_dout r.label) (inr (inr (inr (inr (inl refl)))))), tt),
                 ),
               ),
             ),

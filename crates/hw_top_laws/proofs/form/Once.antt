@@ -13,7 +13,6 @@ use Rattle.tapa_syntax.specs.declared.program.Stream.{Stream}
 use Rattle.tapa_syntax.specs.LeafKinds.{writes_of}
 use Rattle.tapa_syntax.specs.WellFormed.{IsEndOf}
 use Rattle.task_fsm.specs.declared.machine.Fsm.{Fsm}
-use Rattle.vlog_tree.specs.Form.{ModuleTree}
 use Rattle.tapa_base.specs.Lists.{Has}
 use Rattle.vlog_tree.specs.Labels.{m_addr, m_wdata, m_we, s_din, s_wr, s_rdy}
 use Rattle.vlog_tree.specs.Names.{goes_on}
@@ -27,18 +26,17 @@ use Rattle.hw_build.proofs.Once.{two_once, parts_once}
 use Rattle.hw_build.proofs.Parts.{of_each}
 use Rattle.hw_channel_lines.specs.Names.{channel_name}
 use Rattle.hw_lines.specs.Texts.{is_written, task_name}
-use Rattle.hw_task_laws.proofs.names.Empty.{GiveNone, both_none}
 use Rattle.hw_task_laws.proofs.names.Named.{single, flat_each}
 use Rattle.hw_top_lines.specs.Names.{s_has, s_dout, s_take, task_instance, channel_instance, ended_net}
 use Rattle.hw_top_lines.specs.Legal.{IsReady}
 use Rattle.hw_top_lines.specs.Texts.{ports, of_leaf, of_instance, at_instance, stream_label, memory_name, token_bits, task_connections, task_part, doneness, channel_connections, channel_part, wires, top_elements}
 use Rattle.hw_top_laws.specs.modules.Lower.{lower_modules, KeepPromises}
-use Rattle.hw_top_laws.proofs.modules.Tasks.{some_index}
-use Rattle.hw_top_laws.proofs.names.Made.{sort, IsMade, same_label, made_addr, made_wdata, made_we, made_din, made_wr, made_rdy, made_has, made_dout, made_take}
+use Rattle.hw_top_laws.proofs.names.Made.{sort, IsMade, same_label, addr_names, wdata_names, we_names, din_names, wr_names, rdy_names, has_names, dout_names, take_names}
 use Rattle.hw_top_laws.proofs.names.Bound.{ended_facts, same_ended}
-use Rattle.hw_top_laws.proofs.names.Top.{got_map, memories_apart, memory_written, stream_written}
-use Rattle.hw_top_laws.proofs.form.Drives.{ports_none, wires_none, done_none, stream_drives, memory_drives, task_drives, channel_drives, task_driven, channel_driven}
+use Rattle.hw_top_laws.proofs.names.Top.{memories_apart, memory_written, stream_written}
+use Rattle.hw_top_laws.proofs.form.Drives.{standing_none, stream_drives, memory_drives, task_drives, channel_drives, task_driven, channel_driven}
 use Rattle.hw_top_laws.proofs.form.Tasks.{IsPart, part_at, HasStream, stream_at, HasMemory, memory_at}
+use Rattle.tapa_base.proofs.Got.{got_low as some_index, got_map}
 
 -- ---- names of different sorts
 
@@ -81,16 +79,9 @@ same_end i j false r a b = sym a ∙ b
 got_same : {A : Type 0} (xs : List A) (i j : ℕ) (a b : A) → i ≡ j → slice_get xs i ≡ Some a → slice_get xs j ≡ Some b → a ≡ b
 got_same xs i j a b e g h = let s : Some a ≡ Some b = sym g ∙ ap (slice_get xs) e ∙ h in cc
 
-pub way_of : (o : Option End) (b : Bool) → option_map (λ (e : End). e.writes) o ≡ Some b → is_written o ≡ b
-way_of None b e = cc
-way_of (Some e) b f = cc
-
 module _ (program : Program) (machines : List Fsm) (added : List ℕ) (ready : IsReady program machines added) (kept : KeepPromises program machines) where
-  abbrev lower : List ModuleTree
-  lower = lower_modules program machines added
-
   abbrev drives : Element → List Name
-  drives e = instance_driven lower e
+  drives e = instance_driven (lower_modules program machines added) e
 
   -- ---- who drives a net
 
@@ -172,16 +163,16 @@ module _ (program : Program) (machines : List Fsm) (added : List ℕ) (ready : I
       few : (sort_is ≡ 8) ⊎ ((sort_is ≡ 9) ⊎ (sort_is ≡ 15))
 
     wire_of : (p : ℕ) → p < length leaf.streams.items → (b : Bool) → is_written (slice_get leaf.streams.items p) ≡ b → (y : Name) → Has (cond b (s_wr (label p) ∷ s_din (label p) ∷ []) (s_take (label p) ∷ [])) y → IsWire p y
-    wire_of p l true e y (inl f) = subst (IsWire p) f (record { within = l; sort_is = 9; made = made_wr (label p) (label_written p l); goes = e; few = inr (inl refl) })
-    wire_of p l true e y (inr (inl f)) = subst (IsWire p) f (record { within = l; sort_is = 8; made = made_din (label p) (label_written p l); goes = e; few = inl refl })
+    wire_of p l true e y (inl f) = subst (IsWire p) f (record { within = l; sort_is = 9; made = wr_names.made (label p) (label_written p l); goes = e; few = inr (inl refl) })
+    wire_of p l true e y (inr (inl f)) = subst (IsWire p) f (record { within = l; sort_is = 8; made = din_names.made (label p) (label_written p l); goes = e; few = inl refl })
     wire_of p l true e y (inr (inr n)) = absurd n
-    wire_of p l false e y (inl f) = subst (IsWire p) f (record { within = l; sort_is = 15; made = made_take (label p) (label_written p l); goes = e; few = inr (inr refl) })
+    wire_of p l false e y (inl f) = subst (IsWire p) f (record { within = l; sort_is = 15; made = take_names.made (label p) (label_written p l); goes = e; few = inr (inr refl) })
     wire_of p l false e y (inr n) = absurd n
 
     wires_once : (p : ℕ) → p < length leaf.streams.items → (b : Bool) → AreOnce (cond b (s_wr (label p) ∷ s_din (label p) ∷ []) (s_take (label p) ∷ []))
     wires_once p l true =
         let w = label_written p l in
-        pair_once (s_wr (label p)) (s_din (label p)) (other_sort (s_wr (label p)) (s_din (label p)) 9 8 (made_wr (label p) w).sorted (made_din (label p) w).sorted (λ e. omega arith))
+        pair_once (s_wr (label p)) (s_din (label p)) (other_sort (s_wr (label p)) (s_din (label p)) 9 8 (wr_names.made (label p) w).sorted (din_names.made (label p) w).sorted (λ e. omega arith))
     wires_once p l false = single (s_take (label p))
 
     writes_is : (p : ℕ) (s : HasStream program machines added ready kept i x leaf part p) → writes_of leaf.streams.items p ≡ Some s.end.writes
@@ -213,17 +204,17 @@ module _ (program : Program) (machines : List Fsm) (added : List ℕ) (ready : I
       few : sort_is < 8
 
     asked_of : (p : ℕ) → p < length leaf.memories.items → (y : Name) → Has (memory_drives program x p) y → IsAsked p y
-    asked_of p l y (inl f) = subst (IsAsked p) f (record { within = l; sort_is = 3; made = made_addr (title p) (title_written p l); few = omega arith })
-    asked_of p l y (inr (inl f)) = subst (IsAsked p) f (record { within = l; sort_is = 4; made = made_wdata (title p) (title_written p l); few = omega arith })
-    asked_of p l y (inr (inr (inl f))) = subst (IsAsked p) f (record { within = l; sort_is = 5; made = made_we (title p) (title_written p l); few = omega arith })
+    asked_of p l y (inl f) = subst (IsAsked p) f (record { within = l; sort_is = 3; made = addr_names.made (title p) (title_written p l); few = omega arith })
+    asked_of p l y (inr (inl f)) = subst (IsAsked p) f (record { within = l; sort_is = 4; made = wdata_names.made (title p) (title_written p l); few = omega arith })
+    asked_of p l y (inr (inr (inl f))) = subst (IsAsked p) f (record { within = l; sort_is = 5; made = we_names.made (title p) (title_written p l); few = omega arith })
     asked_of p l y (inr (inr (inr n))) = absurd n
 
     asked_once : (p : ℕ) → p < length leaf.memories.items → AreOnce (memory_drives program x p)
     asked_once p l =
         let w = title_written p l in
-        let a = (made_addr (title p) w).sorted in
-        let d = (made_wdata (title p) w).sorted in
-        let e = (made_we (title p) w).sorted in
+        let a = (addr_names.made (title p) w).sorted in
+        let d = (wdata_names.made (title p) w).sorted in
+        let e = (we_names.made (title p) w).sorted in
         triple_once (m_addr (title p)) (m_wdata (title p)) (m_we (title p)) (other_sort _ _ 3 4 a d (λ s. omega arith)) (other_sort _ _ 3 5 a e (λ s. omega arith)) (other_sort _ _ 4 5 d e (λ s. omega arith))
 
     told_memory : (p q : ℕ) (y : Name) → IsAsked p y → IsAsked q y → p ≡ q
@@ -319,13 +310,13 @@ module _ (program : Program) (machines : List Fsm) (added : List ℕ) (ready : I
     w = stream_written program ready.told_apart s r g
 
     a : IsMade (codes "s_") 10 r.label (s_rdy r.label)
-    a = made_rdy r.label w
+    a = rdy_names.made r.label w
 
     b : IsMade (codes "s_") 11 r.label (s_has r.label)
-    b = made_has r.label w
+    b = has_names.made r.label w
 
     c : IsMade (codes "s_") 12 r.label (s_dout r.label)
-    c = made_dout r.label w
+    c = dout_names.made r.label w
 
     of : (y : Name) → Has (channel_drives r) y → IsAnswer program s y
     of y (inl e) = subst (IsAnswer program s) e (Answered 10 r g a (omega arith) (omega arith))
@@ -373,9 +364,7 @@ module _ (program : Program) (machines : List Fsm) (added : List ℕ) (ready : I
   pub top_drives : flat_map drives (top_elements program added) ≡ flat_map drives tasks ++ flat_map drives channels
   top_drives =
       let front = ports program ++ wires program ++ doneness program in
-      let none : GiveNone drives front =
-      both_none drives (ports program ++ wires program) (doneness program)
-      (both_none drives (ports program) (wires program) (ports_none drives (λ w x. refl) (λ w x. refl) program) (wires_none drives (λ w x v. refl) (λ w x. refl) program)) (done_none drives (λ w x v. refl) program (λ v. refl)) in
+      let none = standing_none drives program (λ w x v. refl) (λ w x. refl) (λ v. refl) (λ w x. refl) (λ w x. refl) in
       flat_map-append drives front (tasks ++ channels) ∙ ap (λ l. l ++ flat_map drives (tasks ++ channels)) none ∙ flat_map-append drives tasks channels
 
   pub driven_once : AreOnce (flat_map drives (top_elements program added))

@@ -9,11 +9,9 @@ use Rattle.tapa_syntax.specs.declared.program.Instance.{Instance}
 use Rattle.tapa_syntax.specs.declared.program.Leaf.{Leaf}
 use Rattle.tapa_syntax.specs.declared.program.Memory.{Memory}
 use Rattle.tapa_syntax.specs.declared.program.Program.{Program}
-use Rattle.tapa_syntax.specs.declared.program.Scalar.{Scalar}
 use Rattle.tapa_syntax.specs.declared.program.Stream.{Stream}
 use Rattle.tapa_syntax.specs.WellFormed.{IsJoined as IsStreamEnd}
 use Rattle.task_fsm.specs.declared.machine.Fsm.{Fsm}
-use Rattle.vlog_tree.specs.Form.{ModuleTree}
 use Rattle.tapa_base.specs.Lists.{Has}
 use Rattle.vlog_tree.specs.Labels.{m_addr, m_wdata, m_we, s_din, s_wr, s_rdy}
 use Rattle.vlog_tree.specs.Table.{Name}
@@ -21,59 +19,41 @@ use Rattle.tapa_base.proofs.Lists.{has_left, has_right, has_split, has_flat}
 use Rattle.hw_build.specs.Elements.{Element, Instance as InstanceElement}
 use Rattle.hw_build.specs.Fitting.{link_names, instance_driven}
 use Rattle.hw_build.specs.Scope.{each}
-use Rattle.hw_build.proofs.Parts.{has_each, of_each}
+use Rattle.hw_build.proofs.Parts.{has_each}
 use Rattle.hw_channel_lines.specs.Names.{channel_name}
 use Rattle.hw_lines.specs.Texts.{is_written, task_name}
-use Rattle.hw_task_laws.proofs.names.Bounds.{got_some}
-use Rattle.hw_task_laws.proofs.names.Empty.{GiveNone, each_none}
-use Rattle.hw_task_laws.proofs.names.Named.{flat_each}
-use Rattle.hw_top_lines.specs.Names.{s_has, s_dout, s_take, task_instance, channel_instance, ended_net}
+use Rattle.hw_task_laws.proofs.names.Empty.{GiveNone}
+use Rattle.hw_top_lines.specs.Names.{s_has, s_dout, s_take, task_instance, channel_instance}
 use Rattle.hw_top_lines.specs.Bounds.{parameters}
 use Rattle.hw_top_lines.specs.Legal.{IsReady}
-use Rattle.hw_top_lines.specs.Texts.{scalar_port, memory_ports, ports, stream_wires, take_wire, of_leaf, of_instance, at_instance, stream_label, memory_name, token_bits, task_connections, task_part, ended_wire, doneness, channel_connections, channel_part, wires, instances, top_elements}
+use Rattle.hw_top_lines.specs.Texts.{take_wire, at_instance, stream_label, memory_name, token_bits, task_connections, ended_wire, doneness, channel_connections, instances, top_elements}
 use Rattle.hw_top_laws.specs.modules.Lower.{lower_modules, KeepPromises}
-use Rattle.hw_top_laws.proofs.modules.Tasks.{some_index}
 use Rattle.hw_top_laws.proofs.form.Drives.{bounds_none, done_none, instances_none, stream_drives, memory_drives, task_drives, channel_drives, task_driven, channel_driven}
-use Rattle.hw_top_laws.proofs.form.Once.{way_of}
+use Rattle.hw_top_laws.proofs.form.PartByPart.{ports_by, wires_by, top_by}
+use Rattle.hw_top_laws.proofs.runs.Elements.{task_there, channel_there}
 use Rattle.hw_top_laws.proofs.form.Tasks.{part_at}
+use Rattle.hw_task_laws.proofs.steps.Allowed.{side_is as way_of}
+use Rattle.tapa_base.proofs.Got.{got_low as some_index, some_at as got_some}
 
 module _ (program : Program) (machines : List Fsm) (added : List ℕ) (ready : IsReady program machines added) (kept : KeepPromises program machines) where
-  abbrev lower : List ModuleTree
-  lower = lower_modules program machines added
-
   abbrev drives : Element → List Name
-  drives e = instance_driven lower e
-
-  abbrev tasks : List Element
-  tasks = each (at_instance program (task_part program)) (length program.instances.items)
-
-  abbrev channels : List Element
-  channels = each (λ s. channel_part (slice_index added s) (slice_get program.streams.items s)) (length program.streams.items)
+  drives e = instance_driven (lower_modules program machines added) e
 
   abbrev Reached : Name → Type 0
   Reached y = Has (flat_map drives (top_elements program added)) y
-
-  instance_there : (e : Element) → Has (tasks ++ channels) e → Has (top_elements program added) e
-  instance_there e h =
-      has_right (ports program ++ wires program ++ doneness program) (instances program added) e h
 
   -- what an instance of a task drives
   by_task : (i : ℕ) (x : Instance) (leaf : Leaf) → slice_get program.instances.items i ≡ Some x → slice_get program.bodies.items x.body ≡ Some leaf → (y : Name) → Has (task_drives program i x leaf) y → Reached y
   by_task i x leaf g k y h =
       let e = InstanceElement (task_name leaf.name) (task_instance x.label) (task_connections program i x leaf) in
-      let is : at_instance program (task_part program) i ≡ e ∷ [] = ap (of_instance program (task_part program i)) g ∙ ap (of_leaf (task_part program i) x) k in
-      let there : Has tasks e = has_each (at_instance program (task_part program)) (length program.instances.items) i e (some_index program.instances.items i x g) (subst (λ (l : List Element). Has l e) (sym is) (inl refl)) in
-      has_flat drives (top_elements program added) e y (instance_there e (has_left tasks channels e there))
+      has_flat drives (top_elements program added) e y (task_there program added i x leaf g k)
       (subst (λ (l : List Name). Has l y) (sym (task_driven program machines added ready kept i x leaf (part_at program machines added ready kept i x leaf g k) (task_instance x.label))) h)
 
   -- and what a channel drives
   by_channel : (s : ℕ) (r : Stream) → slice_get program.streams.items s ≡ Some r → (y : Name) → Has (channel_drives r) y → Reached y
   by_channel s r g y h =
       let e = InstanceElement (channel_name (token_bits r.kind) r.depth (slice_index added s)) (channel_instance r.label) (channel_connections r.label) in
-      let there : Has channels e =
-      has_each (λ s. channel_part (slice_index added s) (slice_get program.streams.items s)) (length program.streams.items) s e (some_index program.streams.items s r g)
-      (subst (λ o. Has (channel_part (slice_index added s) o) e) (sym g) (inl refl)) in
-      has_flat drives (top_elements program added) e y (instance_there e (has_right tasks channels e there)) (subst (λ (l : List Name). Has l y) (sym (channel_driven program machines added ready kept s r g (channel_instance r.label))) h)
+      has_flat drives (top_elements program added) e y (channel_there program added s r g) (subst (λ (l : List Name). Has l y) (sym (channel_driven program machines added ready kept s r g (channel_instance r.label))) h)
 
   -- ---- memories
 
@@ -126,41 +106,22 @@ module _ (program : Program) (machines : List Fsm) (added : List ℕ) (ready : I
   stream_reached s r g y (inr (inr (inr (inr (inl e))))) = by_channel s r g y (inr (inr (inl e)))
   stream_reached s r g y (inr (inr (inr (inr (inr n))))) = absurd n
 
-  take_reached : (s : ℕ) (r : Stream) → slice_get program.streams.items s ≡ Some r → (y : Name) → s_take r.label ≡ y → Reached y
-  take_reached s r g y e = end_reached r.consumer s r false g (ready.well_formed.streams s r g).read y (inl e)
-
-  ended_reached : (i : ℕ) → i < length program.instances.items → (y : Name) → ended_net i ≡ y → Reached y
-  ended_reached i l y e =
-      let x = got_some program.instances.items i l in
-      let r = ready.well_formed.instances i x.0 x.1 in
-      by_task i x.0 r.0 x.1 r.1.body y (inl e)
-
   -- ---- all links
-
-  memory_links : (m : ℕ) (o : Option Memory) → slice_get program.memories.items m ≡ o → (y : Name) → Has (flat_map link_names (memory_ports o)) y → Reached y
-  memory_links m None e y h = absurd h
-  memory_links m (Some r) e y h = memory_reached m r e y h
-
-  stream_links : (s : ℕ) (o : Option Stream) → slice_get program.streams.items s ≡ o → (y : Name) → Has (flat_map link_names (stream_wires o)) y → Reached y
-  stream_links s None e y h = absurd h
-  stream_links s (Some r) e y h = stream_reached s r e y h
-
-  take_links : (s : ℕ) (o : Option Stream) → slice_get program.streams.items s ≡ o → (y : Name) → Has (flat_map link_names (take_wire o)) y → Reached y
-  take_links s None e y h = absurd h
-  take_links s (Some r) e y (inl f) = take_reached s r e y f
-  take_links s (Some r) e y (inr n) = absurd n
-
-  ended_links : (i : ℕ) → i < length program.instances.items → (y : Name) → Has (flat_map link_names (ended_wire i)) y → Reached y
-  ended_links i l y (inl e) = ended_reached i l y e
-  ended_links i l y (inr n) = absurd n
-
-  scalar_none : (o : Option Scalar) → GiveNone link_names (scalar_port o)
-  scalar_none None = refl
-  scalar_none (Some c) = refl
 
   -- a part of the elements, by the links that it has
   abbrev Reach : List Element → Type 0
   Reach es = (y : Name) → Has (flat_map link_names es) y → Reached y
+
+  take_reached : (s : ℕ) (r : Stream) → slice_get program.streams.items s ≡ Some r → Reach (take_wire (Some r))
+  take_reached s r g y (inl e) = end_reached r.consumer s r false g (ready.well_formed.streams s r g).read y (inl e)
+  take_reached s r g y (inr n) = absurd n
+
+  ended_reached : (i : ℕ) → i < length program.instances.items → Reach (ended_wire i)
+  ended_reached i l y (inl e) =
+      let x = got_some program.instances.items i l in
+      let r = ready.well_formed.instances i x.0 x.1 in
+      by_task i x.0 r.0 x.1 r.1.body y (inl e)
+  ended_reached i l y (inr n) = absurd n
 
   reach_none : (es : List Element) → GiveNone link_names es → Reach es
   reach_none es e y h = absurd (subst (λ (l : List Name). Has l y) e h)
@@ -169,30 +130,11 @@ module _ (program : Program) (machines : List Fsm) (added : List ℕ) (ready : I
   reach_both xs ys f g y h =
       ⊎_elim (λ l. f y l) (λ r. g y r) (has_split (flat_map link_names xs) (flat_map link_names ys) y (subst (λ (l : List Name). Has l y) (flat_map-append link_names xs ys) h))
 
-  reach_each : (f : ℕ → List Element) (n : ℕ) → ((k : ℕ) → k < n → Reach (f k)) → Reach (each f n)
-  reach_each f n h y k =
-      let r = of_each (λ k. flat_map link_names (f k)) n y (subst (λ (l : List Name). Has l y) (flat_each link_names f n) k) in
-      h r.0 r.1 y r.2
-
   pub all_reached : Reach (top_elements program added)
   all_reached =
-      let n = length program.instances.items in
-      let scalars = each (λ x. scalar_port (slice_get program.scalars.items x)) (length program.scalars.items) in
-      let memories = each (λ m. memory_ports (slice_get program.memories.items m)) (length program.memories.items) in
-      let streams = each (λ s. stream_wires (slice_get program.streams.items s)) (length program.streams.items) in
-      let bounds = each (at_instance program (parameters program)) n in
-      let ends = each ended_wire n in
-      let takes = each (λ s. take_wire (slice_get program.streams.items s)) (length program.streams.items) in
-      reach_both (ports program ++ wires program ++ doneness program) (instances program added)
-      (reach_both (ports program ++ wires program) (doneness program)
-      (reach_both (ports program) (wires program)
-      (reach_both scalars memories
-      (reach_none scalars (each_none link_names (λ x. scalar_port (slice_get program.scalars.items x)) (length program.scalars.items) (λ x. scalar_none (slice_get program.scalars.items x))))
-      (reach_each (λ m. memory_ports (slice_get program.memories.items m)) (length program.memories.items) (λ m l. memory_links m (slice_get program.memories.items m) refl)))
-      (reach_both (streams ++ bounds ++ ends) takes
-      (reach_both (streams ++ bounds) ends
-      (reach_both streams bounds (reach_each (λ s. stream_wires (slice_get program.streams.items s)) (length program.streams.items) (λ s l. stream_links s (slice_get program.streams.items s) refl))
-      (reach_none bounds (bounds_none link_names (λ w x v. refl) program n))) (reach_each ended_wire n (λ i l. ended_links i l)))
-      (reach_each (λ s. take_wire (slice_get program.streams.items s)) (length program.streams.items) (λ s l. take_links s (slice_get program.streams.items s) refl))))
-      (reach_none (doneness program) (done_none link_names (λ w x v. refl) program (λ v. refl))))
+      let none : Reach [] = λ y h. absurd h in
+      top_by Reach none reach_both program added (ports_by Reach none reach_both program (λ k c e y h. absurd h) memory_reached)
+      (wires_by Reach none reach_both program stream_reached
+      (reach_none (each (at_instance program (parameters program)) (length program.instances.items)) (bounds_none link_names (λ w x v. refl) program)) ended_reached take_reached)
+      (reach_none (doneness program) (done_none link_names (λ w x v. refl) program (λ v. refl)))
       (reach_none (instances program added) (instances_none link_names (λ k i ls. refl) program added))

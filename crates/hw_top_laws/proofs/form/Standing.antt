@@ -1,5 +1,5 @@
 -- What stands before the instances of the top: its ports, its wires, and when all is done.
-use Rattle.std.proofs.Common.{◌≡◌, ℕ, ◌<◌, List, ◌++◌, length, Some, inl, inr, refl, sym, ap, subst, ◌∙◌, ⊎_elim}
+use Rattle.std.proofs.Common.{◌≡◌, ℕ, ◌<◌, List, ◌++◌, length, Some, inl, refl, sym, ap, subst, ◌∙◌, ⊎_elim}
 use Rattle.std.specs.Prelude.{slice_get}
 use Rattle.tapa_base.specs.Kinds.{bits_of}
 use Rattle.tapa_syntax.specs.declared.program.Instance.{Instance}
@@ -9,7 +9,7 @@ use Rattle.tapa_syntax.specs.declared.program.Program.{Program}
 use Rattle.tapa_syntax.specs.declared.program.Scalar.{Scalar}
 use Rattle.tapa_syntax.specs.declared.program.Stream.{Stream}
 use Rattle.tapa_base.specs.Lists.{Has}
-use Rattle.vlog_tree.specs.Labels.{m_ack, m_rdata, m_addr, m_wdata, m_we, s_din, s_wr, s_rdy, scalar}
+use Rattle.vlog_tree.specs.Labels.{scalar}
 use Rattle.vlog_tree.specs.Table.{Name}
 use Rattle.tapa_base.proofs.Lists.{has_left, has_right, has_split, has_flat}
 use Rattle.hw_build.specs.Elements.{Element, Input, Outlet, InstanceWire}
@@ -18,10 +18,10 @@ use Rattle.hw_build.specs.Fits.{IsAmong}
 use Rattle.hw_build.proofs.Parts.{has_each}
 use Rattle.hw_task_laws.proofs.fit.Scopes.{net_of}
 use Rattle.hw_top_laws.specs.joins.Joins.{open_nets, IsOpen}
-use Rattle.hw_top_lines.specs.Names.{s_has, s_dout, s_take, ended_net}
+use Rattle.hw_top_lines.specs.Names.{s_take, ended_net}
 use Rattle.hw_top_lines.specs.Bounds.{parameters}
-use Rattle.hw_top_lines.specs.Texts.{scalar_port, memory_ports, ports, token_bits, stream_wires, take_wire, of_leaf, of_instance, at_instance, ended_wire, doneness, wires}
-use Rattle.hw_top_laws.proofs.modules.Tasks.{some_index}
+use Rattle.hw_top_lines.specs.Texts.{scalar_port, memory_ports, ports, stream_wires, take_wire, of_leaf, of_instance, at_instance, ended_wire, doneness, wires}
+use Rattle.tapa_base.proofs.Got.{got_low as some_index}
 
 -- a link or an outlet among elements is an open net
 pub open_of : (before : List Element) (e : Element) (x : Name) (w : ℕ) → Has before e → Has {N = Name × ℕ} (open_nets e) (x, w) → IsOpen before x w
@@ -101,7 +101,7 @@ module _ (program : Program) where
       let e = InstanceWire 1 (ended_net i) in
       has_left (streams ++ bounds ++ ends) takes e (has_right (streams ++ bounds) ends e (has_each ended_wire (length program.instances.items) i e l (inl refl)))
 
-  at_is : (f : ℕ → Instance → Leaf → List Element) (i : ℕ) (x : Instance) (leaf : Leaf) → slice_get program.instances.items i ≡ Some x → slice_get program.bodies.items x.body ≡ Some leaf → at_instance program f i ≡ f i x leaf
+  pub at_is : (f : ℕ → Instance → Leaf → List Element) (i : ℕ) (x : Instance) (leaf : Leaf) → slice_get program.instances.items i ≡ Some x → slice_get program.bodies.items x.body ≡ Some leaf → at_instance program f i ≡ f i x leaf
   at_is f i x leaf g k = ap (of_instance program (f i)) g ∙ ap (of_leaf (f i) x) k
 
   pub parameters_front : (i : ℕ) (x : Instance) (leaf : Leaf) → slice_get program.instances.items i ≡ Some x → slice_get program.bodies.items x.body ≡ Some leaf → IsAmong (parameters program i x leaf) front
@@ -114,69 +114,27 @@ module _ (program : Program) where
   -- ---- the nets
 
   module _ (s : ℕ) (r : Stream) (g : slice_get program.streams.items s ≡ Some r) where
-    at_stream : (e : Element) → Has (stream_wires (Some r)) e → Has standing e
-    at_stream e h = wires_among e (stream_there s r g e h)
+    pub link_open : (w : ℕ) (x : Name) → Has (stream_wires (Some r)) (InstanceWire w x) → IsOpen standing x w
+    link_open w x h = open_of standing (InstanceWire w x) x w (wires_among _ (stream_there s r g _ h)) (inl refl)
 
-    at_front : (e : Element) → Has (stream_wires (Some r)) e → Has front e
-    at_front e h = stream_front s r g e h
+    pub link_net : (w : ℕ) (x : Name) → Has (stream_wires (Some r)) (InstanceWire w x) → IsNet standing x w
+    link_net w x h = net_of standing (InstanceWire w x) x w (wires_among _ (stream_there s r g _ h)) (inl refl)
 
-    pub din_open : IsOpen standing (s_din r.label) (token_bits r.kind)
-    din_open = open_of standing (InstanceWire (token_bits r.kind) (s_din r.label)) (s_din r.label) (token_bits r.kind) (at_stream _ (inl refl)) (inl refl)
-
-    pub wr_open : IsOpen standing (s_wr r.label) 1
-    wr_open = open_of standing (InstanceWire 1 (s_wr r.label)) (s_wr r.label) 1 (at_stream _ (inr (inl refl))) (inl refl)
-
-    pub rdy_open : IsOpen standing (s_rdy r.label) 1
-    rdy_open = open_of standing (InstanceWire 1 (s_rdy r.label)) (s_rdy r.label) 1 (at_stream _ (inr (inr (inl refl)))) (inl refl)
-
-    pub has_open : IsOpen standing (s_has r.label) 1
-    has_open = open_of standing (InstanceWire 1 (s_has r.label)) (s_has r.label) 1 (at_stream _ (inr (inr (inr (inl refl))))) (inl refl)
-
-    pub dout_open : IsOpen standing (s_dout r.label) (token_bits r.kind)
-    dout_open = open_of standing (InstanceWire (token_bits r.kind) (s_dout r.label)) (s_dout r.label) (token_bits r.kind) (at_stream _ (inr (inr (inr (inr (inl refl)))))) (inl refl)
+    pub link_front : (w : ℕ) (x : Name) → Has (stream_wires (Some r)) (InstanceWire w x) → IsNet front x w
+    link_front w x h = net_of front (InstanceWire w x) x w (stream_front s r g _ h) (inl refl)
 
     pub take_open : IsOpen standing (s_take r.label) 1
     take_open = open_of standing (InstanceWire 1 (s_take r.label)) (s_take r.label) 1 (wires_among _ (take_there s r g)) (inl refl)
-
-    pub din_net : IsNet standing (s_din r.label) (token_bits r.kind)
-    din_net = net_of standing (InstanceWire (token_bits r.kind) (s_din r.label)) (s_din r.label) (token_bits r.kind) (at_stream _ (inl refl)) (inl refl)
-
-    pub wr_net : IsNet standing (s_wr r.label) 1
-    wr_net = net_of standing (InstanceWire 1 (s_wr r.label)) (s_wr r.label) 1 (at_stream _ (inr (inl refl))) (inl refl)
-
-    pub rdy_net : IsNet front (s_rdy r.label) 1
-    rdy_net = net_of front (InstanceWire 1 (s_rdy r.label)) (s_rdy r.label) 1 (at_front _ (inr (inr (inl refl)))) (inl refl)
-
-    pub has_net : IsNet front (s_has r.label) 1
-    has_net = net_of front (InstanceWire 1 (s_has r.label)) (s_has r.label) 1 (at_front _ (inr (inr (inr (inl refl))))) (inl refl)
-
-    pub dout_net : IsNet front (s_dout r.label) (token_bits r.kind)
-    dout_net = net_of front (InstanceWire (token_bits r.kind) (s_dout r.label)) (s_dout r.label) (token_bits r.kind) (at_front _ (inr (inr (inr (inr (inl refl)))))) (inl refl)
 
     pub take_net : IsNet standing (s_take r.label) 1
     take_net = net_of standing (InstanceWire 1 (s_take r.label)) (s_take r.label) 1 (wires_among _ (take_there s r g)) (inl refl)
 
   module _ (m : ℕ) (r : Memory) (g : slice_get program.memories.items m ≡ Some r) where
-    at_memory : (e : Element) → Has (memory_ports (Some r)) e → Has standing e
-    at_memory e h = ports_among e (memory_there m r g e h)
+    pub outlet_open : (w : ℕ) (x : Name) → Has (memory_ports (Some r)) (Outlet w x) → IsOpen standing x w
+    outlet_open w x h = open_of standing (Outlet w x) x w (ports_among _ (memory_there m r g _ h)) (inl refl)
 
-    memory_front : (e : Element) → Has (memory_ports (Some r)) e → Has front e
-    memory_front e h = has_left (ports program) (streams ++ bounds ++ ends) e (memory_there m r g e h)
-
-    pub addr_open : IsOpen standing (m_addr r.name) 64
-    addr_open = open_of standing (Outlet 64 (m_addr r.name)) (m_addr r.name) 64 (at_memory _ (inl refl)) (inl refl)
-
-    pub wdata_open : IsOpen standing (m_wdata r.name) (bits_of r.kind)
-    wdata_open = open_of standing (Outlet (bits_of r.kind) (m_wdata r.name)) (m_wdata r.name) (bits_of r.kind) (at_memory _ (inr (inl refl))) (inl refl)
-
-    pub we_open : IsOpen standing (m_we r.name) 1
-    we_open = open_of standing (Outlet 1 (m_we r.name)) (m_we r.name) 1 (at_memory _ (inr (inr (inl refl)))) (inl refl)
-
-    pub ack_net : IsNet front (m_ack r.name) 1
-    ack_net = net_of front (Input 1 (m_ack r.name)) (m_ack r.name) 1 (memory_front _ (inr (inr (inr (inl refl))))) (inl refl)
-
-    pub rdata_net : IsNet front (m_rdata r.name) (bits_of r.kind)
-    rdata_net = net_of front (Input (bits_of r.kind) (m_rdata r.name)) (m_rdata r.name) (bits_of r.kind) (memory_front _ (inr (inr (inr (inr (inl refl)))))) (inl refl)
+    pub answer_net : (w : ℕ) (x : Name) → Has (memory_ports (Some r)) (Input w x) → IsNet front x w
+    answer_net w x h = net_of front (Input w x) x w (has_left (ports program) (streams ++ bounds ++ ends) _ (memory_there m r g _ h)) (inl refl)
 
   pub ended_open : (i : ℕ) → i < length program.instances.items → IsOpen standing (ended_net i) 1
   ended_open i l = open_of standing (InstanceWire 1 (ended_net i)) (ended_net i) 1 (wires_among _ (ended_there i l)) (inl refl)

@@ -15,7 +15,6 @@ use Rattle.tapa_syntax.specs.declared.program.Memory.{Memory}
 use Rattle.tapa_syntax.specs.declared.program.Program.{Program}
 use Rattle.tapa_syntax.specs.declared.program.Stream.{Stream}
 use Rattle.tapa_syntax.specs.WellFormed.{IsLeaf, IsInstance, IsStreamAt, IsMemoryAt}
-use Rattle.kahn_model.specs.Prefix.{IsPrefixOf}
 use Rattle.task_fsm.specs.declared.machine.Fsm.{Fsm}
 use Rattle.task_fsm.specs.Lowered.{IsLowered}
 use Rattle.vlog_tree.specs.declared.tree.Connection.{Connection}
@@ -24,8 +23,7 @@ use Rattle.vlog_tree.specs.Form.{ModuleTree}
 use Rattle.tapa_base.specs.Lists.{Has}
 use Rattle.vlog_tree.specs.Labels.{rst, m_ack, m_rdata, m_addr, m_wdata, m_we, s_din, s_wr, s_rdy}
 use Rattle.vlog_tree.specs.Table.{Name, clk, module_named, times_in}
-use Rattle.tapa_base.proofs.Lists.{has_left, has_right, has_split}
-use Rattle.vlog_module_laws.proofs.Lists.{all_from}
+use Rattle.tapa_base.proofs.Lists.{has_left, has_right, has_split, has_got as got_there}
 use Rattle.hw_build.specs.Elements.{empty}
 use Rattle.hw_build.proofs.Tables.{count_append}
 use Rattle.hw_build.specs.Scope.{each, IsNet}
@@ -37,19 +35,19 @@ use Rattle.hw_lines.specs.Nets.{name}
 use Rattle.hw_lines.specs.Shape.{Shape, shape_of, stream_kind, register_kind, memory_kind}
 use Rattle.hw_lines.specs.Texts.{is_written, task_name}
 use Rattle.hw_task_laws.specs.names.Ports.{inward, outward, scalar_input, stream_in, stream_out, memory_in, memory_out, task_inputs, task_outputs}
-use Rattle.hw_task_laws.proofs.names.Bounds.{got_some}
 use Rattle.hw_task_laws.proofs.fit.Scopes.{left_among, net_in, both_among}
 use Rattle.hw_top_laws.specs.joins.Joins.{IsOpen, input_port, output_port, port_names, joined_ports, IsJoin, ToClock, ToInput, FromOutput, IsJoined}
-use Rattle.hw_top_lines.specs.Names.{s_has, s_dout, s_take, ended_net}
+use Rattle.hw_top_lines.specs.Names.{s_has, s_dout, ended_net}
 use Rattle.hw_top_lines.specs.Bounds.{parameter_kind, bound_by, parameters}
 use Rattle.hw_top_lines.specs.Designs.{is_used}
 use Rattle.hw_top_lines.specs.Legal.{IsReady}
 use Rattle.hw_top_lines.specs.Texts.{ports, token_bits, stream_label, memory_name, scalar_connections, written_connections, read_connections, stream_connections, named_connections, memory_connections, task_connections}
 use Rattle.hw_top_laws.specs.modules.Lower.{lower_modules, task_module, KeepPromises}
 use Rattle.hw_top_laws.proofs.modules.Lower.{tasks_found}
-use Rattle.hw_top_laws.proofs.modules.Tasks.{some_index}
-use Rattle.hw_top_laws.proofs.form.Standing.{standing, front, scalars, streams, bounds, ends as ends_of, scalars_among, front_among, parameters_front, din_open, wr_open, take_open, rdy_net, has_net, dout_net, addr_open, wdata_open, we_open, ack_net, rdata_net, ended_open}
+use Rattle.hw_top_laws.proofs.form.Standing.{standing, front, scalars, streams, bounds, ends as ends_of, scalars_among, front_among, parameters_front, link_open, link_front, take_open, outlet_open, answer_net, ended_open}
 use Rattle.hw_top_laws.proofs.form.Bounds.{parameter_net}
+use Rattle.tapa_base.proofs.Got.{got_low as some_index, some_at as got_some, all_from}
+use Rattle.kahn_model.proofs.Order.{prefix_get as prefix_at}
 
 any_of : {A : Type 0} (p : A → Bool) (xs : List A) (x : A) → Has xs x → p x ≡ true → list_any p xs ≡ true
 any_of p [] x h e = absurd h
@@ -58,17 +56,6 @@ any_of p (y ∷ ys) x (inr h) e = right (p y) (list_any p ys) (any_of p ys x h e
   right : (a b : Bool) → b ≡ true → (a || b) ≡ true
   right true b e = refl
   right false b e = e
-
-got_there : {A : Type 0} (xs : List A) (i : ℕ) (x : A) → slice_get xs i ≡ Some x → Has xs x
-got_there [] i x e = cc
-got_there (y ∷ ys) zero x e = inl cc
-got_there (y ∷ ys) (suc i) x e = inr (got_there ys i x e)
-
-prefix_at : {A : Type 0} (xs ys : List A) (r : ℕ) (x : A) → IsPrefixOf xs ys → slice_get xs r ≡ Some x → slice_get ys r ≡ Some x
-prefix_at [] ys r x p e = cc
-prefix_at (a ∷ xs) [] r x p e = absurd p
-prefix_at (a ∷ xs) (b ∷ ys) zero x p e = ap Some (sym p.0) ∙ e
-prefix_at (a ∷ xs) (b ∷ ys) (suc r) x p e = prefix_at xs ys r x p.1 e
 
 -- ---- how often names stand in connections and ports
 
@@ -147,20 +134,7 @@ module _ (program : Program) (machines : List Fsm) (added : List ℕ) (ready : I
       record { machine = m.0; got = g; got_leaf = e; got_machine = m.1; fits = subst (λ (z : Leaf). IsInstance program i x z) same r.1 }
 
   module _ (i : ℕ) (x : Instance) (leaf : Leaf) (part : IsPart i x leaf) where
-    abbrev machine : Fsm
-    machine = part.machine
-
-    abbrev got_x : slice_get program.instances.items i ≡ Some x
-    got_x = part.got
-
-    abbrev got_leaf : slice_get program.bodies.items x.body ≡ Some leaf
-    got_leaf = part.got_leaf
-
-    abbrev got_machine : slice_get machines x.body ≡ Some machine
-    got_machine = part.got_machine
-
-    abbrev ok : IsInstance program i x leaf
-    ok = part.fits
+    open part use {machine, got as got_x, got_leaf, got_machine, fits as ok}
 
     abbrev pub S : Shape
     S = shape_of machine leaf.memories.items leaf.streams.items
@@ -388,53 +362,50 @@ module _ (program : Program) (machines : List Fsm) (added : List ℕ) (ready : I
         net_in (scalars program ++ parameters program i x leaf) (front program) among _ (bits_of (parameter_kind leaf p)) (parameter_net program i x leaf ok p l) in
         AtInput (bits_of (register_kind S (slice_index S.scalars p))) (scalar_port p l) (subst (λ w. IsNet (front program) (bound_by i p (slice_get x.scalars.items p)) w) (sym (scalar_bits p l)) net)
 
-    pub written_right : (p : ℕ) (l : p < length leaf.streams.items) → IsWay p true → (t : Name) → t ≡ (stream_at p l).at.stream.label → (c : Connection) → Has (written_connections p t) c → Right c
-    written_right p l e t s c (inl q) =
-        subst Right q (AtInput 1 (rdy_port p l e) (subst (λ z. IsNet (front program) (s_rdy z) 1) (sym s) (rdy_net program (stream_at p l).number (stream_at p l).at.stream (stream_at p l).at.is)))
-    written_right p l e t s c (inr (inl q)) =
-        subst Right q (AtOutput 1 (wr_port p l e) (subst (λ z. IsOpen (standing program) (s_wr z) 1) (sym s) (wr_open program (stream_at p l).number (stream_at p l).at.stream (stream_at p l).at.is)))
-    written_right p l e t s c (inr (inr (inl q))) =
-        subst Right q
-        (AtOutput (bits_of (stream_kind S p) + 1) (din_port p l e)
-        (subst (λ z. IsOpen (standing program) (s_din z) (bits_of (stream_kind S p) + 1)) (sym s)
-        (subst (λ w. IsOpen (standing program) (s_din (stream_at p l).at.stream.label) w) (sym (stream_at p l).bits) (din_open program (stream_at p l).number (stream_at p l).at.stream (stream_at p l).at.is))))
-    written_right p l e t s c (inr (inr (inr n))) = absurd n
+    module _ (p : ℕ) (l : p < length leaf.streams.items) where
+      abbrev here : HasStream p
+      here = stream_at p l
 
-    pub read_right : (p : ℕ) (l : p < length leaf.streams.items) → IsWay p false → (t : Name) → t ≡ (stream_at p l).at.stream.label → (c : Connection) → Has (read_connections p t) c → Right c
-    read_right p l e t s c (inl q) =
-        subst Right q (AtInput 1 (has_port p l e) (subst (λ z. IsNet (front program) (s_has z) 1) (sym s) (has_net program (stream_at p l).number (stream_at p l).at.stream (stream_at p l).at.is)))
-    read_right p l e t s c (inr (inl q)) =
-        subst Right q
-        (AtInput (bits_of (stream_kind S p) + 1) (dout_port p l e)
-        (subst (λ z. IsNet (front program) (s_dout z) (bits_of (stream_kind S p) + 1)) (sym s)
-        (subst (λ w. IsNet (front program) (s_dout (stream_at p l).at.stream.label) w) (sym (stream_at p l).bits) (dout_net program (stream_at p l).number (stream_at p l).at.stream (stream_at p l).at.is))))
-    read_right p l e t s c (inr (inr (inl q))) =
-        subst Right q (AtOutput 1 (take_port p l e) (subst (λ z. IsOpen (standing program) (s_take z) 1) (sym s) (take_open program (stream_at p l).number (stream_at p l).at.stream (stream_at p l).at.is)))
-    read_right p l e t s c (inr (inr (inr n))) = absurd n
+      abbrev r : Stream
+      r = here.at.stream
 
-    stream_right : (p : ℕ) → p < length leaf.streams.items → (b : Bool) → IsWay p b → (c : Connection)
-        → Has (cond b (written_connections p (stream_label program (slice_index x.streams.items p))) (read_connections p (stream_label program (slice_index x.streams.items p)))) c → Right c
-    stream_right p l true e c h = written_right p l e (stream_label program (slice_index x.streams.items p)) (stream_at p l).label c h
-    stream_right p l false e c h = read_right p l e (stream_label program (slice_index x.streams.items p)) (stream_at p l).label c h
+      abbrev v : ℕ
+      v = bits_of (stream_kind S p) + 1
 
-    memory_right : (p : ℕ) (l : p < length leaf.memories.items) (t : Name) → t ≡ (memory_at p l).at.memory.name → (c : Connection) → Has (named_connections p t) c → Right c
-    memory_right p l t s c (inl q) =
-        subst Right q (AtInput 1 (memory_in_there p l _ (inl refl)) (subst (λ z. IsNet (front program) (m_ack z) 1) (sym s) (ack_net program (memory_at p l).number (memory_at p l).at.memory (memory_at p l).at.is)))
-    memory_right p l t s c (inr (inl q)) =
-        subst Right q
-        (AtInput (bits_of (memory_kind S p)) (memory_in_there p l _ (inr (inl refl)))
-        (subst (λ z. IsNet (front program) (m_rdata z) (bits_of (memory_kind S p))) (sym s)
-        (subst (λ w. IsNet (front program) (m_rdata (memory_at p l).at.memory.name) w) (sym (memory_at p l).bits) (rdata_net program (memory_at p l).number (memory_at p l).at.memory (memory_at p l).at.is))))
-    memory_right p l t s c (inr (inr (inl q))) =
-        subst Right q (AtOutput 64 (memory_out_there p l _ (inl refl)) (subst (λ z. IsOpen (standing program) (m_addr z) 64) (sym s) (addr_open program (memory_at p l).number (memory_at p l).at.memory (memory_at p l).at.is)))
-    memory_right p l t s c (inr (inr (inr (inl q)))) =
-        subst Right q
-        (AtOutput (bits_of (memory_kind S p)) (memory_out_there p l _ (inr (inl refl)))
-        (subst (λ z. IsOpen (standing program) (m_wdata z) (bits_of (memory_kind S p))) (sym s)
-        (subst (λ w. IsOpen (standing program) (m_wdata (memory_at p l).at.memory.name) w) (sym (memory_at p l).bits) (wdata_open program (memory_at p l).number (memory_at p l).at.memory (memory_at p l).at.is))))
-    memory_right p l t s c (inr (inr (inr (inr (inl q))))) =
-        subst Right q (AtOutput 1 (memory_out_there p l _ (inr (inr (inl refl)))) (subst (λ z. IsOpen (standing program) (m_we z) 1) (sym s) (we_open program (memory_at p l).number (memory_at p l).at.memory (memory_at p l).at.is)))
-    memory_right p l t s c (inr (inr (inr (inr (inr n))))) = absurd n
+      written_right : IsWay p true → (c : Connection) → Has (written_connections p r.label) c → Right c
+      written_right e c (inl q) = subst Right q (AtInput 1 (rdy_port p l e) (link_front program here.number r here.at.is 1 (s_rdy r.label) (inr (inr (inl refl)))))
+      written_right e c (inr (inl q)) = subst Right q (AtOutput 1 (wr_port p l e) (link_open program here.number r here.at.is 1 (s_wr r.label) (inr (inl refl))))
+      written_right e c (inr (inr (inl q))) =
+          let open_net = link_open program here.number r here.at.is (token_bits r.kind) (s_din r.label) (inl refl) in
+          subst Right q (AtOutput v (din_port p l e) (subst (λ w. IsOpen (standing program) (s_din r.label) w) (sym here.bits) open_net))
+      written_right e c (inr (inr (inr n))) = absurd n
+
+      read_right : IsWay p false → (c : Connection) → Has (read_connections p r.label) c → Right c
+      read_right e c (inl q) = subst Right q (AtInput 1 (has_port p l e) (link_front program here.number r here.at.is 1 (s_has r.label) (inr (inr (inr (inl refl))))))
+      read_right e c (inr (inl q)) =
+          let net = link_front program here.number r here.at.is (token_bits r.kind) (s_dout r.label) (inr (inr (inr (inr (inl refl))))) in
+          subst Right q (AtInput v (dout_port p l e) (subst (λ w. IsNet (front program) (s_dout r.label) w) (sym here.bits) net))
+      read_right e c (inr (inr (inl q))) = subst Right q (AtOutput 1 (take_port p l e) (take_open program here.number r here.at.is))
+      read_right e c (inr (inr (inr n))) = absurd n
+
+      stream_right : (b : Bool) → IsWay p b → (c : Connection) → Has (cond b (written_connections p r.label) (read_connections p r.label)) c → Right c
+      stream_right true e c h = written_right e c h
+      stream_right false e c h = read_right e c h
+
+    memory_right : (p : ℕ) (h : HasMemory p) → p < length leaf.memories.items → (c : Connection) → Has (named_connections p h.at.memory.name) c → Right c
+    memory_right p h l c (inl q) = subst Right q (AtInput 1 (memory_in_there p l _ (inl refl)) (answer_net program h.number h.at.memory h.at.is 1 (m_ack h.at.memory.name) (inr (inr (inr (inl refl))))))
+    memory_right p h l c (inr (inl q)) =
+        let r = h.at.memory in
+        let net = answer_net program h.number r h.at.is (bits_of r.kind) (m_rdata r.name) (inr (inr (inr (inr (inl refl))))) in
+        subst Right q (AtInput (bits_of (memory_kind S p)) (memory_in_there p l _ (inr (inl refl))) (subst (λ w. IsNet (front program) (m_rdata r.name) w) (sym h.bits) net))
+    memory_right p h l c (inr (inr (inl q))) = subst Right q (AtOutput 64 (memory_out_there p l _ (inl refl)) (outlet_open program h.number h.at.memory h.at.is 64 (m_addr h.at.memory.name) (inl refl)))
+    memory_right p h l c (inr (inr (inr (inl q)))) =
+        let r = h.at.memory in
+        let open_net = outlet_open program h.number r h.at.is (bits_of r.kind) (m_wdata r.name) (inr (inl refl)) in
+        subst Right q (AtOutput (bits_of (memory_kind S p)) (memory_out_there p l _ (inr (inl refl))) (subst (λ w. IsOpen (standing program) (m_wdata r.name) w) (sym h.bits) open_net))
+    memory_right p h l c (inr (inr (inr (inr (inl q))))) =
+        subst Right q (AtOutput 1 (memory_out_there p l _ (inr (inr (inl refl)))) (outlet_open program h.number h.at.memory h.at.is 1 (m_we h.at.memory.name) (inr (inr (inl refl)))))
+    memory_right p h l c (inr (inr (inr (inr (inr n))))) = absurd n
 
     scalar_of : (p : ℕ) → p < length leaf.scalars.items → (c : Connection) → Has (scalar_connections i x p) c → Right c
     scalar_of p l c (inl q) = subst Right q (scalar_right p l)
@@ -451,9 +422,15 @@ module _ (program : Program) (machines : List Fsm) (added : List ℕ) (ready : I
         ⊎_elim
         (λ k.
         ⊎_elim (λ l. let r = of_each (scalar_connections i x) (length leaf.scalars.items) c l in scalar_of r.0 r.1 c r.2)
-        (λ l. let r = of_each (stream_connections program x leaf) (length leaf.streams.items) c l in stream_right r.0 r.1 (is_written (slice_get leaf.streams.items r.0)) refl c r.2)
+        (λ l.
+        let r = of_each (stream_connections program x leaf) (length leaf.streams.items) c l in
+        let b = is_written (slice_get leaf.streams.items r.0) in
+        stream_right r.0 r.1 b refl c (subst (λ t. Has (cond b (written_connections r.0 t) (read_connections r.0 t)) c) (stream_at r.0 r.1).label r.2))
         (has_split scalars streams c k))
-        (λ l. let r = of_each (memory_connections program x) (length leaf.memories.items) c l in memory_right r.0 r.1 (memory_name program (slice_index x.memories.items r.0)) (memory_at r.0 r.1).title c r.2)
+        (λ l.
+        let r = of_each (memory_connections program x) (length leaf.memories.items) c l in
+        let m = memory_at r.0 r.1 in
+        memory_right r.0 m r.1 c (subst (λ t. Has (named_connections r.0 t) c) m.title r.2))
         (has_split (scalars ++ streams) memories c h)
 
     pub task_joined : IsJoined (lower_modules program machines added) (standing program) (task_name leaf.name) ends

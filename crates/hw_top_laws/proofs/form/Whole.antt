@@ -19,7 +19,7 @@ use Rattle.hw_top_laws.specs.modules.Lower.{lower_modules, KeepPromises}
 use Rattle.hw_top_laws.proofs.modules.Lower.{lower_ports, top_new}
 use Rattle.hw_top_laws.proofs.names.Top.{top_once}
 use Rattle.hw_top_laws.specs.form.Form.{TopsAreFitting, TopsAreRight, TopsAreModules}
-use Rattle.hw_top_laws.proofs.form.Drives.{ports_none, wires_none, done_none, instances_none}
+use Rattle.hw_top_laws.proofs.form.Drives.{standing_none, instances_none}
 use Rattle.hw_top_laws.proofs.form.Form.{elements_form}
 use Rattle.hw_top_laws.proofs.form.Once.{driven_once}
 use Rattle.hw_top_laws.proofs.form.Order.{top_stands}
@@ -28,10 +28,8 @@ use Rattle.hw_top_laws.proofs.form.Reached.{all_reached}
 -- the top has neither registers nor memories
 nothing_stored : (program : Program) (added : List ℕ) → GiveNone stored_names (top_elements program added)
 nothing_stored program added =
-    both_none stored_names (ports program ++ wires program ++ doneness program) (instances program added)
-    (both_none stored_names (ports program ++ wires program) (doneness program)
-    (both_none stored_names (ports program) (wires program) (ports_none stored_names (λ w x. refl) (λ w x. refl) program) (wires_none stored_names (λ w x v. refl) (λ w x. refl) program))
-    (done_none stored_names (λ w x v. refl) program (λ v. refl))) (instances_none stored_names (λ k i ls. refl) program added)
+    both_none stored_names (ports program ++ wires program ++ doneness program) (instances program added) (standing_none stored_names program (λ w x v. refl) (λ w x. refl) (λ v. refl) (λ w x. refl) (λ w x. refl))
+    (instances_none stored_names (λ k i ls. refl) program added)
 
 no_blocks : (program : Program) (added : List ℕ) → have_own_blocks (top_elements program added) ≡ true
 no_blocks program added = ap (λ l. list_all (λ x. nat_le (count_by (assigns x) (top_elements program added)) 1) l) (nothing_stored program added)

@@ -2,7 +2,7 @@
 use Rattle.std.proofs.Common.{◌≡◌, ℕ, ◌+◌, ◌≤◌, true, eqb, ◌&&◌, List, [], ◌∷◌, length, map, inl, inr, refl, sym, ap, subst, ◌∙◌, arith}
 use Rattle.std.specs.Prelude.{bytes_eq, count_by, nat_le}
 use Rattle.std.specs.List.{list_all, AllByRecursion}
-use Rattle.std.proofs.lemmas.Bool.{le-leb, leb-true, eq-eqb}
+use Rattle.std.proofs.lemmas.Bool.{le-leb, leb-true, eq-eqb, and_from as yes_and}
 use Rattle.vlog_tree.specs.declared.tree.Connection.{Connection}
 use Rattle.vlog_tree.specs.declared.tree.PortDecl.{PortDecl}
 use Rattle.vlog_tree.specs.declared.table.Declaration.{Declaration}
@@ -14,15 +14,16 @@ use Rattle.vlog_tree.specs.Names.{is_name, starts_name, goes_on, is_keyword, alw
 use Rattle.vlog_tree.specs.Table.{Name, clk, port_declared, find_name, net_kind_of, bits_of, times_in, one_if}
 use Rattle.vlog_tree.specs.V2.{all_connected}
 use Rattle.tapa_base.proofs.Lists.{has_map, has_flat, of_flat}
-use Rattle.vlog_module_laws.proofs.Lists.{count_cons, counted, both_true}
+use Rattle.vlog_module_laws.proofs.Lists.{count_cons, counted}
 use Rattle.vlog_run_laws.proofs.runs.Alone.{module_is}
-use Rattle.hw_build.specs.Elements.{Element, Input, Output, Outlet, Wire, InstanceWire, Register, Memory, Block, Instance}
-use Rattle.hw_build.proofs.Forms.{yes_and}
-use Rattle.hw_build.proofs.Tables.{times, same_name, found}
+use Rattle.hw_build.specs.Elements.{Element, Outlet, InstanceWire}
+use Rattle.hw_build.proofs.Tables.{times, found}
 use Rattle.hw_build.proofs.Uses.{all_has}
 use Rattle.hw_build.specs.Fits.{declared_names, AreOnce}
 use Rattle.hw_build.proofs.ListTables.{named, net_name}
 use Rattle.hw_top_laws.specs.joins.Joins.{open_nets, IsOpen, input_port, output_port, port_names, joined_ports, IsJoin, ToClock, ToInput, FromOutput, JoinedHasForm}
+use Rattle.vlog_module_laws.proofs.Forms.{itself as same_name}
+use Rattle.tapa_base.proofs.Tests.{both_true}
 
 -- ---- counts of names
 
@@ -84,13 +85,7 @@ open_name_of (Outlet v y) x w (inl s) = inl (ap (λ (q : Name × ℕ). q.0) s)
 open_name_of (Outlet v y) x w (inr n) = absurd n
 open_name_of (InstanceWire v y) x w (inl s) = inl (ap (λ (q : Name × ℕ). q.0) s)
 open_name_of (InstanceWire v y) x w (inr n) = absurd n
-open_name_of (Input v y) x w h = absurd h
-open_name_of (Output v y d) x w h = absurd h
-open_name_of (Wire v y d) x w h = absurd h
-open_name_of (Register v y) x w h = absurd h
-open_name_of (Memory v y c) x w h = absurd h
-open_name_of (Block b) x w h = absurd h
-open_name_of (Instance k i ls) x w h = absurd h
+open_name_of _ x w h = absurd h
 
 pub open_name : (before : List Element) (x : Name) (w : ℕ) → IsOpen before x w → Has (named before) x
 open_name before x w h = let r = of_flat open_nets before (x, w) h in has_flat declared_names before r.0 x r.1 (open_name_of r.0 x w r.2)

@@ -8,22 +8,17 @@ use Rattle.vlog_tree.specs.Form.{ModuleTree}
 use Rattle.tapa_base.specs.Lists.{Has}
 use Rattle.vlog_tree.specs.Table.{Name}
 use Rattle.tapa_base.proofs.Lists.{has_left, has_flat, of_flat}
-use Rattle.hw_build.specs.Elements.{Element, Input, Output, Outlet, Wire, InstanceWire, Register, Memory, Block, Instance}
+use Rattle.hw_build.specs.Elements.{Element, Outlet, InstanceWire, Instance}
 use Rattle.hw_build.specs.Scope.{each, readable, IsNet, FitsAfter}
 use Rattle.hw_build.specs.Fits.{IsAmong}
 use Rattle.hw_build.proofs.Parts.{fits_more, more_behind}
 use Rattle.hw_top_laws.specs.joins.Joins.{open_nets, IsJoin, ToClock, ToInput, FromOutput, StandsAfter, StandInOrder, AloneStands, StandsBehindMore, PartsStand, EachPartStands}
 
 alone_after : (ms : List ModuleTree) (before : List Element) (e : Element) → FitsAfter before e → StandsAfter ms before e
-alone_after ms before (Input w x) h = h
-alone_after ms before (Output w x v) h = h
 alone_after ms before (Outlet w x) h = absurd h
-alone_after ms before (Wire w x v) h = h
 alone_after ms before (InstanceWire w x) h = absurd h
-alone_after ms before (Register w x) h = h
-alone_after ms before (Memory w x n) h = h
-alone_after ms before (Block b) h = h
 alone_after ms before (Instance k i ls) h = absurd h
+alone_after ms before _ h = h
 
 pub alone_stands : AloneStands
 alone_stands ms before [] h = tt
@@ -47,15 +42,10 @@ module _ (ms : List ModuleTree) (some all : List Element) (among : IsAmong some 
   joins_more ports (l ∷ ls) h = (join_more ports l h.0, joins_more ports ls h.1)
 
   pub after_more : (e : Element) → StandsAfter ms some e → StandsAfter ms all e
-  after_more (Input w x) h = fits_more some all among (Input w x) h
-  after_more (Output w x v) h = fits_more some all among (Output w x v) h
   after_more (Outlet w x) h = h
-  after_more (Wire w x v) h = fits_more some all among (Wire w x v) h
   after_more (InstanceWire w x) h = h
-  after_more (Register w x) h = fits_more some all among (Register w x) h
-  after_more (Memory w x n) h = fits_more some all among (Memory w x n) h
-  after_more (Block b) h = fits_more some all among (Block b) h
   after_more (Instance k i ls) h = record { child = h.child; named = h.named; same = h.same; joins = joins_more h.child.ports ls h.joins }
+  after_more e h = fits_more some all among e h
 
 pub stands_more : StandsBehindMore
 stands_more ms some all among [] h = tt

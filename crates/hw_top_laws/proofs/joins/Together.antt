@@ -3,7 +3,7 @@ use Rattle.std.proofs.Common.{◌≡◌, ℕ, ◌+◌, ◌≤◌, Bool, true, fa
 use Rattle.std.specs.Prelude.{bytes_eq, not}
 use Rattle.std.specs.List.{list_any, list_all, flat_map, AllByRecursion}
 use Rattle.std.specs.Cmp.Lexicographic.{bytes_decides}
-use Rattle.std.proofs.lemmas.Bool.{eq-eqb}
+use Rattle.std.proofs.lemmas.Bool.{eq-eqb, false_from_ne_true as not_both, and_from as yes_and}
 use Rattle.std.proofs.lemmas.Grind.{flat_map-append}
 use Rattle.vlog_tree.specs.declared.tree.Connection.{Connection}
 use Rattle.vlog_tree.specs.declared.tree.PortDecl.{PortDecl}
@@ -19,34 +19,22 @@ use Rattle.vlog_tree.specs.V2.{read_use, driven_use, clock_use, joined_use, conn
 use Rattle.vlog_tree.specs.V4.{connection_driven}
 use Rattle.tapa_base.proofs.Lists.{has_left, has_split, has_flat, of_flat}
 use Rattle.vlog_module_laws.proofs.Larger.{known_by}
-use Rattle.vlog_module_laws.proofs.Lists.{count_cons, counted, all_at}
+use Rattle.vlog_module_laws.proofs.Lists.{count_cons, counted}
 use Rattle.vlog_run_laws.proofs.runs.Alone.{module_is}
-use Rattle.hw_build.specs.Elements.{Element, Input, Output, Outlet, Wire, InstanceWire, Register, Memory, Block, Instance}
+use Rattle.hw_build.specs.Elements.{Element, Outlet, InstanceWire, Instance}
 use Rattle.hw_build.specs.Fitting.{declarations, first_table, is_new, are_kept, child_ports, has_fitting_names, have_fitting_names, HasFittingWidths, HaveFittingWidths, link_names, instance_driven, drive_links_once}
 use Rattle.hw_build.proofs.Appended.{table_append}
-use Rattle.hw_build.proofs.Forms.{yes_and}
-use Rattle.hw_build.proofs.Tables.{times, clock_declared, count_append, same_name, AreDistinct, stays, stays_new, found}
-use Rattle.hw_build.proofs.Uses.{both_together}
+use Rattle.hw_build.proofs.Tables.{times, clock_declared, count_append, AreDistinct, stays, stays_new, found}
 use Rattle.hw_build.specs.Fits.{declared_names, AreOnce}
-use Rattle.hw_build.proofs.Fit.{names_fit, widths_fit, front_once, new_next}
+use Rattle.hw_build.proofs.Fit.{names_fit, widths_fit, front_once, new_next, kept_is, kept_read as kept_net}
 use Rattle.hw_build.proofs.ListTables.{table, named, names_after, first_times, IsDeclared, net_declared, net_name}
 use Rattle.hw_top_laws.specs.joins.Joins.{open_nets, IsOpen, output_port, port_names, IsJoin, ToClock, ToInput, FromOutput, IsJoined, StandsAfter, StandInOrder, PortsAreOnce, FitTogether, TogetherIsFitting}
 use Rattle.hw_top_laws.proofs.joins.Joined.{input_kind, output_kind, input_bits, output_bits, connected, open_name}
+use Rattle.vlog_module_laws.proofs.Forms.{itself as same_name}
+use Rattle.tapa_base.proofs.Got.{all_at}
+use Rattle.hw_build.proofs.Forms.{all_append as both_together}
 
 -- ---- an instance, where no name is declared twice
-
-not_both : (b : Bool) → (b ≡ true → ⊥) → b ≡ false
-not_both true h = absurd (h refl)
-not_both false h = refl
-
-kept_net : (a b : Bool) → a ≡ true → b ≡ false → not (not a || b) ≡ true
-kept_net true false e f = refl
-kept_net true true e f = cc
-kept_net false b e f = cc
-
-kept_is : (a : Bool) → a ≡ true → not (not a) ≡ true
-kept_is true e = refl
-kept_is false e = cc
 
 -- an open net by its declaration
 open_by : (before : List Element) (e : Element) (x : Name) (w : ℕ) → Has before e → Has {N = Name × ℕ} (open_nets e) (x, w) → IsDeclared before net_kind_is_driven x w
@@ -58,13 +46,7 @@ open_by before (InstanceWire v y) x w has (inl s) =
     let d : Declaration = record { name = y; net_kind = WireNet; bits = v; cells = 0 } in
     record { is = d; has = stays_new before first_table (InstanceWire v y) d has (inl refl); name = ap (λ (q : Name × ℕ). q.0) s; kind = refl; bits = ap (λ (q : Name × ℕ). q.1) s }
 open_by before (InstanceWire v y) x w has (inr n) = absurd n
-open_by before (Input v y) x w has h = absurd h
-open_by before (Output v y d) x w has h = absurd h
-open_by before (Wire v y d) x w has h = absurd h
-open_by before (Register v y) x w has h = absurd h
-open_by before (Memory v y c) x w has h = absurd h
-open_by before (Block b) x w has h = absurd h
-open_by before (Instance k i ls) x w has h = absurd h
+open_by before _ x w has h = absurd h
 
 open_declared : (before : List Element) (x : Name) (w : ℕ) → IsOpen before x w → IsDeclared before net_kind_is_driven x w
 open_declared before x w h = let r = of_flat open_nets before (x, w) h in open_by before r.0 x w r.1 r.2
@@ -181,26 +163,16 @@ module _ (ms : List ModuleTree) (ports_once : PortsAreOnce ms) (before : List El
       (connections_fit before once j.child.ports (child_once k ls j) ls j.joins)
 
   names_stand : (e : Element) → ((x : Name) → Has (declared_names e) x → is_new (table before) x ≡ true) → StandsAfter ms before e → has_fitting_names ms (table before) e ≡ true
-  names_stand (Input w x) new h = names_fit before once ms (Input w x) new h
-  names_stand (Output w x v) new h = names_fit before once ms (Output w x v) new h
   names_stand (Outlet w x) new h = new x (inl refl)
-  names_stand (Wire w x v) new h = names_fit before once ms (Wire w x v) new h
   names_stand (InstanceWire w x) new h = new x (inl refl)
-  names_stand (Register w x) new h = names_fit before once ms (Register w x) new h
-  names_stand (Memory w x n) new h = names_fit before once ms (Memory w x n) new h
-  names_stand (Block b) new h = names_fit before once ms (Block b) new h
   names_stand (Instance k i ls) new h = joined_names k i ls (new i (inl refl)) h
+  names_stand e new h = names_fit before once ms e new h
 
   widths_stand : (e : Element) → StandsAfter ms before e → HasFittingWidths ms (table before) e
-  widths_stand (Input w x) h = widths_fit before once ms (Input w x) h
-  widths_stand (Output w x v) h = widths_fit before once ms (Output w x v) h
   widths_stand (Outlet w x) h = h
-  widths_stand (Wire w x v) h = widths_fit before once ms (Wire w x v) h
   widths_stand (InstanceWire w x) h = h
-  widths_stand (Register w x) h = widths_fit before once ms (Register w x) h
-  widths_stand (Memory w x n) h = widths_fit before once ms (Memory w x n) h
-  widths_stand (Block b) h = widths_fit before once ms (Block b) h
   widths_stand (Instance k i ls) h = joined_widths k i ls h
+  widths_stand e h = widths_fit before once ms e h
 
 -- ---- all of them
 
@@ -223,13 +195,7 @@ open_link_of (Outlet v y) x w (inl s) = inl (ap (λ (q : Name × ℕ). q.0) s)
 open_link_of (Outlet v y) x w (inr n) = absurd n
 open_link_of (InstanceWire v y) x w (inl s) = inl (ap (λ (q : Name × ℕ). q.0) s)
 open_link_of (InstanceWire v y) x w (inr n) = absurd n
-open_link_of (Input v y) x w h = absurd h
-open_link_of (Output v y d) x w h = absurd h
-open_link_of (Wire v y d) x w h = absurd h
-open_link_of (Register v y) x w h = absurd h
-open_link_of (Memory v y c) x w h = absurd h
-open_link_of (Block b) x w h = absurd h
-open_link_of (Instance k i ls) x w h = absurd h
+open_link_of _ x w h = absurd h
 
 open_link : (before : List Element) (x : Name) (w : ℕ) → IsOpen before x w → Has (flat_map link_names before) x
 open_link before x w h = let r = of_flat open_nets before (x, w) h in has_flat link_names before r.0 x r.1 (open_link_of r.0 x w r.2)
@@ -263,14 +229,7 @@ module _ (ms : List ModuleTree) (ports_once : PortsAreOnce ms) where
 
   drive_of : (before : List Element) (e : Element) → StandsAfter ms before e → (x : Name) → Has (instance_driven ms e) x → Has (flat_map link_names before) x
   drive_of before (Instance k i ls) s x h = joined_drive before k i ls s x h
-  drive_of before (Input w y) s x h = absurd h
-  drive_of before (Output w y v) s x h = absurd h
-  drive_of before (Outlet w y) s x h = absurd h
-  drive_of before (Wire w y v) s x h = absurd h
-  drive_of before (InstanceWire w y) s x h = absurd h
-  drive_of before (Register w y) s x h = absurd h
-  drive_of before (Memory w y n) s x h = absurd h
-  drive_of before (Block b) s x h = absurd h
+  drive_of before _ s x h = absurd h
 
   -- nothing but links is driven
   drive_links : (before elements : List Element) → StandInOrder ms before elements → (x : Name) → Has (flat_map (instance_driven ms) elements) x → Has (flat_map link_names (before ++ elements)) x

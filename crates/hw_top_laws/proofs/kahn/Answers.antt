@@ -2,7 +2,7 @@
 use Rattle.std.proofs.Common.{◌≡◌, ℕ, suc, ◌<◌, Bool, true, false, ◌&&◌, not, [], Option, Some, None, refl, ap, ◌∙◌}
 use Rattle.std.specs.Prelude.{if◌then◌else◌, slice_get}
 use Rattle.kahn_model.specs.Trace.{State}
-use Rattle.task_fsm.specs.Machine.{StateForm, SetAt, CellAt, TestAt, ReadAt, WriteAt, PeekAt, EotAt, OpenAt, CloseAt, LoadAt, StoreAt, ClearAt, EndAt, TrapAt}
+use Rattle.task_fsm.specs.Machine.{StateForm, LoadAt, StoreAt, ClearAt}
 use Rattle.task_fsm.specs.Ranges.{Ranges, IsInRange, AreInRange}
 use Rattle.task_fsm.specs.Run.{clear_step, is_last, step, step_at}
 use Rattle.task_fsm.proofs.Ranged.{in_range_at}
@@ -16,20 +16,10 @@ module _ (S : Streams) (f g : ℕ → ℕ → Bool) (bound : ℕ → ℕ) (n : �
   clear_same false a c pc next σ = refl
 
   form_same : (p : StateForm) → IsInRange r p → (pc : ℕ) (σ : State) → allows S f bound n (step p pc σ) ≡ allows S g bound n (step p pc σ)
-  form_same (SetAt x e next) h pc σ = refl
-  form_same (CellAt a i e next) h pc σ = refl
-  form_same (TestAt e y m) h pc σ = refl
-  form_same (ReadAt s into next) h pc σ = refl
-  form_same (WriteAt s e next) h pc σ = refl
-  form_same (PeekAt s into next) h pc σ = refl
-  form_same (EotAt s into next) h pc σ = refl
-  form_same (OpenAt s next) h pc σ = refl
-  form_same (CloseAt s next) h pc σ = refl
   form_same (LoadAt m i into next) h pc σ = same m h.0
   form_same (StoreAt m i e next) h pc σ = same m h.0
   form_same (ClearAt a c next) h pc σ = clear_same (is_last σ a c) a c pc next σ
-  form_same EndAt h pc σ = refl
-  form_same TrapAt h pc σ = refl
+  form_same _ h pc σ = refl
 
   at_same : (o : Option StateForm) → ((p : StateForm) → o ≡ Some p → IsInRange r p) → (pc : ℕ) (σ : State) → allows S f bound n (step_at o pc σ) ≡ allows S g bound n (step_at o pc σ)
   at_same None h pc σ = refl

@@ -21,14 +21,14 @@ module _ (program : Program) (added : List ℕ) (env : Environment) (answers : �
   follows = carrying_gives program ends.well_formed added env answers nets c
 
   -- at the limit that the bound gives
-  in_time : (a : ℕ) × IsLeastToEnd (network program env) a × ((n : ℕ) × RaisesDone (top_of nets) n × (n ≤ (a + 2) * (2 * most + 4) + waits))
+  in_time : (a : ℕ) × IsLeastToEnd (network program env) a × ((n : ℕ) × RaisesDone (top_of nets) n × (n ≤ 1 + a * suc most + waits))
   in_time =
       let t = follows.in_time most ends.latency bound k ends.run in
-      let limit : ℕ = (t.0 + 2) * (2 * most + 4) + waits in
+      let limit : ℕ = 1 + t.0 * suc most + waits in
       let some = ends.ready limit in
       let d = t.2 limit (omega arith) in
       let few = ends.ready d.0 in
-      let within : d.0 ≤ (t.0 + 2) * (2 * most + 4) + lost (all_answer program answers) d.0 = d.2 in
+      let within : d.0 ≤ 1 + t.0 * suc most + lost (all_answer program answers) d.0 = d.2 in
       (t.0, t.1, (d.0, d.1, omega arith))
 
 pub still : StandingStill

@@ -1,7 +1,7 @@
 -- What follows if a circuit carries its program's streams.
 use Rattle.std.proofs.Common.{◌≡◌, ◌⊎◌, ℕ, zero, suc, ◌+◌, ◌-◌, ◌*◌, ◌<◌, ◌≤◌, Bool, true, false, List, [], length, Option, Some, None, inl, inr, refl, sym, ap, subst, ◌∙◌, arith, ⊎_elim}
 use Rattle.std.specs.Prelude.{if◌then◌else◌, flat_map, slice_get, slice_index, slice_index_or}
-use Rattle.std.proofs.lemmas.Bool.{cases_eq, cases_lt, eqb-true}
+use Rattle.std.proofs.lemmas.Bool.{cases_eq, cases_lt}
 use Rattle.std.proofs.lemmas.Option.{slice_get_within, slice_get-get_or}
 use Rattle.tapa_base.specs.declared.kind.Kind.TheVariants.{U64}
 use Rattle.tapa_syntax.specs.WellFormed.{IsWellFormed}
@@ -13,18 +13,18 @@ use Rattle.vlog_tree.specs.Cycle.{Cycle, Path}
 use Rattle.vlog_tree.specs.Environment.{Environment, RaisesDone, cells_at}
 use Rattle.vlog_tree.specs.Labels.{m_we}
 use Rattle.vlog_tree.specs.Table.{Name}
-use Rattle.kahn_model.specs.declared.tick.Action.TheVariants.{Local, Put, Load as LoadAct, Store as StoreAct}
+use Rattle.kahn_model.specs.declared.tick.Action.TheVariants.{Load as LoadAct, Store as StoreAct}
 use Rattle.kahn_model.specs.declared.tick.Tick.{Tick}
-use Rattle.kahn_model.specs.declared.tick.Tick.TheVariants.{Did, Take, See, End}
+use Rattle.kahn_model.specs.declared.tick.Tick.TheVariants.{Did}
 use Rattle.kahn_model.specs.Cells.{cells_at as cells_of, is_memory, memory_at, owner_of}
 use Rattle.kahn_model.specs.Counts.{next, HasEnded, IsKahnPrefix, IsKahnStream}
 use Rattle.kahn_model.specs.Ending.{IsLeastToEnd}
 use Rattle.kahn_model.specs.Network.{Network, IsNetwork, put_on}
-use Rattle.kahn_model.specs.Outcome.{IsJoined, HaveJoinedEnded, IsDone as EndsWithin, shown}
+use Rattle.kahn_model.specs.Outcome.{IsJoined, HaveJoinedEnded, IsDone, shown}
 use Rattle.kahn_model.specs.ProgramNetwork.{end_of}
 use Rattle.kahn_model.specs.Start.{network_of}
 use Rattle.kahn_model.specs.Timed.{Clock, count_at, lost}
-use Rattle.kahn_model.proofs.Clocked.{and_parts, clock_founded, count_le}
+use Rattle.kahn_model.proofs.Clocked.{clock_founded, count_le}
 use Rattle.kahn_model.proofs.Ended.{ended_later, ended_over, ended_same}
 use Rattle.kahn_model.proofs.LastCells.{ends_leave_alike}
 use Rattle.kahn_model.proofs.Least.{least_to_end}
@@ -42,20 +42,10 @@ use Rattle.hw_network_laws.proofs.network.Pace.{keeps_pace}
 use Rattle.hw_network_laws.proofs.network.Ports.{is_instance}
 use Rattle.hw_network_laws.proofs.network.Prompt.{answered_counts_are_prompt}
 use Rattle.hw_top_laws.proofs.kahn.Waits.{in_time_by}
-
-wide : (a x y : ℕ) → 1 ≤ y → x ≤ y → 1 + a * x ≤ (a + 2) * y
-wide zero x y one le = let e : (0 + 2) * y ≡ y + y = omega arith in omega arith
-wide (suc a) x y one le =
-    let h = wide a x y one le in
-    let e : suc a * x ≡ x + a * x = omega arith in
-    let f : (suc a + 2) * y ≡ y + (a + 2) * y = omega arith in
-    omega arith
+use Rattle.kahn_model.proofs.FitsCells.{is_same as of_memory}
+use Rattle.tapa_base.proofs.Tests.{both_true as and_parts}
 
 -- ---- the clock of a program's circuit
-
-of_memory : (o : Option ℕ) (m : ℕ) → is_memory o m ≡ true → o ≡ Some m
-of_memory None m e = cc
-of_memory (Some r) m e = ap (λ z. Some z) (eqb-true r m e)
 
 bound_is : (answers : ℕ → ℕ → Bool) (o : Option Instance) (p m n : ℕ) → memory_at o p ≡ Some m → bound_answers answers o p n ≡ answers m n
 bound_is answers None p m n e = absurd cc
@@ -115,16 +105,11 @@ module _ (program : Program) (w : IsWellFormed program) (added : List ℕ) (env 
 
   -- an instance that has ended asks for nothing
   none_by : (k : ℕ → ℕ) (i m : ℕ) (bound : ℕ → Option ℕ) → i < net.size → HasEnded net k i → (t : Option Tick) → next net k i ≡ t → request_by bound m (act_of_tick t) ≡ Nothing
-  none_by k i m bound inside over None e = refl
-  none_by k i m bound inside over (Some (Did Local)) e = refl
-  none_by k i m bound inside over (Some (Did (Put s v))) e = refl
   none_by k i m bound inside over (Some (Did (LoadAct p a))) e =
       absurd (ended_over net ok k i over (record { supplied = record { inside = inside; tick = Did (LoadAct p a); is_next = e; token = tt }; room = tt }))
   none_by k i m bound inside over (Some (Did (StoreAct p a v))) e =
       absurd (ended_over net ok k i over (record { supplied = record { inside = inside; tick = Did (StoreAct p a v); is_next = e; token = tt }; room = tt }))
-  none_by k i m bound inside over (Some (Take s v)) e = refl
-  none_by k i m bound inside over (Some (See s v)) e = refl
-  none_by k i m bound inside over (Some End) e = refl
+  none_by k i m bound inside over _ e = refl
 
   none_asked : (k : ℕ → ℕ) (m : ℕ) (o : Memory) → slice_get program.memories.items m ≡ Some o → HasEnded net k o.owner → request_at program net k m ≡ Nothing
   none_asked k m o at over =
@@ -146,14 +131,9 @@ module _ (program : Program) (w : IsWellFormed program) (added : List ℕ) (env 
     stay_by t p false asks waits e is h = absurd (h refl)
 
     stay : (t : Option Tick) → next net (count (suc n)) i ≡ t → (request_by positions m (act_of_tick t) ≡ Nothing → ⊥) → next net (count (suc (suc n))) i ≡ t
-    stay None e h = absurd (h refl)
-    stay (Some (Did Local)) e h = absurd (h refl)
-    stay (Some (Did (Put s v))) e h = absurd (h refl)
     stay (Some (Did (LoadAct p a))) e h = stay_by (Did (LoadAct p a)) p (is_memory (positions p) m) (Load a) refl e refl h
     stay (Some (Did (StoreAct p a v))) e h = stay_by (Did (StoreAct p a v)) p (is_memory (positions p) m) (Store a v) refl e refl h
-    stay (Some (Take s v)) e h = absurd (h refl)
-    stay (Some (See s v)) e h = absurd (h refl)
-    stay (Some End) e h = absurd (h refl)
+    stay _ e h = absurd (h refl)
 
     held : (request_of program net (count (suc n)) m i ≡ Nothing → ⊥) → request_of program net (count (suc (suc n))) m i ≡ request_of program net (count (suc n)) m i
     held h = ap (λ z. request_by positions m (act_of_tick z)) (stay (next net (count (suc n)) i) refl h)
@@ -175,6 +155,9 @@ module _ (program : Program) (w : IsWellFormed program) (added : List ℕ) (env 
     raised : (n : ℕ) → 1 ≤ n → HaveJoinedEnded net (count n) → RaisesDone top n
     raised zero some h = absurd (omega arith)
     raised (suc n) some h = (c.done n).1 h
+
+    stays : (n m : ℕ) → RaisesDone top n → n ≤ m → RaisesDone top m
+    stays n m d le = (let some : 1 ≤ n = d.0 in raised m (omega arith) (over n m d le))
 
     -- ---- streams
 
@@ -225,20 +208,18 @@ module _ (program : Program) (w : IsWellFormed program) (added : List ℕ) (env 
 
     -- ---- time
 
-    in_time : (most : ℕ) → ((s : ℕ) → slice_index added s ≤ most) → (bound : ℕ) (k : ℕ → ℕ) → EndsWithin net bound k
-        → (a : ℕ) × IsLeastToEnd net a × ((limit : ℕ) → (a + 2) * (2 * most + 4) + lost (all_answer program answers) limit ≤ limit → (n : ℕ) × RaisesDone top n × (n ≤ (a + 2) * (2 * most + 4) + lost (all_answer program answers) n))
+    in_time : (most : ℕ) → ((s : ℕ) → slice_index added s ≤ most) → (bound : ℕ) (k : ℕ → ℕ) → IsDone net bound k
+        → (a : ℕ) × IsLeastToEnd net a × ((limit : ℕ) → 1 + a * suc most + lost (all_answer program answers) limit ≤ limit → (n : ℕ) × RaisesDone top n × (n ≤ 1 + a * suc most + lost (all_answer program answers) n))
     in_time most late bound k e =
-        let least = least_to_end net ok bound k e in
-        let long : 1 + least.0 * suc most ≤ (least.0 + 2) * (2 * most + 4) = wide least.0 (suc most) (2 * most + 4) (omega arith) (omega arith) in
-        let some : 1 ≤ (least.0 + 2) * (2 * most + 4) = omega arith in (
+        let least = least_to_end net ok bound k e in (
           least.0,
           least.1,
           λ limit enough.
-              let t = in_time_by net ok clock most (all_answer program answers) late (λ n yes i p. answered_by program w answers n yes i p (slice_get program.instances.items i) refl) least.0 least.1 ((least.0 + 2) * (2 * most + 4)) some long limit enough in
+              let t = in_time_by net ok clock most (all_answer program answers) late (λ n yes i p. answered_by program w answers n yes i p (slice_get program.instances.items i) refl) least.0 least.1 limit enough in
               (t.0, raised t.0 t.1 t.3, t.2),
         )
 
-    prompt : (late : ℕ) → ((s : ℕ) → slice_index added s ≤ late) → AreAnswered net clock late → (bound : ℕ) (k : ℕ → ℕ) → EndsWithin net bound k
+    prompt : (late : ℕ) → ((s : ℕ) → slice_index added s ≤ late) → AreAnswered net clock late → (bound : ℕ) (k : ℕ → ℕ) → IsDone net bound k
         → (a : ℕ) × IsLeastToEnd net a × ((n : ℕ) × RaisesDone top n × (n ≤ 1 + a * suc late))
     prompt late short answered bound k e =
         let least = least_to_end net ok bound k e in
@@ -252,6 +233,7 @@ module _ (program : Program) (w : IsWellFormed program) (added : List ℕ) (env 
       whole = λ s n m q at d le joined. whole_at s q at n m d le joined;
       shows = λ k h s n m q at d le joined. shows_at s q at n m d le joined k h;
       leaves = leaves;
+      stays = stays;
       quiet = quiet;
       holds = holds;
       pace = keeps_pace net ok clock;
@@ -326,17 +308,13 @@ module _ (program : Program) (w : IsWellFormed program) (added : List ℕ) (env 
       some_by false r e some none = cc
 
       asks_by : (u : Tick) → u ≡ t → (bound : ℕ → Option ℕ) (m : ℕ) → bound p ≡ Some m → memory_of u ≡ Some p → request_by bound m (act_of_tick (Some u)) ≡ Nothing → ⊥
-      asks_by (Did Local) e bound m b at none = cc
-      asks_by (Did (Put s v)) e bound m b at none = cc
       asks_by (Did (LoadAct q a)) e bound m b at none =
           let same : p ≡ q = cc in
           some_by (is_memory (bound q) m) (Load a) (is_the_memory (bound q) m (subst (λ z. bound z ≡ Some m) same b)) (λ bad. cc) none
       asks_by (Did (StoreAct q a v)) e bound m b at none =
           let same : p ≡ q = cc in
           some_by (is_memory (bound q) m) (Store a v) (is_the_memory (bound q) m (subst (λ z. bound z ≡ Some m) same b)) (λ bad. cc) none
-      asks_by (Take s v) e bound m b at none = cc
-      asks_by (See s v) e bound m b at none = cc
-      asks_by End e bound m b at none = cc
+      asks_by _ e bound m b at none = cc
 
       by_position : (x : Instance) → slice_get program.instances.items i ≡ Some x → (o : Option ℕ) → slice_get x.memories.items p ≡ o → Answered
       by_position x at None got = at_once (ap (λ z. bound_answers answers z p (suc n)) at ∙ ap (λ z. answer_of answers z (suc n)) got)

@@ -20,7 +20,6 @@ use Rattle.hw_network_laws.specs.network.Clocked.{IsClocked}
 use Rattle.hw_network_laws.specs.modules.Designs.{IsDesignOf, AreMachines, clock_of}
 use Rattle.hw_network_laws.specs.modules.Tasks.{shape_for, part_in}
 use Rattle.hw_network_laws.proofs.modules.Designs.{clocked}
-use Rattle.hw_network_laws.proofs.modules.Tasks.{there_at as item_at}
 use Rattle.hw_top_lines.specs.Designs.{AreShort}
 use Rattle.hw_top_lines.specs.Names.{task_instance}
 use Rattle.hw_top_lines.specs.Texts.{top_tree}
@@ -31,6 +30,7 @@ use Rattle.hw_top_laws.proofs.runs.Rows.{answers_are}
 use Rattle.hw_top_laws.proofs.runs.Tasks.{outside_fits}
 use Rattle.circuit_meaning.specs.Clock.{network}
 use Rattle.hw_top_laws.proofs.kahn.Answers.{runs_with}
+use Rattle.tapa_base.proofs.Got.{some_at as item_at}
 
 abbrev no_part : Part
 no_part = record { places = []; bound = λ p. p; first = empty_state }

@@ -3,9 +3,9 @@ use Rattle.std.proofs.Common.{◌≡◌, ℕ, zero, suc, ◌+◌, ◌-◌, ◌*�
 use Rattle.std.specs.Prelude.{if◌then◌else◌, nat_lt}
 use Rattle.std.proofs.Math.Path.{fun_ext}
 use Rattle.std.proofs.lemmas.Bool.{cases_lt, lt-ltb, le-ltb}
-use Rattle.kahn_model.specs.declared.tick.Action.TheVariants.{Local, Put, Load, Store}
+use Rattle.kahn_model.specs.declared.tick.Action.TheVariants.{Load, Store}
 use Rattle.kahn_model.specs.declared.tick.Tick.{Tick}
-use Rattle.kahn_model.specs.declared.tick.Tick.TheVariants.{Did, Take, See, End}
+use Rattle.kahn_model.specs.declared.tick.Tick.TheVariants.{Did}
 use Rattle.kahn_model.specs.Counts.{next}
 use Rattle.kahn_model.specs.Ending.{IsLeastToEnd}
 use Rattle.kahn_model.specs.Network.{Network, IsNetwork}
@@ -37,9 +37,7 @@ module _ (ready : ℕ → Bool) where
       subst (λ z. lost ready n ≤ lost ready z) (sym next) (omega (arith, h, m, step))
 
   pub lost_grows : (n m : ℕ) → n ≤ m → lost ready n ≤ lost ready m
-  lost_grows n m le = grows n m (m - n) le refl where
-    grows : (n m d : ℕ) → n ≤ m → d ≡ m - n → lost ready n ≤ lost ready m
-    grows n m d le e = let sum : d + n ≡ m = omega arith in subst (λ z. lost ready n ≤ lost ready z) sum (lost_later n d)
+  lost_grows n m le = let sum : (m - n) + n ≡ m = omega arith in subst (λ z. lost ready n ≤ lost ready z) sum (lost_later n (m - n))
 
   lost_slow : (n d : ℕ) → lost ready (d + n) ≤ d + lost ready n
   lost_slow n zero = subst (λ z. lost ready z ≤ 0 + lost ready n) (sym (zero-add n)) (omega arith)
@@ -51,12 +49,10 @@ module _ (ready : ℕ → Bool) where
       subst (λ z. lost ready z ≤ suc d + lost ready n) (sym next) (omega (arith, h, m, step))
 
   pub lost_behind : (n m : ℕ) → n ≤ m → n + lost ready m ≤ m + lost ready n
-  lost_behind n m le = behind n m (m - n) le refl where
-    behind : (n m d : ℕ) → n ≤ m → d ≡ m - n → n + lost ready m ≤ m + lost ready n
-    behind n m d le e =
-        let sum : d + n ≡ m = omega arith in
-        let slow : lost ready m ≤ d + lost ready n = subst (λ z. lost ready z ≤ d + lost ready n) sum (lost_slow n d) in
-        omega arith
+  lost_behind n m le =
+      let sum : (m - n) + n ≡ m = omega arith in
+      let slow : lost ready m ≤ (m - n) + lost ready n = subst (λ z. lost ready z ≤ (m - n) + lost ready n) sum (lost_slow n (m - n)) in
+      omega arith
 
   -- ---- answers that are cut off at a limit, behind which every memory answers
 
@@ -107,13 +103,9 @@ module _ (net : Network) (ok : IsNetwork net) (clock : Clock) (top : ℕ) (ready
 
     module _ (n : ℕ) (low : n < limit) (past : List (ℕ → ℕ)) (i : ℕ) where
       tick_same : (t : Tick) → tick_moves net cut n past i t ≡ tick_moves net clock n past i t
-      tick_same (Take s t) = refl
-      tick_same (See s t) = refl
-      tick_same (Did (Put s t)) = refl
       tick_same (Did (Load m a)) = cut_low i m n low
       tick_same (Did (Store m a v)) = cut_low i m n low
-      tick_same (Did Local) = refl
-      tick_same End = refl
+      tick_same _ = refl
 
       next_same : (o : Option Tick) → next_moves net cut n past i o ≡ next_moves net clock n past i o
       next_same None = refl
@@ -143,18 +135,18 @@ module _ (net : Network) (ok : IsNetwork net) (clock : Clock) (top : ℕ) (ready
         let low : t.0 ≤ limit = omega arith in
         (t.0, t.1, low, subst (HaveJoinedEnded net) (count_same limit t.0 low) t.3)
 
-    -- by any bound that is no less, and the answers before it
-    pub in_time_by : (bound : ℕ) → 1 ≤ bound → 1 + a * suc top ≤ bound → (limit : ℕ) → bound + lost ready limit ≤ limit → (n : ℕ) × (1 ≤ n) × (n ≤ bound + lost ready n) × HaveJoinedEnded net (count_at net clock n)
-    in_time_by bound some wide zero enough = absurd (omega arith)
-    in_time_by bound some wide (suc limit) enough =
-        ⊎_elim {C = (n : ℕ) × (1 ≤ n) × (n ≤ bound + lost ready n) × HaveJoinedEnded net (count_at net clock n)}
-        (λ (late : limit < bound + lost ready limit).
-        let t = soon (suc limit) (omega arith) in
+    -- with the cycles before it in which some memory does not answer
+    pub in_time_by : (limit : ℕ) → 1 + a * suc top + lost ready limit ≤ limit → (n : ℕ) × (1 ≤ n) × (n ≤ 1 + a * suc top + lost ready n) × HaveJoinedEnded net (count_at net clock n)
+    in_time_by zero enough = absurd (omega arith)
+    in_time_by (suc limit) enough =
+        ⊎_elim {C = (n : ℕ) × (1 ≤ n) × (n ≤ 1 + a * suc top + lost ready n) × HaveJoinedEnded net (count_at net clock n)}
+        (λ (late : limit < 1 + a * suc top + lost ready limit).
+        let t = soon (suc limit) enough in
         let low : t.0 ≤ suc limit = t.2 in
         (t.0, t.1, before t.0 low late, t.3))
-        (λ (early : bound + lost ready limit ≤ limit). in_time_by bound some wide limit early)
-        (cases_lt limit (bound + lost ready limit)) where
-          before : (n : ℕ) → n ≤ suc limit → limit < bound + lost ready limit → n ≤ bound + lost ready n
+        (λ (early : 1 + a * suc top + lost ready limit ≤ limit). in_time_by limit early)
+        (cases_lt limit (1 + a * suc top + lost ready limit)) where
+          before : (n : ℕ) → n ≤ suc limit → limit < 1 + a * suc top + lost ready limit → n ≤ 1 + a * suc top + lost ready n
           before n low late =
               ⊎_elim
               (λ (inside : n < suc limit). let b = lost_behind ready n limit (omega arith) in omega arith)

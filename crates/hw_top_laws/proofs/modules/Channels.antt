@@ -11,7 +11,6 @@ use Rattle.tapa_syntax.specs.WellFormed.{IsWellFormed}
 use Rattle.vlog_tree.specs.Form.{ModuleTree, IsModule}
 use Rattle.tapa_base.specs.Lists.{Has}
 use Rattle.vlog_tree.specs.Table.{Name}
-use Rattle.hw_task_laws.proofs.fit.Scopes.{few_bits}
 use Rattle.hw_channel_lines.specs.Texts.{step_tree, even_tree, odd_tree, row_tree, fifo_tree, plain_tree, relayed_tree, AreRelays, One, More, AreModules, Alone, Relayed}
 use Rattle.hw_channel_laws.proofs.modules.Forms.{step_form, even_form, odd_form, fifo_form, plain_form, relayed_form}
 use Rattle.hw_channel_laws.proofs.modules.Parts.{IsPart, Outer, Queue, Part, part_of, no_tasks, names_tell}
@@ -20,7 +19,8 @@ use Rattle.hw_top_lines.specs.Channels.{relays_below, relays, channel_modules}
 use Rattle.hw_top_lines.specs.Designs.{AreShort, stream_modules, channels_before}
 use Rattle.hw_top_lines.specs.Texts.{token_bits}
 use Rattle.hw_top_laws.proofs.modules.Added.{new_of, new_keeps, new_apart, new_has}
-use Rattle.hw_top_laws.proofs.modules.Tasks.{some_index}
+use Rattle.tapa_base.proofs.Tests.{few_bits}
+use Rattle.tapa_base.proofs.Got.{got_low as some_index}
 
 -- ---- the modules of one channel
 
@@ -72,16 +72,9 @@ pub record HasSizes (program : Program) (added : List ℕ) (s : ℕ) (r : Stream
   pub deep : r.depth ≤ 4096
   pub late : slice_index added s ≤ 500000
 
-some_bit : (k : Kind) → 1 ≤ bits_of k
+pub some_bit : (k : Kind) → 1 ≤ bits_of k
 some_bit kind.Bool = omega arith
-some_bit kind.I8 = omega arith
-some_bit kind.U8 = omega arith
-some_bit kind.I16 = omega arith
-some_bit kind.U16 = omega arith
-some_bit kind.I32 = omega arith
-some_bit kind.U32 = omega arith
-some_bit kind.I64 = omega arith
-some_bit kind.U64 = omega arith
+some_bit _ = omega arith
 
 module _ (program : Program) (ok : IsWellFormed program) (added : List ℕ) (short : AreShort added) where
   pub sizes : (s : ℕ) (r : Stream) → slice_get program.streams.items s ≡ Some r → HasSizes program added s r

@@ -4,7 +4,6 @@ use Rattle.std.specs.Prelude.{◌⊎◌, bytes_eq, nat_le, slice_get, slice_inde
 use Rattle.std.specs.List.{flat_map}
 use Rattle.std.specs.Cmp.Lexicographic.{bytes_decides}
 use Rattle.std.proofs.lemmas.Bool.{false_from_ne_true}
-use Rattle.std.proofs.lemmas.Bool.Decides.{nat_tests}
 use Rattle.tapa_syntax.specs.declared.program.Leaf.{Leaf}
 use Rattle.tapa_syntax.specs.declared.program.Program.{Program}
 use Rattle.tapa_syntax.specs.declared.program.Stream.{Stream}
@@ -35,6 +34,7 @@ use Rattle.hw_top_laws.specs.modules.Lower.{lower_modules, task_module, KeepProm
 use Rattle.hw_top_laws.proofs.modules.Added.{apart_append, placed_apart}
 use Rattle.hw_top_laws.proofs.modules.Channels.{sizes, IsOfStream, in_channels, channels_apart, channel_are, stream_there, channel_form, channel_no_task}
 use Rattle.hw_top_laws.proofs.modules.Tasks.{IsTask, in_tasks, has_task, title, task_title, not_top, tasks_apart}
+use Rattle.vlog_module_laws.proofs.Blocks.{low_of as few}
 
 -- ---- a name that no module has
 none_named : (ms : List ModuleTree) (x : Name) → ((m : ModuleTree) → Has ms m → m.name ≡ x → ⊥) → times (map module_declared ms) x ≡ 0
@@ -52,9 +52,6 @@ unfolding module_uses port_uses
 not_doubled ms m r p h =
     right (module_uses ms m) r.names (p.name, is_doubled_name (declared m) p.name)
     (inr (has_left (flat_map (port_uses (declared m)) m.ports) (flat_map (item_uses ms (declared m)) m.items) (p.name, is_doubled_name (declared m) p.name) (has_flat (port_uses (declared m)) m.ports p (p.name, is_doubled_name (declared m) p.name) h (inl refl))))
-
-few : (n : ℕ) → nat_le 2 n ≡ false → n ≤ 1
-few n h = grind (arith, nat_tests)
 
 pub ports_once : (ms : List ModuleTree) (m : ModuleTree) → IsRightBeside ms m → (x : Name) → times_in (port_names m.ports) x ≤ 1
 ports_once ms m r x = by (times_in (port_names m.ports) x) refl where

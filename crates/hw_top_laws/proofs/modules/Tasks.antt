@@ -1,5 +1,5 @@
 -- The modules of the used leaf tasks.
-use Rattle.std.proofs.Common.{◌≡◌, ℕ, zero, suc, ◌<◌, Bool, true, false, cond, List, [], ◌∷◌, length, drop, Option, Some, None, inl, inr, refl, sym, ap, subst, ◌∙◌, arith}
+use Rattle.std.proofs.Common.{◌≡◌, ℕ, zero, suc, Bool, true, false, cond, List, [], ◌∷◌, length, drop, Option, Some, None, inl, inr, refl, sym, ap, subst, ◌∙◌, arith}
 use Rattle.std.specs.Prelude.{map, option_map, slice_get}
 use Rattle.std.proofs.lemmas.Option.{slice_get-map}
 use Rattle.tapa_syntax.specs.declared.program.Leaf.{Leaf}
@@ -19,6 +19,7 @@ use Rattle.hw_top_lines.specs.Legal.{AreMachinesOf}
 use Rattle.tapa_syntax.specs.OwnNames.{HasOwnNames}
 use Rattle.hw_top_laws.specs.modules.Lower.{task_module}
 use Rattle.hw_top_laws.proofs.modules.Added.{apart_each}
+use Rattle.tapa_base.proofs.Got.{got_low as some_index}
 
 -- the name of a leaf task's module
 pub title : (leaf : Leaf) (machine : Fsm) → (task_module leaf machine).name ≡ task_name machine.name
@@ -26,11 +27,6 @@ title leaf machine = name_of_all (task_elements (shape_of machine leaf.memories.
 
 pub same_titles : (x y : Name) → task_name x ≡ task_name y → x ≡ y
 same_titles x y e = ap (drop 2) e
-
-pub some_index : {A : Type 0} (xs : List A) (i : ℕ) (x : A) → slice_get xs i ≡ Some x → i < length xs
-some_index [] i x e = cc
-some_index (y ∷ ys) zero x e = omega arith
-some_index (y ∷ ys) (suc i) x e = let r = some_index ys i x e in omega (arith, r)
 
 module _ (program : Program) (own : HasOwnNames program) (machines : List Fsm) (lowered : AreMachinesOf program machines) where
   pub record IsTask (m : ModuleTree) : Type 0 where

@@ -8,8 +8,9 @@ use Rattle.vlog_tree.specs.Labels.{rst, done, scalar, m_ack, m_rdata, m_addr, m_
 use Rattle.vlog_tree.specs.Names.{is_name, starts_name, goes_on, is_keyword, always_to_default, defparam_to_event, for_to_input, instance_to_not, notif0_to_real, realtime_to_strong0, strong1_to_unsigned, use_to_xor}
 use Rattle.vlog_tree.specs.Table.{Name, clk}
 use Rattle.vlog_module_laws.proofs.Labelled.{early_name}
-use Rattle.hw_build.proofs.Forms.{all_append, yes_and}
+use Rattle.hw_build.proofs.Forms.{all_append}
 use Rattle.hw_top_lines.specs.Names.{s_has, s_dout, s_take, task_instance, channel_instance}
+use Rattle.std.proofs.lemmas.Bool.{and_from as yes_and}
 
 -- ---- sorts, in the order of the top's elements
 
@@ -76,103 +77,67 @@ pub record IsMade (front : Name) (k : ℕ) (l x : Name) : Type 0 where
   pub sorted : sort x ≡ k
   pub named : is_name x ≡ true
 
-made : (front end : Name) (k : ℕ) (l x : Name) → x ≡ front ++ (l ++ end) → sort x ≡ k → end_of k ≡ end → is_name x ≡ true → IsMade front k l x
-made front end k l x e s f n = record { is = e ∙ ap (λ z. front ++ (l ++ z)) (sym (ap end_of s ∙ f)); sorted = s; named = n }
-
 pub same_label : (front : Name) (j k : ℕ) (l m x : Name) → IsMade front j l x → IsMade front k m x → l ≡ m
 same_label front j k l m x a b = same_between front (end_of (sort x)) l m (sym a.is ∙ b.is)
 
-pub addr_sort : (l : Name) → sort (m_addr l) ≡ 3
-unfolding m_addr
-addr_sort l = sort_between (codes "m_") (codes "_addr") l
+-- names of sort k, one of each label
+pub record AreNames (front : Name) (k : ℕ) (name : Name → Name) : Type 0 where
+  pub sorts : (l : Name) → sort (name l) ≡ k
+  pub made : (l : Name) → list_all goes_on l ≡ true → IsMade front k l (name l)
 
-pub wdata_sort : (l : Name) → sort (m_wdata l) ≡ 4
-unfolding m_wdata
-wdata_sort l = sort_between (codes "m_") (codes "_wdata") l
+names_of : (c : ℕ) (end : Name) (k : ℕ) → ((l : Name) → sort (c ∷ 95 ∷ (l ++ end)) ≡ k) → end_of k ≡ end → starts_name c ≡ true → list_all goes_on end ≡ true → AreNames (c ∷ 95 ∷ []) k (λ l. c ∷ 95 ∷ (l ++ end))
+names_of c end k s e first rest = record {
+  sorts = s;
+  made = λ l h. record { is = ap (λ z. c ∷ 95 ∷ (l ++ z)) (sym (ap end_of (s l) ∙ e)); sorted = s l; named = between_name c l end first h rest };
+}
 
-pub we_sort : (l : Name) → sort (m_we l) ≡ 5
-unfolding m_we
-we_sort l = sort_between (codes "m_") (codes "_we") l
+pub addr_names : AreNames (codes "m_") 3 m_addr
+unfolding m_addr starts_name goes_on
+addr_names = names_of 109 (codes "_addr") 3 (sort_between (codes "m_") (codes "_addr")) refl refl refl
 
-pub ack_sort : (l : Name) → sort (m_ack l) ≡ 6
-unfolding m_ack
-ack_sort l = sort_between (codes "m_") (codes "_ack") l
+pub wdata_names : AreNames (codes "m_") 4 m_wdata
+unfolding m_wdata starts_name goes_on
+wdata_names = names_of 109 (codes "_wdata") 4 (sort_between (codes "m_") (codes "_wdata")) refl refl refl
 
-pub rdata_sort : (l : Name) → sort (m_rdata l) ≡ 7
-unfolding m_rdata
-rdata_sort l = sort_between (codes "m_") (codes "_rdata") l
+pub we_names : AreNames (codes "m_") 5 m_we
+unfolding m_we starts_name goes_on
+we_names = names_of 109 (codes "_we") 5 (sort_between (codes "m_") (codes "_we")) refl refl refl
 
-pub din_sort : (l : Name) → sort (s_din l) ≡ 8
-unfolding s_din
-din_sort l = sort_between (codes "s_") (codes "_din") l
+pub ack_names : AreNames (codes "m_") 6 m_ack
+unfolding m_ack starts_name goes_on
+ack_names = names_of 109 (codes "_ack") 6 (sort_between (codes "m_") (codes "_ack")) refl refl refl
 
-pub wr_sort : (l : Name) → sort (s_wr l) ≡ 9
-unfolding s_wr
-wr_sort l = sort_between (codes "s_") (codes "_wr") l
+pub rdata_names : AreNames (codes "m_") 7 m_rdata
+unfolding m_rdata starts_name goes_on
+rdata_names = names_of 109 (codes "_rdata") 7 (sort_between (codes "m_") (codes "_rdata")) refl refl refl
 
-pub rdy_sort : (l : Name) → sort (s_rdy l) ≡ 10
-unfolding s_rdy
-rdy_sort l = sort_between (codes "s_") (codes "_rdy") l
+pub din_names : AreNames (codes "s_") 8 s_din
+unfolding s_din starts_name goes_on
+din_names = names_of 115 (codes "_din") 8 (sort_between (codes "s_") (codes "_din")) refl refl refl
 
-pub has_sort : (l : Name) → sort (s_has l) ≡ 11
-unfolding s_has
-has_sort l = sort_between (codes "s_") (codes "_has") l
+pub wr_names : AreNames (codes "s_") 9 s_wr
+unfolding s_wr starts_name goes_on
+wr_names = names_of 115 (codes "_wr") 9 (sort_between (codes "s_") (codes "_wr")) refl refl refl
 
-pub dout_sort : (l : Name) → sort (s_dout l) ≡ 12
-unfolding s_dout
-dout_sort l = sort_between (codes "s_") (codes "_dout") l
+pub rdy_names : AreNames (codes "s_") 10 s_rdy
+unfolding s_rdy starts_name goes_on
+rdy_names = names_of 115 (codes "_rdy") 10 (sort_between (codes "s_") (codes "_rdy")) refl refl refl
 
-pub take_sort : (l : Name) → sort (s_take l) ≡ 15
-unfolding s_take
-take_sort l = sort_between (codes "s_") (codes "_take") l
+pub has_names : AreNames (codes "s_") 11 s_has
+unfolding s_has starts_name goes_on
+has_names = names_of 115 (codes "_has") 11 (sort_between (codes "s_") (codes "_has")) refl refl refl
+
+pub dout_names : AreNames (codes "s_") 12 s_dout
+unfolding s_dout starts_name goes_on
+dout_names = names_of 115 (codes "_dout") 12 (sort_between (codes "s_") (codes "_dout")) refl refl refl
+
+pub take_names : AreNames (codes "s_") 15 s_take
+unfolding s_take starts_name goes_on
+take_names = names_of 115 (codes "_take") 15 (sort_between (codes "s_") (codes "_take")) refl refl refl
 
 pub scalar_sort : (l : Name) → sort (scalar l) ≡ 2
 unfolding scalar
 scalar_sort l = refl
-
-pub made_addr : (l : Name) → list_all goes_on l ≡ true → IsMade (codes "m_") 3 l (m_addr l)
-unfolding m_addr starts_name goes_on
-made_addr l h = made (codes "m_") (codes "_addr") 3 l (m_addr l) refl (addr_sort l) refl (between_name 109 l (codes "_addr") refl h refl)
-
-pub made_wdata : (l : Name) → list_all goes_on l ≡ true → IsMade (codes "m_") 4 l (m_wdata l)
-unfolding m_wdata starts_name goes_on
-made_wdata l h = made (codes "m_") (codes "_wdata") 4 l (m_wdata l) refl (wdata_sort l) refl (between_name 109 l (codes "_wdata") refl h refl)
-
-pub made_we : (l : Name) → list_all goes_on l ≡ true → IsMade (codes "m_") 5 l (m_we l)
-unfolding m_we starts_name goes_on
-made_we l h = made (codes "m_") (codes "_we") 5 l (m_we l) refl (we_sort l) refl (between_name 109 l (codes "_we") refl h refl)
-
-pub made_ack : (l : Name) → list_all goes_on l ≡ true → IsMade (codes "m_") 6 l (m_ack l)
-unfolding m_ack starts_name goes_on
-made_ack l h = made (codes "m_") (codes "_ack") 6 l (m_ack l) refl (ack_sort l) refl (between_name 109 l (codes "_ack") refl h refl)
-
-pub made_rdata : (l : Name) → list_all goes_on l ≡ true → IsMade (codes "m_") 7 l (m_rdata l)
-unfolding m_rdata starts_name goes_on
-made_rdata l h = made (codes "m_") (codes "_rdata") 7 l (m_rdata l) refl (rdata_sort l) refl (between_name 109 l (codes "_rdata") refl h refl)
-
-pub made_din : (l : Name) → list_all goes_on l ≡ true → IsMade (codes "s_") 8 l (s_din l)
-unfolding s_din starts_name goes_on
-made_din l h = made (codes "s_") (codes "_din") 8 l (s_din l) refl (din_sort l) refl (between_name 115 l (codes "_din") refl h refl)
-
-pub made_wr : (l : Name) → list_all goes_on l ≡ true → IsMade (codes "s_") 9 l (s_wr l)
-unfolding s_wr starts_name goes_on
-made_wr l h = made (codes "s_") (codes "_wr") 9 l (s_wr l) refl (wr_sort l) refl (between_name 115 l (codes "_wr") refl h refl)
-
-pub made_rdy : (l : Name) → list_all goes_on l ≡ true → IsMade (codes "s_") 10 l (s_rdy l)
-unfolding s_rdy starts_name goes_on
-made_rdy l h = made (codes "s_") (codes "_rdy") 10 l (s_rdy l) refl (rdy_sort l) refl (between_name 115 l (codes "_rdy") refl h refl)
-
-pub made_has : (l : Name) → list_all goes_on l ≡ true → IsMade (codes "s_") 11 l (s_has l)
-unfolding s_has starts_name goes_on
-made_has l h = made (codes "s_") (codes "_has") 11 l (s_has l) refl (has_sort l) refl (between_name 115 l (codes "_has") refl h refl)
-
-pub made_dout : (l : Name) → list_all goes_on l ≡ true → IsMade (codes "s_") 12 l (s_dout l)
-unfolding s_dout starts_name goes_on
-made_dout l h = made (codes "s_") (codes "_dout") 12 l (s_dout l) refl (dout_sort l) refl (between_name 115 l (codes "_dout") refl h refl)
-
-pub made_take : (l : Name) → list_all goes_on l ≡ true → IsMade (codes "s_") 15 l (s_take l)
-unfolding s_take starts_name goes_on
-made_take l h = made (codes "s_") (codes "_take") 15 l (s_take l) refl (take_sort l) refl (between_name 115 l (codes "_take") refl h refl)
 
 -- ---- a label behind a front
 

@@ -1,20 +1,19 @@
 -- Elements whose names stand once, are names, and have sorts from one to before another.
-use Rattle.std.proofs.Common.{◌≡◌, ℕ, zero, suc, ◌^◌, ◌<◌, ◌≤◌, true, List, [], ◌∷◌, ◌++◌, length, inl, inr, refl, sym, ap, subst, arith, ⊎_elim}
+use Rattle.std.proofs.Common.{◌≡◌, ℕ, suc, ◌^◌, ◌<◌, ◌≤◌, true, List, [], ◌∷◌, ◌++◌, length, inl, inr, refl, sym, ap, subst, arith, ⊎_elim}
 use Rattle.std.specs.List.{list_all, flat_map}
-use Rattle.std.proofs.lemmas.Bool.{cases_eq}
+use Rattle.std.proofs.lemmas.Bool.{and_from as yes_and}
 use Rattle.std.proofs.lemmas.Grind.{flat_map-append}
 use Rattle.tapa_base.specs.Lists.{Has}
 use Rattle.vlog_tree.specs.Names.{is_name}
 use Rattle.vlog_tree.specs.Table.{Name}
 use Rattle.tapa_base.proofs.Lists.{has_split}
 use Rattle.hw_build.specs.Elements.{Element}
-use Rattle.hw_build.proofs.Forms.{yes_and}
 use Rattle.hw_build.specs.Scope.{each}
 use Rattle.hw_build.specs.Fits.{declared_names, AreOnce}
 use Rattle.hw_build.proofs.Parts.{of_each}
 use Rattle.hw_build.proofs.Once.{two_once, parts_once}
 use Rattle.hw_task_laws.proofs.names.Bounds.{left_short, right_short}
-use Rattle.hw_task_laws.proofs.names.Named.{single, flat_each}
+use Rattle.hw_task_laws.proofs.names.Named.{single, flat_each, each_short}
 use Rattle.hw_top_laws.proofs.names.Made.{sort}
 
 -- a name of which Q holds, of a sort
@@ -41,12 +40,6 @@ wider P Q a b low high x f h k t =
     let l = t.below in
     record { so = f t.so; from = omega (arith, g, h); below = omega (arith, l, k); named = t.named }
 
-pub named_wide : (P Q : Name → Type 0) (low high : ℕ) (es : List Element) → ((x : Name) → P x → Q x) → Named P low high es → Named Q low high es
-named_wide P Q low high es f h = record { once = h.once; names = λ x k. wider P Q low high low high x (f x) (omega arith) (omega arith) (h.names x k) }
-
-pub names_wide : (P Q : Name → Type 0) (low high : ℕ) (es : List Element) → ((x : Name) → P x → Q x) → Names P low high es → Names Q low high es
-names_wide P Q low high es f h = λ s. named_wide P Q low high es f (h s)
-
 -- two parts without a name in common
 joined : (P R Q : Name → Type 0) (a b c d low high : ℕ) (xs ys : List Element) → ((x : Name) → P x → Q x) → ((x : Name) → R x → Q x) → low ≤ a → b ≤ high → low ≤ c → d ≤ high
     → ((x : Name) → IsOf P a b x → IsOf R c d x → ⊥) → Named P a b xs → Named R c d ys → Named Q low high (xs ++ ys)
@@ -70,14 +63,6 @@ pub names_apart : (P R Q : Name → Type 0) (low high : ℕ) (xs ys : List Eleme
     → Names Q low high (xs ++ ys)
 names_apart P R Q low high xs ys f g apart h k = λ s.
     joined P R Q low high low high low high xs ys f g (omega arith) (omega arith) (omega arith) (omega arith) (λ x p q. apart x p.so q.so) (h (left_short xs ys s)) (k (right_short xs ys s))
-
-pub each_short : (f : ℕ → List Element) (n k : ℕ) → k < n → length (each f n) ≤ 2 ^ 64 → length (f k) ≤ 2 ^ 64
-each_short f zero k l h = absurd (omega arith)
-each_short f (suc n) k l h =
-    ⊎_elim
-    (λ e. subst (λ j. length (f j) ≤ 2 ^ 64) (sym e) (right_short (each f n) (f n) h))
-    (λ e. each_short f n k (omega (arith, l, e)) (left_short (each f n) (f n) h))
-    (cases_eq k n)
 
 -- parts that their names tell
 pub names_each : (Q : Name → Type 0) (P : ℕ → Name → Type 0) (low high : ℕ) (f : ℕ → List Element) (n : ℕ) → ((k : ℕ) (x : Name) → P k x → Q x) → ((j k : ℕ) (x : Name) → P j x → P k x → j ≡ k)

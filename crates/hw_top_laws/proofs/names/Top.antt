@@ -1,7 +1,6 @@
 -- The names of the whole top, part by part.
 use Rattle.std.proofs.Common.{◌≡◌, ℕ, zero, suc, ◌+◌, ◌-◌, ◌^◌, ◌<◌, ◌≤◌, true, List, [], ◌∷◌, ◌++◌, length, Option, Some, None, inl, inr, refl, sym, ap, subst, ◌∙◌, arith, length-append}
-use Rattle.std.specs.Prelude.{codes, map, option_map, slice_get, slice_index}
-use Rattle.std.proofs.lemmas.Option.{slice_get-map}
+use Rattle.std.specs.Prelude.{codes, map, slice_get, slice_index}
 use Rattle.std.specs.List.{list_all, flat_map}
 use Rattle.tapa_base.specs.Kinds.{bits_of}
 use Rattle.tapa_base.specs.declared.kind.Kind.{Kind}
@@ -25,7 +24,7 @@ use Rattle.hw_build.specs.Fits.{declared_names}
 use Rattle.hw_build.proofs.Once.{two_once}
 use Rattle.hw_channel_lines.specs.Names.{channel_name}
 use Rattle.hw_lines.specs.Texts.{task_name}
-use Rattle.hw_task_laws.proofs.names.Bounds.{got_some, each_many, left_short, right_short}
+use Rattle.hw_task_laws.proofs.names.Bounds.{each_many, left_short, right_short}
 use Rattle.hw_task_laws.proofs.names.Named.{single}
 use Rattle.hw_task_laws.proofs.names.Rows.{AreRow, row_append}
 use Rattle.hw_top_lines.specs.Names.{s_has, s_dout, s_take, task_instance, channel_instance, ended_net, waits}
@@ -35,25 +34,12 @@ use Rattle.tapa_syntax.specs.OwnNames.{AreApart, HasOwnNames}
 use Rattle.hw_top_lines.specs.Texts.{scalar_port, memory_ports, ports, token_bits, stream_wires, take_wire, of_leaf, of_instance, at_instance, task_connections, task_part, ended_wire, still_waits, is_detached, waiting, none_waits, doneness, channel_connections, channel_part, wires, instances, top_elements}
 use Rattle.hw_top_laws.specs.names.Names.{TopNamesAreOnce, TopNetsAreNamed}
 use Rattle.hw_top_laws.proofs.names.Written.{label_goes_on}
-use Rattle.hw_top_laws.proofs.names.Made.{sort, IsMade, same_label, made_addr, made_wdata, made_we, made_ack, made_rdata, made_din, made_wr, made_rdy, made_has, made_dout, made_take, IsFronted, same_fronted, fronted_scalar, fronted_task, fronted_channel, clk_sort, rst_sort, done_sort, done_is_name}
+use Rattle.hw_top_laws.proofs.names.Made.{sort, IsMade, same_label, addr_names, wdata_names, we_names, ack_names, rdata_names, din_names, wr_names, rdy_names, has_names, dout_names, take_names, IsFronted, same_fronted, fronted_scalar, fronted_task, fronted_channel, clk_sort, rst_sort, done_sort, done_is_name}
 use Rattle.hw_top_laws.proofs.names.Named.{Named, Names, Any, names_both, names_each, names_none, names_one, names_more, all_named}
 use Rattle.hw_top_laws.proofs.names.Bound.{IsSpelled, OfInstance, OfParameter, bound_named, told_parameter, told_instance, ended_facts, same_ended, waits_named, nodes_row}
+use Rattle.tapa_base.proofs.Got.{some_at as got_some, got_left, get_right as got_right, got_map}
 
 -- ---- elements of lists
-
-pub got_map : {A B : Type 0} (f : A → B) (xs : List A) (i : ℕ) (x : A) → slice_get xs i ≡ Some x → slice_get (map f xs) i ≡ Some (f x)
-got_map f xs i x e = slice_get-map f xs i ∙ ap (option_map f) e
-
-pub got_left : {A : Type 0} (xs ys : List A) (i : ℕ) (x : A) → slice_get xs i ≡ Some x → slice_get (xs ++ ys) i ≡ Some x
-got_left [] ys i x e = cc
-got_left (z ∷ zs) ys zero x e = e
-got_left (z ∷ zs) ys (suc i) x e = got_left zs ys i x e
-
-pub got_right : {A : Type 0} (xs ys : List A) (i : ℕ) (x : A) → slice_get ys i ≡ Some x → slice_get (xs ++ ys) (length xs + i) ≡ Some x
-got_right [] ys i x e = let s : i ≡ 0 + i = omega arith in subst (λ n. slice_get ys n ≡ Some x) s e
-got_right (z ∷ zs) ys i x e =
-    let s : suc (length zs + i) ≡ suc (length zs) + i = omega arith in
-    subst (λ n. slice_get (z ∷ (zs ++ ys)) n ≡ Some x) s (got_right zs ys i x e)
 
 -- ---- parts of the program
 
@@ -68,6 +54,16 @@ told_at : {A : Type 0} (parts : List A) (label : A → Name) (M : Name → Name 
 told_at parts label M same apart j k x a b =
     apart j k (label a.part) (got_map label parts j a.part a.got) (got_map label parts k b.part b.got ∙ ap Some (sym (same (label a.part) (label b.part) x a.made b.made)))
 
+-- a part for each of a list, all of whose names are made of its label
+parts_named : {A : Type 0} (parts : List A) (label : A → Name) (M : Name → Name → Type 0) (low high : ℕ) (part : ℕ → Option A → List Element) → ((l m x : Name) → M l x → M m x → l ≡ m)
+    → AreApart (map label parts) → ((k : ℕ) → part k None ≡ []) → ((k : ℕ) (a : A) → slice_get parts k ≡ Some a → Names (IsAt parts label M k) low high (part k (Some a)))
+    → Names Any low high (each (λ k. part k (slice_get parts k)) (length parts))
+parts_named {A} parts label M low high part same apart none given =
+    names_each Any (IsAt parts label M) low high (λ k. part k (slice_get parts k)) (length parts) (λ k x h. tt) (told_at parts label M same apart) (λ k l. at k (slice_get parts k) refl) where
+      at : (k : ℕ) (o : Option A) → slice_get parts k ≡ o → Names (IsAt parts label M k) low high (part k o)
+      at k None e = subst (λ (es : List Element). Names (IsAt parts label M k) low high es) (sym (none k)) (names_none (IsAt parts label M k) low high)
+      at k (Some a) e = given k a e
+
 -- of some sort
 abbrev Made : Name → Name → Name → Type 0
 Made front l x = (k : ℕ) × IsMade front k l x
@@ -79,11 +75,7 @@ same_made : (front l m x : Name) → Made front l x → Made front m x → l ≡
 same_made front l m x a b = same_label front a.0 b.0 l m x a.1 b.1
 
 module _ (program : Program) (own : HasOwnNames program) where
-  abbrev scalars : List Scalar
-  scalars = program.scalars.items
-
-  abbrev memories : List Memory
-  memories = program.memories.items
+  open program use {scalars.{items as scalars}, memories.{items as memories}}
 
   scalars_apart : AreApart (map (λ (c : Scalar). c.name) scalars)
   scalars_apart p q x h k =
@@ -112,19 +104,12 @@ module _ (program : Program) (own : HasOwnNames program) where
 
   -- ---- ports
 
-  abbrev ScalarAt : ℕ → Name → Type 0
-  ScalarAt k x = IsAt scalars (λ (c : Scalar). c.name) (Fronted (codes "v_") 2) k x
-
-  scalar_names : (k : ℕ) (o : Option Scalar) → slice_get scalars k ≡ o → Names (ScalarAt k) 2 3 (scalar_port o)
-  scalar_names k None e = names_none (ScalarAt k) 2 3
-  scalar_names k (Some c) e =
-      let f = fronted_scalar c.name (scalar_written k c e) in
-      names_one (ScalarAt k) 2 (Input (bits_of c.kind) (scalar c.name)) (scalar c.name) refl (record { part = c; got = e; made = f }) f.sorted f.named
-
   scalars_named : Names Any 2 3 (each (λ x. scalar_port (slice_get scalars x)) (length scalars))
   scalars_named =
-      names_each Any ScalarAt 2 3 (λ x. scalar_port (slice_get scalars x)) (length scalars) (λ k x h. tt)
-      (told_at scalars (λ (c : Scalar). c.name) (Fronted (codes "v_") 2) (λ l m x a b. same_fronted (codes "v_") 2 2 l m x a b) scalars_apart) (λ k l. scalar_names k (slice_get scalars k) refl)
+      parts_named scalars (λ (c : Scalar). c.name) (Fronted (codes "v_") 2) 2 3 (λ k. scalar_port) (same_fronted (codes "v_") 2 2) scalars_apart (λ k. refl)
+      (λ k c e.
+      let f = fronted_scalar c.name (scalar_written k c e) in
+      names_one (IsAt scalars (λ (c : Scalar). c.name) (Fronted (codes "v_") 2) k) 2 (Input (bits_of c.kind) (scalar c.name)) (scalar c.name) refl (record { part = c; got = e; made = f }) f.sorted f.named)
 
   abbrev MemoryAt : ℕ → Name → Type 0
   MemoryAt k x = IsAt memories (λ (m : Memory). m.name) (Made (codes "m_")) k x
@@ -132,22 +117,20 @@ module _ (program : Program) (own : HasOwnNames program) where
   memory_one : (k : ℕ) (m : Memory) → slice_get memories k ≡ Some m → (s : ℕ) (e : Element) (y : Name) → declared_names e ≡ y ∷ [] → IsMade (codes "m_") s m.name y → Names (MemoryAt k) s (suc s) (e ∷ [])
   memory_one k m g s e y is f = names_one (MemoryAt k) s e y is (record { part = m; got = g; made = (s, f) }) f.sorted f.named
 
-  memory_names : (k : ℕ) (o : Option Memory) → slice_get memories k ≡ o → Names (MemoryAt k) 3 8 (memory_ports o)
-  memory_names k None e = names_none (MemoryAt k) 3 8
-  memory_names k (Some m) e =
+  memory_names : (k : ℕ) (m : Memory) → slice_get memories k ≡ Some m → Names (MemoryAt k) 3 8 (memory_ports (Some m))
+  memory_names k m e =
       let w = memory_written k m e in
       let b = bits_of m.kind in
       let Q = MemoryAt k in
-      names_more Q 3 4 8 (Outlet 64 (m_addr m.name)) _ (omega arith) (omega arith) (memory_one k m e 3 _ (m_addr m.name) refl (made_addr m.name w))
-      (names_more Q 4 5 8 (Outlet b (m_wdata m.name)) _ (omega arith) (omega arith) (memory_one k m e 4 _ (m_wdata m.name) refl (made_wdata m.name w))
-      (names_more Q 5 6 8 (Outlet 1 (m_we m.name)) _ (omega arith) (omega arith) (memory_one k m e 5 _ (m_we m.name) refl (made_we m.name w))
-      (names_more Q 6 7 8 (Input 1 (m_ack m.name)) _ (omega arith) (omega arith) (memory_one k m e 6 _ (m_ack m.name) refl (made_ack m.name w))
-      (memory_one k m e 7 (Input b (m_rdata m.name)) (m_rdata m.name) refl (made_rdata m.name w)))))
+      names_more Q 3 4 8 (Outlet 64 (m_addr m.name)) _ (omega arith) (omega arith) (memory_one k m e 3 _ (m_addr m.name) refl (addr_names.made m.name w))
+      (names_more Q 4 5 8 (Outlet b (m_wdata m.name)) _ (omega arith) (omega arith) (memory_one k m e 4 _ (m_wdata m.name) refl (wdata_names.made m.name w))
+      (names_more Q 5 6 8 (Outlet 1 (m_we m.name)) _ (omega arith) (omega arith) (memory_one k m e 5 _ (m_we m.name) refl (we_names.made m.name w))
+      (names_more Q 6 7 8 (Input 1 (m_ack m.name)) _ (omega arith) (omega arith) (memory_one k m e 6 _ (m_ack m.name) refl (ack_names.made m.name w))
+      (memory_one k m e 7 (Input b (m_rdata m.name)) (m_rdata m.name) refl (rdata_names.made m.name w)))))
 
   memories_named : Names Any 3 8 (each (λ m. memory_ports (slice_get memories m)) (length memories))
   memories_named =
-      names_each Any MemoryAt 3 8 (λ m. memory_ports (slice_get memories m)) (length memories) (λ k x h. tt)
-      (told_at memories (λ (m : Memory). m.name) (Made (codes "m_")) (λ l m x a b. same_made (codes "m_") l m x a b) memories_apart) (λ k l. memory_names k (slice_get memories k) refl)
+      parts_named memories (λ (m : Memory). m.name) (Made (codes "m_")) 3 8 (λ k. memory_ports) (same_made (codes "m_")) memories_apart (λ k. refl) memory_names
 
   ports_named : Names Any 2 8 (ports program)
   ports_named =
@@ -161,32 +144,24 @@ module _ (program : Program) (own : HasOwnNames program) where
   stream_one : (k : ℕ) (r : Stream) → slice_get program.streams.items k ≡ Some r → (s : ℕ) (e : Element) (y : Name) → declared_names e ≡ y ∷ [] → IsMade (codes "s_") s r.label y → Names (StreamAt k) s (suc s) (e ∷ [])
   stream_one k r g s e y is f = names_one (StreamAt k) s e y is (record { part = r; got = g; made = (s, f) }) f.sorted f.named
 
-  stream_names : (k : ℕ) (o : Option Stream) → slice_get program.streams.items k ≡ o → Names (StreamAt k) 8 13 (stream_wires o)
-  stream_names k None e = names_none (StreamAt k) 8 13
-  stream_names k (Some r) e =
+  stream_names : (k : ℕ) (r : Stream) → slice_get program.streams.items k ≡ Some r → Names (StreamAt k) 8 13 (stream_wires (Some r))
+  stream_names k r e =
       let w = stream_written k r e in
       let b = token_bits r.kind in
       let Q = StreamAt k in
-      names_more Q 8 9 13 (InstanceWire b (s_din r.label)) _ (omega arith) (omega arith) (stream_one k r e 8 _ (s_din r.label) refl (made_din r.label w))
-      (names_more Q 9 10 13 (InstanceWire 1 (s_wr r.label)) _ (omega arith) (omega arith) (stream_one k r e 9 _ (s_wr r.label) refl (made_wr r.label w))
-      (names_more Q 10 11 13 (InstanceWire 1 (s_rdy r.label)) _ (omega arith) (omega arith) (stream_one k r e 10 _ (s_rdy r.label) refl (made_rdy r.label w))
-      (names_more Q 11 12 13 (InstanceWire 1 (s_has r.label)) _ (omega arith) (omega arith) (stream_one k r e 11 _ (s_has r.label) refl (made_has r.label w))
-      (stream_one k r e 12 (InstanceWire b (s_dout r.label)) (s_dout r.label) refl (made_dout r.label w)))))
-
-  told_stream : (j k : ℕ) (x : Name) → StreamAt j x → StreamAt k x → j ≡ k
-  told_stream = told_at program.streams.items (λ (r : Stream). r.label) (Made (codes "s_")) (λ l m x a b. same_made (codes "s_") l m x a b) own.streams
+      names_more Q 8 9 13 (InstanceWire b (s_din r.label)) _ (omega arith) (omega arith) (stream_one k r e 8 _ (s_din r.label) refl (din_names.made r.label w))
+      (names_more Q 9 10 13 (InstanceWire 1 (s_wr r.label)) _ (omega arith) (omega arith) (stream_one k r e 9 _ (s_wr r.label) refl (wr_names.made r.label w))
+      (names_more Q 10 11 13 (InstanceWire 1 (s_rdy r.label)) _ (omega arith) (omega arith) (stream_one k r e 10 _ (s_rdy r.label) refl (rdy_names.made r.label w))
+      (names_more Q 11 12 13 (InstanceWire 1 (s_has r.label)) _ (omega arith) (omega arith) (stream_one k r e 11 _ (s_has r.label) refl (has_names.made r.label w))
+      (stream_one k r e 12 (InstanceWire b (s_dout r.label)) (s_dout r.label) refl (dout_names.made r.label w)))))
 
   streams_named : Names Any 8 13 (each (λ s. stream_wires (slice_get program.streams.items s)) (length program.streams.items))
-  streams_named =
-      names_each Any StreamAt 8 13 (λ s. stream_wires (slice_get program.streams.items s)) (length program.streams.items) (λ k x h. tt) told_stream (λ k l. stream_names k (slice_get program.streams.items k) refl)
-
-  take_names : (k : ℕ) (o : Option Stream) → slice_get program.streams.items k ≡ o → Names (StreamAt k) 15 16 (take_wire o)
-  take_names k None e = names_none (StreamAt k) 15 16
-  take_names k (Some r) e = stream_one k r e 15 (InstanceWire 1 (s_take r.label)) (s_take r.label) refl (made_take r.label (stream_written k r e))
+  streams_named = parts_named program.streams.items (λ (r : Stream). r.label) (Made (codes "s_")) 8 13 (λ k. stream_wires) (same_made (codes "s_")) own.streams (λ k. refl) stream_names
 
   takes_named : Names Any 15 16 (each (λ s. take_wire (slice_get program.streams.items s)) (length program.streams.items))
   takes_named =
-      names_each Any StreamAt 15 16 (λ s. take_wire (slice_get program.streams.items s)) (length program.streams.items) (λ k x h. tt) told_stream (λ k l. take_names k (slice_get program.streams.items k) refl)
+      parts_named program.streams.items (λ (r : Stream). r.label) (Made (codes "s_")) 15 16 (λ k. take_wire) (same_made (codes "s_")) own.streams (λ k. refl)
+      (λ k r e. stream_one k r e 15 (InstanceWire 1 (s_take r.label)) (s_take r.label) refl (take_names.made r.label (stream_written k r e)))
 
   -- ---- instances
 
@@ -199,30 +174,18 @@ module _ (program : Program) (own : HasOwnNames program) where
       let f = fronted_task x.label (instance_written k x e) in
       names_one (InstanceAt k) 18 (InstanceElement (task_name leaf.name) (task_instance x.label) (task_connections program k x leaf)) (task_instance x.label) refl (record { part = x; got = e; made = f }) f.sorted f.named
 
-  instance_names : (k : ℕ) (o : Option Instance) → slice_get program.instances.items k ≡ o → Names (InstanceAt k) 18 19 (of_instance program (task_part program k) o)
-  instance_names k None e = names_none (InstanceAt k) 18 19
-  instance_names k (Some x) e = part_names k x e (slice_get program.bodies.items x.body)
-
   instances_named : Names Any 18 19 (each (at_instance program (task_part program)) (length program.instances.items))
   instances_named =
-      names_each Any InstanceAt 18 19 (at_instance program (task_part program)) (length program.instances.items) (λ k x h. tt)
-      (told_at program.instances.items (λ (x : Instance). x.label) (Fronted (codes "t_") 18) (λ l m x a b. same_fronted (codes "t_") 18 18 l m x a b) own.instances)
-      (λ k l. instance_names k (slice_get program.instances.items k) refl)
-
-  abbrev ChannelAt : ℕ → Name → Type 0
-  ChannelAt k x = IsAt program.streams.items (λ (r : Stream). r.label) (Fronted (codes "c_") 19) k x
-
-  channel_names : (late k : ℕ) (o : Option Stream) → slice_get program.streams.items k ≡ o → Names (ChannelAt k) 19 20 (channel_part late o)
-  channel_names late k None e = names_none (ChannelAt k) 19 20
-  channel_names late k (Some r) e =
-      let f = fronted_channel r.label (stream_written k r e) in
-      names_one (ChannelAt k) 19 (InstanceElement (channel_name (token_bits r.kind) r.depth late) (channel_instance r.label) (channel_connections r.label)) (channel_instance r.label) refl (record { part = r; got = e; made = f }) f.sorted f.named
+      parts_named program.instances.items (λ (x : Instance). x.label) (Fronted (codes "t_") 18) 18 19 (λ k. of_instance program (task_part program k)) (same_fronted (codes "t_") 18 18) own.instances (λ k. refl)
+      (λ k x e. part_names k x e (slice_get program.bodies.items x.body))
 
   channels_named : (late : ℕ → ℕ) → Names Any 19 20 (each (λ s. channel_part (late s) (slice_get program.streams.items s)) (length program.streams.items))
   channels_named late =
-      names_each Any ChannelAt 19 20 (λ s. channel_part (late s) (slice_get program.streams.items s)) (length program.streams.items) (λ k x h. tt)
-      (told_at program.streams.items (λ (r : Stream). r.label) (Fronted (codes "c_") 19) (λ l m x a b. same_fronted (codes "c_") 19 19 l m x a b) own.streams)
-      (λ k l. channel_names (late k) k (slice_get program.streams.items k) refl)
+      parts_named program.streams.items (λ (r : Stream). r.label) (Fronted (codes "c_") 19) 19 20 (λ k. channel_part (late k)) (same_fronted (codes "c_") 19 19) own.streams (λ k. refl)
+      (λ k r e.
+      let f = fronted_channel r.label (stream_written k r e) in
+      let t = InstanceElement (channel_name (token_bits r.kind) r.depth (late k)) (channel_instance r.label) (channel_connections r.label) in
+      names_one (IsAt program.streams.items (λ (r : Stream). r.label) (Fronted (codes "c_") 19) k) 19 t (channel_instance r.label) refl (record { part = r; got = e; made = f }) f.sorted f.named)
 
   -- ---- scalar parameters and ends
 

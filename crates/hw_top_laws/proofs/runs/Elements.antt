@@ -1,5 +1,5 @@
 -- The instances of a circuit's top, and what its wires are.
-use Rattle.std.proofs.Common.{◌≡◌, ℕ, List, ◌++◌, length, Some, inl, refl, sym, ap, subst, ◌∙◌}
+use Rattle.std.proofs.Common.{◌≡◌, ℕ, List, ◌++◌, length, Some, inl, refl, sym, ap, subst}
 use Rattle.std.specs.Prelude.{slice_get, slice_index}
 use Rattle.std.proofs.lemmas.Option.{slice_get_within}
 use Rattle.tapa_syntax.specs.declared.program.Instance.{Instance}
@@ -15,23 +15,15 @@ use Rattle.hw_channel_lines.specs.Names.{channel_name}
 use Rattle.hw_lines.specs.Texts.{task_name}
 use Rattle.hw_top_lines.specs.Bounds.{parameters}
 use Rattle.hw_top_lines.specs.Names.{task_instance, channel_instance}
-use Rattle.hw_top_lines.specs.Texts.{token_bits, ports, wires, doneness, instances, top_elements, of_leaf, of_instance, at_instance, task_part, task_connections, channel_part, channel_connections, stream_wires, take_wire, ended_wire}
+use Rattle.hw_top_lines.specs.Texts.{token_bits, ports, wires, doneness, instances, top_elements, at_instance, task_part, task_connections, channel_part, channel_connections}
+use Rattle.hw_top_laws.proofs.form.Standing.{standing, front_among, at_is, parameters_front}
 
 module _ (program : Program) (added : List ℕ) where
-  abbrev before : List Element
-  before = ports program ++ wires program
-
-  of_wires : (e : Element) → Has (wires program) e → Has (top_elements program added) e
-  of_wires e h = has_left (before ++ doneness program) (instances program added) e (has_left before (doneness program) e (has_right (ports program) (wires program) e h))
-
   pub of_doneness : (e : Element) → Has (doneness program) e → Has (top_elements program added) e
-  of_doneness e h = has_left (before ++ doneness program) (instances program added) e (has_right before (doneness program) e h)
+  of_doneness e h = has_left (standing program) (instances program added) e (has_right (ports program ++ wires program) (doneness program) e h)
 
   of_instances : (e : Element) → Has (instances program added) e → Has (top_elements program added) e
-  of_instances e h = has_right (before ++ doneness program) (instances program added) e h
-
-  at_is : (f : ℕ → Instance → Leaf → List Element) (i : ℕ) (x : Instance) (leaf : Leaf) → slice_get program.instances.items i ≡ Some x → slice_get program.bodies.items x.body ≡ Some leaf → at_instance program f i ≡ f i x leaf
-  at_is f i x leaf e b = ap (of_instance program (f i)) e ∙ ap (of_leaf (f i) x) b
+  of_instances e h = has_right (standing program) (instances program added) e h
 
   abbrev tasks : List Element
   tasks = each (at_instance program (task_part program)) (length program.instances.items)
@@ -47,7 +39,7 @@ module _ (program : Program) (added : List ℕ) where
       of_instances (task_element i x leaf)
       (has_left tasks channels (task_element i x leaf)
       (has_each (at_instance program (task_part program)) (length program.instances.items) i (task_element i x leaf) (slice_get_within program.instances.items i x e)
-      (subst (λ es. Has es (task_element i x leaf)) (sym (at_is (task_part program) i x leaf e b)) (inl refl))))
+      (subst (λ es. Has es (task_element i x leaf)) (sym (at_is program (task_part program) i x leaf e b)) (inl refl))))
 
   abbrev channel_element : ℕ → Stream → Element
   channel_element s r = InstanceElement (channel_name (token_bits r.kind) r.depth (slice_index added s)) (channel_instance r.label) (channel_connections r.label)
@@ -61,14 +53,4 @@ module _ (program : Program) (added : List ℕ) where
 
   -- the nets of an instance's scalar parameters
   pub of_parameters : (i : ℕ) (x : Instance) (leaf : Leaf) → slice_get program.instances.items i ≡ Some x → slice_get program.bodies.items x.body ≡ Some leaf → (e : Element) → Has (parameters program i x leaf) e → Has (top_elements program added) e
-  of_parameters i x leaf at body e h =
-      let values = each (at_instance program (parameters program)) (length program.instances.items) in
-      let ends = each ended_wire (length program.instances.items) in
-      let takes = each (λ s. take_wire (slice_get program.streams.items s)) (length program.streams.items) in
-      let streams = each (λ s. stream_wires (slice_get program.streams.items s)) (length program.streams.items) in
-      of_wires e
-      (has_left (streams ++ values ++ ends) takes e
-      (has_left (streams ++ values) ends e
-      (has_right streams values e
-      (has_each (at_instance program (parameters program)) (length program.instances.items) i e (slice_get_within program.instances.items i x at)
-      (subst (λ es. Has es e) (sym (at_is (parameters program) i x leaf at body)) h)))))
+  of_parameters i x leaf at body e h = has_left (standing program) (instances program added) e (front_among program e (parameters_front program i x leaf at body e h))

@@ -2,8 +2,6 @@
 use Rattle.std.proofs.Common.{◌≡◌, ℕ, ◌+◌, ◌*◌, ◌^◌, ◌<◌, ◌≤◌, Bool, true, false, List, [], ◌∷◌, ◌++◌, length, map, Some, inl, inr, refl, sym, ap, subst, ◌∙◌, arith}
 use Rattle.std.specs.Prelude.{slice_get, slice_index, codes, if◌then◌else◌}
 use Rattle.std.specs.Cmp.Lexicographic.{bytes_decides}
-use Rattle.tapa_base.specs.declared.kind.Kind.{Kind}
-use Rattle.tapa_base.specs.declared.kind.Kind.TheVariants as kind
 use Rattle.tapa_base.specs.Kinds.{bits_of}
 use Rattle.tapa_syntax.specs.LeafKinds.{writes_of}
 use Rattle.tapa_syntax.specs.declared.program.Instance.{Instance}
@@ -50,17 +48,7 @@ use Rattle.hw_network_laws.specs.modules.Tasks.{shape_for}
 use Rattle.hw_top_lines.specs.Names.{task_instance, channel_instance}
 use Rattle.hw_top_lines.specs.Texts.{token_bits, top_elements, top_tree, task_connections, channel_connections}
 use Rattle.hw_top_laws.proofs.runs.Elements.{task_there, channel_there}
-
-pub kind_bits : (k : Kind) → (1 ≤ bits_of k) × (bits_of k ≤ 64)
-kind_bits kind.Bool = (omega arith, omega arith)
-kind_bits kind.I8 = (omega arith, omega arith)
-kind_bits kind.U8 = (omega arith, omega arith)
-kind_bits kind.I16 = (omega arith, omega arith)
-kind_bits kind.U16 = (omega arith, omega arith)
-kind_bits kind.I32 = (omega arith, omega arith)
-kind_bits kind.U32 = (omega arith, omega arith)
-kind_bits kind.I64 = (omega arith, omega arith)
-kind_bits kind.U64 = (omega arith, omega arith)
+use Rattle.tapa_base.proofs.Tests.{kind_bits}
 
 abbrev clock_port : PortDecl
 clock_port = record { direction = Inward; width = 1; name = clk }

@@ -180,10 +180,10 @@ module _ (program : Program) (w : IsWellFormed program) (added : List ℕ) (all 
   pub answers_are : (n p : ℕ) → p < length leaf.memories.items → bit_at run (Ack p) n ≡ acks (number p) n
   answers_are n p l = ap (λ z. z == 1) (ack_is n p l) ∙ bit_is (acks (number p) n)
 
-  pub answer_is : (n p : ℕ) → p < length leaf.memories.items → bit_at run (Ack p) n ≡ true → number_at run (Rdata p) n ≡ cell (rows n) p (number_at run (Addr p) n)
-  answer_is n p l ok =
+  pub answer_is : (n p : ℕ) → p < length leaf.memories.items → bit_at run (Ack p) n ≡ true → number_at run (We p) n ≡ 0 → number_at run (Rdata p) n ≡ cell (rows n) p (number_at run (Addr p) n)
+  answer_is n p l ok still =
       answer_at program added all nets runs i x leaf at body p l n
-      ∙ (answers p l).rdata n (sym (answers_are n p l) ∙ ok)
+      ∙ (answers p l).rdata n (sym (answers_are n p l) ∙ ok) (sym (store_at program added all nets runs i x leaf at body p l n) ∙ still)
       ∙ unwrap_or-slice_get (cells_at top (X p) (first p) n) ((top n).net (m_addr (X p))) 0
       ∙ ap (λ z. slice_index (cells_at top (X p) (first p) n) z) (sym (place_at program added all nets runs i x leaf at body p l n))
       ∙ ap (λ z. slice_index z (number_at run (Addr p) n)) (sym (row_is n p l))

@@ -33,7 +33,6 @@ use Rattle.hw_lines.specs.Signals.{Streams}
 use Rattle.hw_lines.specs.Texts.{task_tree}
 use Rattle.hw_network_laws.specs.modules.Designs.{RunsInstance}
 use Rattle.hw_network_laws.specs.modules.Tasks.{shape_for}
-use Rattle.hw_network_laws.proofs.modules.Tasks.{there_at as item_at}
 use Rattle.hw_channel_laws.specs.signals.Contract.{MeetsContract as OwesContract}
 use Rattle.hw_channel_laws.specs.modules.Ports.{channel_ports}
 use Rattle.hw_channel_laws.proofs.modules.Whole.{acts}
@@ -47,6 +46,7 @@ use Rattle.hw_top_laws.proofs.runs.Joined.{reset_at, scalar_at, ready_at, write_
 use Rattle.hw_top_laws.proofs.runs.Values.{some_of, bound_fits, parameter_is}
 use Rattle.hw_top_laws.proofs.runs.Rows.{rows_length, ack_low, answer_is, cells_low, rows_go, rows_begin}
 use Rattle.hw_top_laws.proofs.runs.Fitting.{IsPlaced, task_placed, channel_placed, fits, write_low, take_low, rdy_low, has_low, dout_low}
+use Rattle.tapa_base.proofs.Got.{some_at as item_at}
 
 -- a kind at the front of a list stays there
 kind_kept : (xs ys : List Kind) (x : ℕ) → IsPrefixOf xs ys → x < length xs → slice_index_or ys x U64 ≡ slice_index_or xs x U64
@@ -213,7 +213,7 @@ module _ (program : Program) (w : IsWellFormed program) (added : List ℕ) (shor
           subst (λ z. z < 2) (sym (ready_at program added all nets r.runs i x leaf at body p h n ∙ ap (λ z. (nets n []).net (s_rdy z)) t.label)) (rdy_bit (stream_at x p) t.stream t.there n);
       ack = λ n m l. ack_low program w added all nets r.runs env acks r.stands c.memories outside_fits i x leaf at body machine n m l;
       memories = rows_length program w added all nets r.runs env acks r.stands c.memories outside_fits i x leaf at body machine 0;
-      rdata = λ n m l ok. answer_is program w added all nets r.runs env acks r.stands c.memories outside_fits i x leaf at body machine n m l ok;
+      rdata = λ n m l ok still. answer_is program w added all nets r.runs env acks r.stands c.memories outside_fits i x leaf at body machine n m l ok still;
       fit = λ n m j. cells_low program w added all nets r.runs env acks r.stands c.memories outside_fits i x leaf at body machine n m j;
       goes = λ n. rows_go program w added all nets r.runs env acks r.stands c.memories outside_fits i x leaf at body machine n;
     }

@@ -44,11 +44,7 @@ use Rattle.hw_top_lines.specs.Legal.{scalar_ports}
 use Rattle.hw_top_lines.specs.Names.{bound_net}
 use Rattle.hw_top_lines.specs.Texts.{top_elements, top_tree}
 use Rattle.hw_top_laws.proofs.runs.Elements.{of_parameters}
-
--- what a chain of conversions gives is a value of its last kind
-pub through_fits : (k : Kind) (kinds : List Kind) (v : ℕ) → v < values_of k → through k kinds v < values_of (last_kind k kinds)
-through_fits k [] v h = h
-through_fits k (j ∷ rest) v h = through_fits j rest (converted k j v) (converted_fits k j v)
+use Rattle.kahn_model.proofs.FitsNetwork.{through_fits}
 
 pub some_of : {A B : Type 0} (f : A → B) (o : Option A) (y : B) → option_map f o ≡ Some y → (x : A) × (o ≡ Some x) × (f x ≡ y)
 some_of f None y e = cc

@@ -45,7 +45,7 @@ DesignsCarryStreams =
     (env : Environment) → FitsShape env (shape_of (top_tree program added)) → (nets : ℕ → Path → Cycle) → RunsIn (design_tree program machines added) (top_tree program added) env nets
     → Carries program env (clock_of program added (answers_in env)) nets)
 
--- and so beside memories that show a cell in the cycles in which they answer
+-- and so beside memories that show a cell in the cycles in which they answer and nothing is stored
 abbrev pub DesignsCarryBeside : Type 0
 DesignsCarryBeside =
     OfReady

@@ -1,4 +1,5 @@
--- Circuits carry the streams of their programs, in an environment and with memories that show a cell in the cycles in which they answer.
+-- Circuits carry the streams of their programs, in an environment and with memories that show a cell in the cycles in which they answer and nothing is
+-- stored.
 use Rattle.std.specs.Prelude.{ℕ, Bool, List, Option}
 use Rattle.tapa_syntax.specs.WellFormed.{IsWellFormed}
 use Rattle.tapa_syntax.specs.declared.program.Program.{Program}

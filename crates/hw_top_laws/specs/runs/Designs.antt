@@ -54,7 +54,7 @@ CircuitsAreDesigns =
     → (env : Environment) → FitsShape env (shape_of (top_tree program added)) → (nets : ℕ → Path → Cycle) → RunsIn all (top_tree program added) env nets
     → IsDesignOf program env.scalars env.memories (slice_index added) machines (instance_run program nets) (instance_rows program env nets) (channel_run program nets) (streams_seen program nets)
 
--- and so in a run beside memories that show a cell where they answer
+-- and so in a run beside memories that show a cell where they answer and nothing is stored
 abbrev pub CircuitsAreDesignsBeside : Type 0
 CircuitsAreDesignsBeside =
     (program : Program) → IsWellFormed program → (added : List ℕ) → AreShort added → (machines : ℕ → Option Fsm) (all : List ModuleTree) (at : ℕ)

@@ -11,9 +11,8 @@ pub fn law_top_outside()
     ensures streams { TopsHaveStreams }
 {}
 
-/// Where an output of an instance of the top depends on an input of it, the input's net is declared before the output's, and what a
-/// memory answers is declared after the address that it is asked for. So no net of the top depends on itself, and no name of the
-/// circuit is on a loop.
+/// If an output of an instance of the top depends combinationally on one of its inputs, the net of the input is declared before the net of the output. The
+/// answer of a memory is declared after the address of its request. So no net of the top depends on itself, and no name of the circuit is on a loop.
 pub fn law_designs_are_loopless()
     ensures order { TopsKeepOrder }
     ensures answers { TopsKeepAnswers }

@@ -25,27 +25,11 @@ use Rattle.vlog_run_laws.proofs.runs.Lookups.{place, lookup}
 use Rattle.vlog_run_laws.proofs.runs.Settled.{design_settles, top_tree, IsTopTree}
 use Rattle.vlog_run_laws.proofs.runs.Run.{World, worlds, asked_at}
 use Rattle.vlog_run_laws.proofs.runs.Same.{IsDecided}
-use Rattle.vlog_run_laws.proofs.runs.Surround.{Outside, cell_at, StandsAround, around, inputs_stand}
+use Rattle.vlog_run_laws.proofs.runs.Surround.{Outside, cell_at, StandsAround, around, inputs_stand, clock_of_ack, clock_of_wdata, clock_of_we, stored_same}
 use Rattle.hw_build.specs.Order.{RestsOnNoInput}
 use Rattle.tapa_laws.specs.circuits.Reactive.{net_kind_is_output, outputs_of_top}
 use Rattle.tapa_laws.proofs.circuits.Unmoved.{output_same}
 use Rattle.tapa_laws.proofs.circuits.Prefix.{IsRunBelow, allowed, held_below}
-
-clock_of_ack : (l : Name) → is_clk (m_ack l) ≡ false
-unfolding m_ack clk
-clock_of_ack l = refl
-
-clock_of_we : (l : Name) → is_clk (m_we l) ≡ false
-unfolding m_we clk
-clock_of_we l = refl
-
-clock_of_wdata : (l : Name) → is_clk (m_wdata l) ≡ false
-unfolding m_wdata clk
-clock_of_wdata l = refl
-
-stored_same : (a a' w w' p p' d d' : ℕ) (cells : List ℕ) → a ≡ a' → w ≡ w' → p ≡ p' → d ≡ d'
-    → cond ((a == 1) && (w == 1)) (set_cell cells p d) cells ≡ cond ((a' == 1) && (w' == 1)) (set_cell cells p' d') cells
-stored_same a a' w w' p p' d d' cells e f g h = rw (e, f, g, h) refl
 
 module _ (ms : List ModuleTree) (m : ModuleTree) (names : first_violation (v2_uses ms) ≡ None) (tops : first_violation (v6_uses ms) ≡ None) (in_ms : Has ms m)
     (top : is_top ms m.name ≡ true) (env : Environment) where
@@ -142,9 +126,9 @@ module _ (ms : List ModuleTree) (place : ℕ) (m : ModuleTree) (d : IsDesign ms 
   tree : IsTopTree ms m
   tree = top_tree ms place d m at
 
-  module _ (answers answers' : ℕ → ℕ → Bool) (others others' : ℕ → ℕ → ℕ) (k : ℕ)
-      (same_answers : (i n : ℕ) → n < k → answers i n ≡ answers' i n) (same_others : (i n : ℕ) → n < k → others i n ≡ others' i n)
-      (a b : ℕ → Path → Cycle) (ra : IsRunAmong ms m env answers others contents a) (rb : IsRunAmong ms m env answers' others' contents b) where
+  module _ (answers answers' shown shown' : ℕ → ℕ → Bool) (others others' : ℕ → ℕ → ℕ) (k : ℕ)
+      (same_answers : (i n : ℕ) → n < k → answers i n ≡ answers' i n) (same_shown : (i n : ℕ) → n < k → shown i n ≡ shown' i n) (same_others : (i n : ℕ) → n < k → others i n ≡ others' i n)
+      (a b : ℕ → Path → Cycle) (ra : IsRunAmong ms m env answers shown others contents a) (rb : IsRunAmong ms m env answers' shown' others' contents b) where
     abbrev acks : (ℕ → ℕ → Bool) → ℕ → ℕ → ℕ
     acks t i n = if t i n then 1 else 0
 
@@ -152,38 +136,38 @@ module _ (ms : List ModuleTree) (place : ℕ) (m : ModuleTree) (d : IsDesign ms 
     shows t o i n cell = if t i n then cell else o i n
 
     abbrev the_world : World Outside
-    the_world = around ms m d.sound.names d.outside tree.has tree.is_top env (acks answers) (shows answers others)
+    the_world = around ms m d.sound.names d.outside tree.has tree.is_top env (acks answers) (shows shown others)
 
     same_acks : (i n : ℕ) → n < k → acks answers i n ≡ acks answers' i n
     same_acks i n low = ap (λ t. cond t 1 0) (same_answers i n low)
 
-    same_shows : (i n c : ℕ) → n < k → shows answers others i n c ≡ shows answers' others' i n c
-    same_shows i n c low = ap (λ t. cond t c (others i n)) (same_answers i n low) ∙ ap (λ o. cond (answers' i n) c o) (same_others i n low)
+    same_shows : (i n c : ℕ) → n < k → shows shown others i n c ≡ shows shown' others' i n c
+    same_shows i n c low = ap (λ t. cond t c (others i n)) (same_shown i n low) ∙ ap (λ o. cond (shown' i n) c o) (same_others i n low)
 
-    stands_around : (t : ℕ → ℕ → Bool) (o : ℕ → ℕ → ℕ) (nets : ℕ → Path → Cycle) → IsRunAmong ms m env t o contents nets → StandsAround m env (acks t) (shows t o) (λ n. nets n [])
-    stands_around t o nets r = record { reset = r.stands.reset; runs = r.stands.runs; scalars = r.stands.scalars; ack = r.stands.ack; rdata = r.stands.rdata }
+    stands_around : (t s : ℕ → ℕ → Bool) (o : ℕ → ℕ → ℕ) (nets : ℕ → Path → Cycle) → IsRunAmong ms m env t s o contents nets → StandsAround m env (acks t) (shows s o) (λ n. nets n [])
+    stands_around t s o nets r = record { reset = r.stands.reset; runs = r.stands.runs; scalars = r.stands.scalars; ack = r.stands.ack; rdata = r.stands.rdata }
 
     below_a : IsRunBelow ms m Outside the_world k a
     below_a = record {
       runs = ra.runs;
       inputs = λ n low x e c.
-          first_below ms m d.sound.names d.outside tree.has tree.is_top env (acks answers) (acks answers') (shows answers others) (shows answers' others') k same_acks same_shows
-          a (stands_around answers others a ra) n x e c;
+          first_below ms m d.sound.names d.outside tree.has tree.is_top env (acks answers) (acks answers') (shows shown others) (shows shown' others') k same_acks same_shows
+          a (stands_around answers shown others a ra) n x e c;
     }
 
     below_b : IsRunBelow ms m Outside the_world k b
     below_b = record {
       runs = rb.runs;
       inputs = λ n low x e c.
-          second_below ms m d.sound.names d.outside tree.has tree.is_top env (acks answers) (acks answers') (shows answers others) (shows answers' others') k same_acks same_shows
-          b (stands_around answers' others' b rb) n low x e c;
+          second_below ms m d.sound.names d.outside tree.has tree.is_top env (acks answers) (acks answers') (shows shown others) (shows shown' others') k same_acks same_shows
+          b (stands_around answers' shown' others' b rb) n low x e c;
     }
 
     net_same : (n : ℕ) → n ≤ k → (x : Name) → net_kind_of (map port_declared m.ports) x ≡ Output → (a n []).net x ≡ (b n []).net x
     net_same n low x output =
         output_same ms m d.sound.names d.sound.drivers d.outside tree.has tree.is_top x output rests settled (a n) (b n) (allowed ms m a ra.runs n) (allowed ms m b rb.runs n)
         (held_below ms m d.sound.names d.sound.drivers d.outside tree.has tree.is_top settled Outside the_world
-        (decided ms m d.sound.names d.outside tree.has tree.is_top env (acks answers) (shows answers others))
+        (decided ms m d.sound.names d.outside tree.has tree.is_top env (acks answers) (shows shown others))
         k a b below_a below_b contents ra.begins rb.begins n low)
 
     by_kind : (n : ℕ) → n ≤ k → (x : Name) (t : Bool) → net_kind_is_output (net_kind_of (map port_declared m.ports) x) ≡ t → cond t ((a n []).net x) 0 ≡ cond t ((b n []).net x) 0

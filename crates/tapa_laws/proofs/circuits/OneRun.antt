@@ -16,12 +16,12 @@ use Rattle.tapa_laws.specs.circuits.Reactive.{Seen, outputs_of_top, IsCausal, Is
 use Rattle.tapa_laws.proofs.circuits.Beside.{outputs_same}
 use Rattle.tapa_laws.proofs.circuits.Fixed.{Agree, limit, limit_fixed}
 
-module _ (ms : List ModuleTree) (place : ℕ) (m : ModuleTree) (env : Environment) (answers : Seen → ℕ → ℕ → Bool) (others : Seen → ℕ → ℕ → ℕ) (contents : Path → Cycle)
-    (d : IsDesign ms place) (at : slice_get ms place ≡ Some m) (rests : RestsOnNoInput ms (is_top ms) m) (causal : IsCausal answers) (causal_others : IsCausal others)
-    (fits : FitsPowerUp ms m contents) where
+module _ (ms : List ModuleTree) (place : ℕ) (m : ModuleTree) (env : Environment) (answers shows : Seen → ℕ → ℕ → Bool) (others : Seen → ℕ → ℕ → ℕ) (contents : Path → Cycle)
+    (d : IsDesign ms place) (at : slice_get ms place ≡ Some m) (rests : RestsOnNoInput ms (is_top ms) m) (causal : IsCausal answers) (causal_shows : IsCausal shows)
+    (causal_others : IsCausal others) (fits : FitsPowerUp ms m contents) where
   -- a run beside memories that answer as if these were the outputs
   abbrev IsRunAsIf : Seen → (ℕ → Path → Cycle) → Type 0
-  IsRunAsIf h nets = IsRunAmong ms m env (answers h) (others h) contents nets
+  IsRunAsIf h nets = IsRunAmong ms m env (answers h) (shows h) (others h) contents nets
 
   abbrev outputs_of : (ℕ → Path → Cycle) → Seen
   outputs_of nets = outputs_of_top m (λ n. nets n [])
@@ -29,11 +29,12 @@ module _ (ms : List ModuleTree) (place : ℕ) (m : ModuleTree) (env : Environmen
   -- two such runs have the same outputs one cycle longer than the numbers agree
   near : (n : ℕ) (h k : Seen) (a b : ℕ → Path → Cycle) → IsRunAsIf h a → IsRunAsIf k b → Agree n h k → Agree (suc n) (outputs_of a) (outputs_of b)
   near n h k a b ra rb agree = λ j low x.
-      outputs_same ms place m d at rests env contents (answers h) (answers k) (others h) (others k) n
-      (λ i c below. causal h k i c (λ j up y. agree j (omega arith) y)) (λ i c below. causal_others h k i c (λ j up y. agree j (omega arith) y)) a b ra rb j (omega arith) x
+      outputs_same ms place m d at rests env contents (answers h) (answers k) (shows h) (shows k) (others h) (others k) n
+      (λ i c below. causal h k i c (λ j up y. agree j (omega arith) y)) (λ i c below. causal_shows h k i c (λ j up y. agree j (omega arith) y))
+      (λ i c below. causal_others h k i c (λ j up y. agree j (omega arith) y)) a b ra rb j (omega arith) x
 
   one_as_if : (h : Seen) → IsOnly ms m (IsRunAsIf h)
-  one_as_if h = one_run_among ms m env contents (answers h) (others h) place d at fits
+  one_as_if h = one_run_among ms m env contents (answers h) (shows h) (others h) place d at fits
 
   run_as_if : Seen → ℕ → Path → Cycle
   run_as_if h = (one_as_if h).run
@@ -61,10 +62,10 @@ module _ (ms : List ModuleTree) (place : ℕ) (m : ModuleTree) (env : Environmen
   outputs_are : outputs_of the_run ≡ the_outputs
   outputs_are = fun_ext (λ n. fun_ext (λ x. limit_fixed step step_near n x))
 
-  is_run : IsReactiveRun ms m env answers others contents the_run
+  is_run : IsReactiveRun ms m env answers shows others contents the_run
   is_run = subst (λ h. IsRunAsIf h the_run) (sym outputs_are) (is_as_if the_outputs)
 
-  module _ (other : ℕ → Path → Cycle) (r : IsReactiveRun ms m env answers others contents other) where
+  module _ (other : ℕ → Path → Cycle) (r : IsReactiveRun ms m env answers shows others contents other) where
     all_agree : (n : ℕ) → Agree n (outputs_of other) (outputs_of the_run)
     all_agree zero = λ j low x. absurd (omega arith)
     all_agree (suc n) = near n (outputs_of other) (outputs_of the_run) other the_run r is_run (all_agree n)
@@ -75,5 +76,5 @@ module _ (ms : List ModuleTree) (place : ℕ) (m : ModuleTree) (env : Environmen
     only_run : IsSameRun ms m other the_run
     only_run = only_as_if the_outputs other (subst (λ h. IsRunAsIf h other) same_outputs r)
 
-  pub one_reactive_run : IsOnly ms m (IsReactiveRun ms m env answers others contents)
+  pub one_reactive_run : IsOnly ms m (IsReactiveRun ms m env answers shows others contents)
   one_reactive_run = record { run = the_run; is = is_run; only = only_run }

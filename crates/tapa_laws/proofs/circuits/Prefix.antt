@@ -16,12 +16,13 @@ use Rattle.vlog_tree.specs.Flattened.{FlatNet, parts}
 use Rattle.vlog_run_laws.specs.runs.OneRun.{SameHeld, BeginsWith}
 use Rattle.vlog_run_laws.proofs.runs.Alone.{register_clock}
 use Rattle.vlog_run_laws.proofs.runs.Settled.{module_in}
-use Rattle.vlog_run_laws.proofs.runs.Sizes.{all_at, all_from, memory_item, declared_net_kind, has_line}
+use Rattle.vlog_run_laws.proofs.runs.Sizes.{memory_item, declared_net_kind, has_line}
 use Rattle.vlog_run_laws.proofs.runs.Run.{World, worlds, asked_at}
 use Rattle.vlog_run_laws.proofs.runs.Alike.{Alike, items_alike}
 use Rattle.vlog_run_laws.proofs.runs.Solved.{Allowed}
 use Rattle.vlog_run_laws.proofs.runs.Only.{nets_agree}
 use Rattle.vlog_run_laws.proofs.runs.Same.{IsDecided}
+use Rattle.tapa_base.proofs.Got.{all_at, all_from}
 
 -- a run whose inputs come from what is around the top in the cycles below k; the clock's number is left open
 pub record IsRunBelow (ms : List ModuleTree) (root : ModuleTree) (W : Type 0) (around : World W) (k : ℕ) (nets : ℕ → Path → Cycle) : Type 0 where

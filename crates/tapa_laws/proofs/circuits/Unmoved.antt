@@ -25,10 +25,9 @@ use Rattle.vlog_tree.specs.Flattened.{FlatNet, parts, line_parts, lines_of}
 use Rattle.tapa_base.proofs.Lists.{has_flat, of_flat, has_map, of_map, has_left}
 use Rattle.vlog_run_laws.specs.runs.OneRun.{SameHeld}
 use Rattle.vlog_run_laws.specs.runs.Readable.{CanBeRead}
-use Rattle.vlog_run_laws.proofs.runs.Sound.{both_true, connection_port, is_known_module, output_is, input_is}
+use Rattle.vlog_run_laws.proofs.runs.Sound.{connection_port, is_known_module, output_is, input_is}
 use Rattle.vlog_run_laws.proofs.runs.Alone.{one_instance, module_there, module_is, IsNamed, find_there}
 use Rattle.vlog_run_laws.proofs.runs.Settled.{outside, answers, outer_net, Joined, joined, child_at, module_in}
-use Rattle.vlog_run_laws.proofs.runs.Sizes.{all_from}
 use Rattle.vlog_run_laws.proofs.runs.Cycles.{port_stands, port_net_kind_declared}
 use Rattle.vlog_run_laws.proofs.runs.TopPorts.{input_port}
 use Rattle.vlog_run_laws.proofs.runs.Ports.{fits, named_port, input_net_kind}
@@ -37,6 +36,8 @@ use Rattle.vlog_run_laws.proofs.runs.Equations.{module_same, input_value}
 use Rattle.vlog_run_laws.proofs.runs.NetsRead.{line_net, outside_net}
 use Rattle.vlog_run_laws.proofs.runs.Solved.{numbers, Allowed, net_solves, inner_input}
 use Rattle.hw_build.specs.Order.{RestsOnNoInput}
+use Rattle.tapa_base.proofs.Tests.{both_true}
+use Rattle.tapa_base.proofs.Got.{all_from}
 
 module _ (ms : List ModuleTree) (root : ModuleTree) where
   abbrev RestsOn : ModuleTree → Name → Name → Type 0

@@ -15,17 +15,7 @@ use Rattle.command_answers.specs.declared.file.File.{File}
 use Rattle.command_answers.specs.declared.file.File.TheVariants as role
 use Rattle.command_vcd.specs.Means.{IsWrongDump, IsDumpFault, MeansVcd}
 use Rattle.tapa_laws.proofs.commands.OneStep.{one_step}
-
--- values that are the same up to a cycle show the same lines
-same_lines : (v w : ℕ → ℕ) (last : ℕ) → ((n : ℕ) → n ≤ last → v n ≡ w n) → value_lines v last ≡ value_lines w last
-same_lines v w zero h = ap (λ (x : ℕ). value_line 0 x) (h 0 (omega arith))
-same_lines v w (suc n) h =
-    let before : value_lines v n ≡ value_lines w n = same_lines v w n (λ k few. h k (omega arith)) in
-    let here : v n ≡ w n = h n (omega arith) in
-    let next : v (suc n) ≡ w (suc n) = h (suc n) (omega arith) in
-    ap (λ (l : List ℕ). l ++ (if not (v (suc n) == v n) then value_line (suc n) (v (suc n)) else [])) before
-    ∙ (ap (λ (x : ℕ). value_lines w n ++ (if not (v (suc n) == x) then value_line (suc n) (v (suc n)) else [])) here
-    ∙ ap (λ (x : ℕ). value_lines w n ++ (if not (x == w n) then value_line (suc n) x else [])) next)
+use Rattle.sim_output.proofs.AreDumps.{value_lines_same as same_lines}
 
 is_dump : (text name told : List ℕ) → IsNetShown text name told → IsDump text
 is_dump text name told h = record { top = h.top; nets = h.nets; values = h.values; last = h.last; dump = h.dump }

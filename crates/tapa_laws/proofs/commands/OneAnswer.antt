@@ -2,7 +2,6 @@
 use Rattle.std.proofs.Common.{◌≡◌, ℕ, List, None, refl, sym, subst₂}
 use Rattle.tapa_syntax.specs.declared.program.Program.{Program}
 use Rattle.command_answers.specs.Answer.{Answer, Writes}
-use Rattle.command_answers.specs.Files.{Given}
 use Rattle.command_answers.specs.declared.file.File.{File}
 use Rattle.command_answers.specs.declared.file.File.TheVariants as role
 use Rattle.command_source.specs.Means.{IsSourceFault}

@@ -1,7 +1,6 @@
 -- The cells of a memory stay where no tick of its owner stores in it.
 use Rattle.std.proofs.Common.{◌≡◌, ℕ, zero, suc, List, [], ◌∷◌, map, false, Option, Some, None, refl, ap, ◌∙◌}
 use Rattle.std.specs.Prelude.{All, if◌then◌else◌, slice_get, slice_set, slice_index_or}
-use Rattle.std.proofs.lemmas.Bool.{ne_eqb}
 use Rattle.std.proofs.lemmas.List.Elements.{All-nil, All-cons, All-head, All-tail, All-take}
 use Rattle.tapa_base.specs.declared.token.Token.{Token}
 use Rattle.tapa_syntax.specs.declared.program.Instance.{Instance}
@@ -24,6 +23,7 @@ use Rattle.kahn_model.specs.Cells.{is_memory, stored, after_stores, memory_at, o
 use Rattle.tapa_laws.specs.memories.Stores.{CodeStoresAt, IsApart, StoresNothingIn, CellsStayWhereNothingIsStored}
 use Rattle.tapa_laws.proofs.memories.Behaviors.{ActsAt, BehavesAt, job_behaves, streams_behave}
 use Rattle.tapa_laws.proofs.memories.Stores.{code_wider}
+use Rattle.run_program.proofs.LastCells.{not_the_memory as not_memory}
 
 -- F holds of the position that a tick stores to
 abbrev TicksAt : (ℕ → Type 0) → Tick → Type 0
@@ -76,10 +76,6 @@ stores_same o m [] g cells = refl
 stores_same o m (t ∷ ts) g cells =
     ap (λ c. after_stores (memory_at o) m c ts) (stored_same o m t (All-head (TicksAt (Elsewhere o m)) t ts g) cells)
     ∙ stores_same o m ts (All-tail (TicksAt (Elsewhere o m)) t ts g) cells
-
-not_memory : (o : Option ℕ) (m : ℕ) → (o ≡ Some m → ⊥) → is_memory o m ≡ false
-not_memory None m h = refl
-not_memory (Some r) m h = ne_eqb r m (λ e. h (ap Some e))
 
 -- the job of an instance whose leaf stores elsewhere
 leaf_behaves : (x : Instance) (m : ℕ) (l : Option Leaf) → ((leaf : Leaf) → l ≡ Some leaf → CodeStoresAt (Elsewhere (Some x) m) (map flat_statement leaf.code.items)) → (σ : State) (n : ℕ)

@@ -6,8 +6,9 @@ use Rattle.tapa_syntax.specs.declared.tree.Parameter.TheVariants.{InputStream, O
 use Rattle.check_scope.specs.declared.entity.Entity.{Entity}
 use Rattle.check_scope.specs.declared.entity.Entity.TheVariants as entity
 use Rattle.check_scope.specs.Scopes.{Scope}
-use Rattle.stream_check.proofs.WellLists.{get_left, each_append}
+use Rattle.stream_check.proofs.WellLists.{each_append}
 use Rattle.stream_check.proofs.WellPorts.{Declares, DeclareAll, declare_all_more}
+use Rattle.tapa_base.proofs.Got.{got_left as get_left}
 
 -- one flag for each memory parameter
 abbrev pub with_free : List Bool → Parameter → List Bool
@@ -56,6 +57,3 @@ flags_pushed q b E h = declare_all_more (IsFlagged q) (IsFlagged (q ++ b ∷ [])
 -- a block more, without names
 pub flags_opened : (q : List Bool) (E : Scope) → AreFlagged q E → AreFlagged q (E ++ [] ∷ [])
 flags_opened q E h = each_append (Declares (IsFlagged q)) E ([] ∷ []) h (tt, tt)
-
-pub one_longer : {A : Type 0} (xs : List A) (x : A) (n : ℕ) → n ≡ length xs → n + 1 ≡ length (xs ++ x ∷ [])
-one_longer xs x n e = let l = length-append xs (x ∷ []) in omega arith

@@ -17,22 +17,21 @@ use Rattle.stream_check.specs.Items.{no_items, items_faults, tasks_of}
 use Rattle.stream_check.specs.Parts.{streams_in, instances_in}
 use Rattle.stream_check.specs.Programs.{top_memories, top_instance, all_levels, top_parts, top_task_faults, top_program, memories_of, is_used, body_numbers, bodies_of, with_body}
 use Rattle.stream_check.specs.Programs.{whole_faults, program_made}
-use Rattle.stream_check.proofs.WellLists.{the_same, no_faults, Each, each_get, get_left, get_last, get_map, get_unmap, Pairs, pairs_get, pairs_push}
+use Rattle.stream_check.proofs.WellLists.{no_faults, Each, each_get, get_last, Pairs, pairs_get, pairs_push}
 use Rattle.stream_check.proofs.WellBodies.{is_used_by, body_there}
 use Rattle.stream_check.proofs.WellTasks.{TaskFits, tasks_fit}
 use Rattle.tapa_laws.specs.memories.Stores.{CodeStoresAt, IsApart, StoresNothingIn}
 use Rattle.tapa_laws.specs.memories.Constant.{LegalProgramsStoreNothingInConstMemories, ConstMemoriesKeepTheirCells}
 use Rattle.tapa_laws.proofs.memories.Stores.{code_wider}
 use Rattle.tapa_laws.proofs.memories.Cells.{cells_stay}
-use Rattle.tapa_laws.proofs.memories.Flags.{with_frees, frees_of, IsFree, one_longer}
+use Rattle.tapa_laws.proofs.memories.Flags.{with_frees, frees_of, IsFree}
 use Rattle.tapa_laws.proofs.memories.Tasks.{BodyKeeps, TaskKeeps, tasks_keep}
 use Rattle.tapa_laws.proofs.memories.Parts.{MemoryKeeps, LeafKeeps, parts_keep}
+use Rattle.stream_check.proofs.WellTops.{none_longer, joined}
+use Rattle.stream_check.proofs.WellUppers.{one_more as one_longer}
+use Rattle.tapa_base.proofs.Got.{got_left as get_left, the_same, got_map as get_map, of_map_got as get_unmap}
 
 -- ---- the memories of the top task
-
-joined : {A : Type 0} (xs : List A) (x : A) (ys : List A) → (xs ++ x ∷ []) ++ ys ≡ xs ++ x ∷ ys
-joined [] x ys = refl
-joined (y ∷ xs) x ys = ap (λ zs. y ∷ zs) (joined xs x ys)
 
 abbrev free_of : Memory → Bool
 free_of r = not r.constant
@@ -51,9 +50,6 @@ kept_flag q (parameter.InputStream k x ∷ ps) n b h = kept_flag q ps n b h
 kept_flag q (parameter.OutputStream k x ∷ ps) n b h = kept_flag q ps n b h
 kept_flag q (parameter.Memory constant k x ∷ ps) n b h = kept_flag (q ++ not constant ∷ []) ps n b (get_left q (not constant ∷ []) n b h)
 kept_flag q (parameter.Scalar constant k x ∷ ps) n b h = kept_flag q ps n b h
-
-none_longer : (n m : ℕ) → n ≡ m → n + 0 ≡ m
-none_longer n m e = omega arith
 
 -- the top task's memories are bound to themselves
 module _ (w : List Bool) where

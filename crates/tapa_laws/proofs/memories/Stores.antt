@@ -1,8 +1,7 @@
 -- The positions that code stores to, where code is put together, and where what holds of them implies something else.
 use Rattle.std.proofs.Common.{ℕ, List, [], ◌∷◌, ◌++◌}
 use Rattle.tapa_syntax.specs.Flat.{FlatStatement, set, set_cell, set_cell_by, store, store_by, read_variable, read_cell, read_store, write, take_end, put_end, discard, clear}
-use Rattle.tapa_syntax.specs.Flat.{branch, loop, break, continue}
-use Rattle.tapa_syntax.specs.Flat.{FlatStatements, no_statement, statement_then, in_row}
+use Rattle.tapa_syntax.specs.Flat.{branch, loop, break, continue, FlatStatements, no_statement, statement_then, in_row}
 use Rattle.tapa_laws.specs.memories.Stores.{StoresAt, RowStoresAt, CodeStoresAt}
 
 mutual

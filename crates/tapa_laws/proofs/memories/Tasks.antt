@@ -9,12 +9,13 @@ use Rattle.check_scope.specs.Scopes.{Block}
 use Rattle.check_expression.specs.Expressions.{constant_value, wanted}
 use Rattle.check_upper.specs.Tasks.{Body, leaf_body, upper_body, Task}
 use Rattle.stream_check.specs.Items.{Items, no_items, with_task, body_of, body_faults, after_task, after_item, item_faults, after_items, items_faults, tasks_of}
-use Rattle.stream_check.proofs.WellLists.{no_faults, Each, each_append, each_more, get_left}
+use Rattle.stream_check.proofs.WellLists.{no_faults, Each, each_append, each_more}
 use Rattle.stream_check.proofs.WellPorts.{Declares}
 use Rattle.tapa_laws.specs.memories.Stores.{CodeStoresAt}
 use Rattle.tapa_laws.proofs.memories.Flags.{frees_of, IsFree, IsFlagged}
 use Rattle.tapa_laws.proofs.memories.Leaves.{leaf_stores}
 use Rattle.tapa_laws.proofs.memories.Uppers.{InvocationKeeps, Begins, upper_keeps}
+use Rattle.tapa_base.proofs.Got.{got_left as get_left}
 
 abbrev pub BodyKeeps : List Task → List Bool → Body → Type 0
 BodyKeeps all q (leaf_body l) = CodeStoresAt (IsFree q) l.code

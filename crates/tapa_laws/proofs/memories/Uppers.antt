@@ -19,10 +19,12 @@ use Rattle.check_upper.specs.declared.task.Binding.TheVariants.{OwnStream, Strea
 use Rattle.check_upper.specs.Tasks.{Invocation, Task, parameters_of}
 use Rattle.check_upper.specs.Uppers as upper
 use Rattle.check_upper.specs.Uppers.{Signature, Channels, parameter_kind, is_bound_to, is_task}
-use Rattle.stream_check.proofs.WellLists.{the_same, both, no_faults, holds_not, Each, get_last}
+use Rattle.stream_check.proofs.WellLists.{no_faults, holds_not, Each, get_last}
 use Rattle.stream_check.proofs.WellPorts.{Declares, found, declare}
-use Rattle.stream_check.proofs.WellUppers.{right_entity}
-use Rattle.tapa_laws.proofs.memories.Flags.{with_free, with_frees, frees_of, IsFree, IsFlagged, AreFlagged, flags_pushed, one_longer}
+use Rattle.stream_check.proofs.WellUppers.{right_entity, one_more as one_longer}
+use Rattle.tapa_laws.proofs.memories.Flags.{with_free, with_frees, frees_of, IsFree, IsFlagged, AreFlagged, flags_pushed}
+use Rattle.tapa_base.proofs.Tests.{both_true as both}
+use Rattle.tapa_base.proofs.Got.{the_same}
 
 -- ---- parameters and streams
 

@@ -17,8 +17,9 @@ use Rattle.check_scope.specs.One.{is_one, the_one, one_faults}
 use Rattle.stream_check.specs.Items.{no_items, items_faults, tasks_of}
 use Rattle.stream_check.specs.Parts.{streams_in, instances_in}
 use Rattle.stream_check.specs.Programs.{instances_with, streams_faults, memories_faults, memories_of, is_detached, is_of_detached, writers_faults, body_numbers, with_body, bindings_faults, program_made, top_faults, top_parts, limit_faults, parts_faults, top_task_faults, top_program, whole_faults, all_levels, program_faults, program_of}
-use Rattle.stream_check.proofs.WellLists.{nothing, the_same, no_faults, holds, holds_not, get_unmap}
+use Rattle.stream_check.proofs.WellLists.{nothing, no_faults, holds, holds_not}
 use Rattle.tapa_laws.specs.memories.Writers.{HasJoinedWriters}
+use Rattle.tapa_base.proofs.Got.{the_same, of_map_got as get_unmap}
 
 -- ---- one memory
 

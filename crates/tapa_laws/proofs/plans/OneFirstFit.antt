@@ -7,6 +7,7 @@ use Rattle.task_graph.specs.Streams.{amount_at}
 use Rattle.plan_device.specs.declared.device.Device.{Device}
 use Rattle.flow_cert.proofs.Sums.{total_same}
 use Rattle.slot_plan.specs.FirstFit.{is_pinned, comes_before, used_before, HasRoom, StandsFirst, FindsNone}
+use Rattle.tapa_base.proofs.Tests.{bool_cases}
 
 -- ---- the order of groups as numbers: pinned groups come before the free ones
 
@@ -42,10 +43,6 @@ one_by n u v false false lu lv h = omega arith
 
 one_place : (n : ℕ) (d : Device) (u v : ℕ) → u < n → v < n → place n d u ≡ place n d v → u ≡ v
 one_place n d u v lu lv h = one_by n u v (is_pinned d u) (is_pinned d v) lu lv h
-
-bool_cases : (b : Bool) → (b ≡ true) ⊎ (b ≡ false)
-bool_cases true = inl refl
-bool_cases false = inr refl
 
 module _ (n : ℕ) (need : ℕ → ℕ → ℕ) (d : Device) where
   -- two lists have the same slots for the groups before v

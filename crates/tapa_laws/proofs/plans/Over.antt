@@ -22,6 +22,7 @@ use Rattle.slot_split.specs.declared.planning.SplitFault.TheVariants as split_fa
 use Rattle.slot_split.specs.Causes.{IsSplitCause}
 use Rattle.slot_split.specs.Halving.{part_start, row_cuts, AreCuts, corner, capacity_in, IsOpenIn, IsIn, FitsLevel, StaysIn, IsNextLevel, IsLevel, HasNone, IsHalvingPlan, HasNoHalving}
 use Rattle.tapa_laws.specs.plans.OneGraph.{AreAlikeGraphs}
+use Rattle.slot_split.proofs.Grids.{within_as as bound_over}
 
 -- ---- what a plan is measured by, from the lists of a graph and of a device
 
@@ -54,11 +55,6 @@ corner_by rows cols R K s = part_start (row_cuts R K) rows (s / cols) * cols + p
 abbrev capacity_by : ℕ → ℕ → List Use → List Bool → ℕ → ℕ → ℕ → ℕ → ℕ
 capacity_by rows cols slots forbidden R K c k =
     total (length slots) (λ s. if (corner_by rows cols R K s == c) && not (slice_index_or forbidden s false) then amount_at slots s k else 0)
-
--- what is used stays within the part of a capacity that may be filled
-bound_over : (x y c k m n : ℕ) → x ≡ y → c ≡ k → m ≡ n → x * 100 ≤ c * m → y * 100 ≤ k * n
-bound_over x y c k m n used capacity part h =
-    subst (λ (z : ℕ). y * 100 ≤ k * z) part (subst (λ (z : ℕ). y * 100 ≤ z * m) capacity (subst (λ (z : ℕ). z * 100 ≤ c * m) used h))
 
 -- ---- there and back
 

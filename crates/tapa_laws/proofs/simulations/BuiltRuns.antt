@@ -26,7 +26,7 @@ use Rattle.kahn_model.specs.Start.{network_of}
 use Rattle.kahn_model.proofs.Order.{prefix_trans, prefix_length, prefix_whole}
 use Rattle.kahn_model.specs.Ending.{IsLeastToEnd}
 use Rattle.kahn_model.specs.Network.{Network, stream}
-use Rattle.kahn_model.specs.Outcome.{IsJoined, HaveJoinedEnded, IsDone as EndsWithin, shown}
+use Rattle.kahn_model.specs.Outcome.{IsJoined, HaveJoinedEnded, IsDone, shown}
 use Rattle.kahn_model.specs.Timed.{lost}
 use Rattle.tapa_syntax.specs.WellFormed.{IsWellFormed}
 use Rattle.tapa_syntax.specs.Trees.{file_of}
@@ -45,16 +45,12 @@ use Rattle.sim_output.specs.Reports.{IsSimulated, report_to, streams_to, memorie
 use Rattle.sim_output.proofs.Simulating.{first_same}
 use Rattle.cycle_sim.specs.Sims.{IsDoneAt, last_cycle}
 use Rattle.net_core.specs.Bounded.{Values}
-use Rattle.command_source.specs.Inputs.{GivesValues}
 use Rattle.command_source.proofs.Given.{one_input}
 use Rattle.command_build.specs.Built.{IsCircuitText}
 use Rattle.tapa_laws.specs.simulations.BuiltRuns.{values_in, GivesAround, written_to, ShowsProgram, CircuitTextsShowTheirProgram, CircuitsShowTheirProgram, PlannedCircuitsShowTheirProgram, LatencyChangesNoReport}
 use Rattle.tapa_words.specs.declared.command.CosimAim.TheVariants.{Report}
 use Rattle.command_cosim.specs.Designs.{GivesEnvironment, HasSimulated}
-
-mapped : {A B : Type 0} (f : A → B) (o : Option A) (y : B) → option_map f o ≡ Some y → (x : A) × (o ≡ Some x) × (f x ≡ y)
-mapped f None y e = absurd cc
-mapped f (Some x) y e = (x, refl, (let both : Some (f x) ≡ Some y = e in cc))
+use Rattle.hw_top_laws.proofs.runs.Values.{some_of as mapped}
 
 abbrev name_of : Option Memory → List ℕ
 name_of None = []
@@ -167,16 +163,16 @@ module _ (program : Program) (w : IsWellFormed program) (added : List ℕ) (desi
       (cases_lt m n)
 
   in_time :
-      (most waits : ℕ) → ((s : ℕ) → slice_index added s ≤ most) → ((n : ℕ) → lost (all_answer program (answers_in env)) n ≤ waits) → (bound : ℕ) (c : ℕ → ℕ) → EndsWithin net bound c
-      → (a : ℕ) × IsLeastToEnd net a × ((a + 2) * (2 * most + 4) + waits ≤ limit → (n : ℕ) × (at ≡ Some n) × (n ≤ (a + 2) * (2 * most + 4) + waits))
+      (most waits : ℕ) → ((s : ℕ) → slice_index added s ≤ most) → ((n : ℕ) → lost (all_answer program (answers_in env)) n ≤ waits) → (bound : ℕ) (c : ℕ → ℕ) → IsDone net bound c
+      → (a : ℕ) × IsLeastToEnd net a × (1 + a * suc most + waits ≤ limit → (n : ℕ) × (at ≡ Some n) × (n ≤ 1 + a * suc most + waits))
   in_time most waits late few bound c ends =
       let t = g.in_time most late bound c ends in
-      let limit : ℕ = (t.0 + 2) * (2 * most + 4) + waits in
+      let limit : ℕ = 1 + t.0 * suc most + waits in
       let some = few limit in
       let d = t.2 limit (omega arith) in
       let lost_by = few d.0 in
-      let within : d.0 ≤ (t.0 + 2) * (2 * most + 4) + lost (all_answer program (answers_in env)) d.0 = d.2 in
-      let soon : d.0 ≤ (t.0 + 2) * (2 * most + 4) + waits = omega arith in (
+      let within : d.0 ≤ 1 + t.0 * suc most + lost (all_answer program (answers_in env)) d.0 = d.2 in
+      let soon : d.0 ≤ 1 + t.0 * suc most + waits = omega arith in (
         t.0,
         t.1,
         λ le.
@@ -205,7 +201,7 @@ gives_values program added design circuit bytes env g =
     }
 
 -- the design of a circuit's text is the circuit
-design_is : (program : Program) (added told : List ℕ) (c : IsCircuitText program added told) (design : DesignTree) → HasTree told design.modules → IsDesign design.modules design.top → design ≡ c.design
+pub design_is : (program : Program) (added told : List ℕ) (c : IsCircuitText program added told) (design : DesignTree) → HasTree told design.modules → IsDesign design.modules design.top → design ≡ c.design
 design_is program added told c design tree legal =
     let ms = c.design.modules in
     let printed = spelling_has_tree ms c.circuit.legal.form (numbers_written ms c.circuit.legal.sound.widths) (design_has_modules ms c.design.top c.circuit.legal) in
@@ -244,7 +240,7 @@ pub circuit_texts_show_their_program : CircuitTextsShowTheirProgram
 circuit_texts_show_their_program program w added told bytes limit at report h s = shows program w added told bytes limit at report h s
 
 -- the program of a source is well formed
-well : (source top : List ℕ) (program : Program) → IsProgramOf source top program → IsWellFormed program
+pub well : (source top : List ℕ) (program : Program) → IsProgramOf source top program → IsWellFormed program
 well source top program m = legal_program_well (file_of m.means.file) top program m.means.legal m.means.means
 
 pub circuits_show_their_program : CircuitsShowTheirProgram

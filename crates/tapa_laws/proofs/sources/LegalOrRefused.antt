@@ -23,7 +23,7 @@ use Rattle.stream_check.specs.Programs.{program_faults}
 use Rattle.command_source.specs.Source.{IsWrittenOut, HasArrayFault}
 use Rattle.tapa_laws.specs.sources.Sources.{HasFile, IsLegalText, IsUnread, BreaksRule, IsRefusedTextSomehow, IsLegal, IsRefusedSomehow}
 use Rattle.tapa_laws.proofs.sources.Pieces.{lexemes_or_refusal}
-use Rattle.command_source.proofs.Sourced.{one_written, no_fault}
+use Rattle.command_source.proofs.Sourced.{one_written, no_fault, not_first}
 
 -- ---- every text is one of them
 
@@ -75,9 +75,6 @@ no_file text items code place h k =
     let same = one_list text h.lexemes k.lexemes h.are k.are in
     let spelled = subst (λ (l : List Lexeme). IsTreeOf (symbols_of text l) items) same h.spelled in
     (file_or_refused (symbols_of text k.lexemes)).1 (items, spelled, h.within) (code, k.refused.0, k.refused.2)
-
-not_first : (faults : List Broken) (broken : Broken) → faults ≡ [] → IsFirstBroken faults broken → ⊥
-not_first faults broken none first = subst (λ (l : List Broken). IsFirstBroken l broken) none first
 
 text_not_both : (text top : List ℕ) → IsLegalText text top → IsRefusedTextSomehow text top → ⊥
 text_not_both text top p (inl (code, place, h)) = not_both text p.file.lexemes code place p.file.are h

@@ -24,7 +24,7 @@ AreApart text (l ∷ ls) = EndsBefore text l.to ls × AreApart text ls
 
 -- ---- from the pieces of a text
 
-blank_no_word : (b : ℕ) → is_blank b ≡ true → is_word_byte b ≡ false
+pub blank_no_word : (b : ℕ) → is_blank b ≡ true → is_word_byte b ≡ false
 blank_no_word b h = grind (arith, nat_tests)
 
 gap_no_word : (before bytes rest z : Bytes) → IsGap before bytes rest → begins is_word_byte (bytes ++ z) ≡ false

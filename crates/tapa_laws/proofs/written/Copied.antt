@@ -10,7 +10,7 @@ use Rattle.tapa_syntax.specs.declared.lexeme.Lexeme.{Lexeme}
 use Rattle.tapa_syntax.specs.Characters.{opens_line, place_of}
 use Rattle.tapa_syntax.specs.Lexemes.{Piece, Stands, StandInTurn, text_of, lexeme_of, lexemes_of}
 use Rattle.tapa_lex.proofs.Cuts.{is_some}
-use Rattle.tapa_lex.proofs.Whole.{slices_are, not_both}
+use Rattle.tapa_lex.proofs.Whole.{slices_are, not_both, range_of}
 use Rattle.stream_arrays.specs.declared.fault.ArrayCode.TheVariants.{A4}
 use Rattle.stream_arrays.specs.Words.{end_of}
 use Rattle.stream_arrays.specs.Written.{Scope, Outcome, faulty, step, written_from, nothing, whole, most, within_most, written_out}
@@ -122,11 +122,6 @@ form_copied text turns s done next at gap old k bytes ps h gap_is =
       ap (λ (z : Bytes). z ++ (r.written ++ rest)) gap_is,
       record { alike = subst (λ (z : Bytes). Alike z (r.written ++ rest)) (rest_here text old (piece ∷ ps) h) fit.1; pieced = λ new o. fit.0 new },
     )))
-
-range_of : (before bytes rest : Bytes) → slice_range (before ++ (bytes ++ rest)) (length before) (length before + length bytes) ≡ bytes
-range_of before bytes rest =
-    let size : length before + length bytes - length before ≡ length bytes = omega arith in
-    ap (take (length before + length bytes - length before)) (drop_at before (bytes ++ rest) (length before) refl) ∙ take_at bytes rest _ (sym size)
 
 whole_text : (text start gap old rest : Bytes) → start ++ gap ≡ old → old ++ rest ≡ text → start ++ (gap ++ rest) ≡ text
 whole_text text start gap old rest e is = sym (append_assoc start gap rest) ∙ ap (λ (z : Bytes). z ++ rest) e ∙ is

@@ -1,7 +1,6 @@
 -- What a piece needs of the text behind it: of its first byte alone.
 use Rattle.std.proofs.Common.{◌≡◌, ℕ, ◌+◌, ◌<◌, Bool, true, false, not, ◌||◌, ⊎_elim, inl, inr, List, [], ◌∷◌, ◌++◌, append_assoc, length, Option, Some, None, refl, sym, ap, subst, ◌∙◌, arith, nat_eq}
 use Rattle.std.specs.List.{list_all, list_any}
-use Rattle.std.specs.Str.{bytes_eq}
 use Rattle.std.proofs.lemmas.Bool.{or_cases, or_from, or_parts, and_parts, false≢true, false_from_ne_true}
 use Rattle.std.proofs.lemmas.List.{length-append}
 use Rattle.std.proofs.lemmas.Slice.Eq.{bytes_eq-Decides}
@@ -12,18 +11,9 @@ use Rattle.tapa_syntax.specs.Characters.{is_letter, is_word_byte, opens_line}
 use Rattle.tapa_syntax.specs.Lexemes.{IsWord, IsPunctuation, IsGap, IsLexeme, Stands, signs, is_sign, is_comment_mark}
 use Rattle.tapa_lex.specs.Reading.{is_single}
 use Rattle.tapa_lex.proofs.Bytes.{single_apart, letter_in_word, word_in_line}
-use Rattle.tapa_lex.proofs.Signs.{nothing_signed}
+use Rattle.tapa_lex.proofs.Signs.{nothing_signed, one_text}
 
 -- ---- signs, and what they go on with
-
--- what holds of each of a few texts holds of one of them
-one_text : (P : Bytes → Bool) (set : List Bytes) (s : Bytes) → list_all P set ≡ true → list_any (bytes_eq s) set ≡ true → P s ≡ true
-one_text P [] s all h = absurd (false≢true h)
-one_text P (c ∷ set) s all h =
-    ⊎_elim
-    (λ (e : bytes_eq s c ≡ true). subst (λ (x : Bytes). P x ≡ true) (sym ((bytes_eq-Decides s c).0 e)) (and_parts (P c) (list_all P set) all).0)
-    (λ (m : list_any (bytes_eq s) set ≡ true). one_text P set s (and_parts (P c) (list_all P set) all).1 m)
-    (or_cases (bytes_eq s c) (list_any (bytes_eq s) set) h)
 
 abbrev marks : List Bytes
 marks = (47 ∷ 47 ∷ []) ∷ (47 ∷ 42 ∷ []) ∷ []

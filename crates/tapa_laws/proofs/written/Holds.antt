@@ -3,19 +3,7 @@ use Rattle.std.proofs.Common.{◌≡◌, Bool, true, false, cond, List, [], ◌�
 use Rattle.std.specs.Prelude.{unwrap_or, option_map}
 use Rattle.std.specs.List.{flat_map, AllByRecursion}
 use Rattle.stream_arrays.specs.Written.{Step, Outcome, and_then}
-use Rattle.stream_arrays.proofs.FormFeeds.{OnOk}
-
-pub all_both : {A : Type 0} (P : A → Type 0) (xs ys : List A) → AllByRecursion P xs → AllByRecursion P ys → AllByRecursion P (xs ++ ys)
-all_both P [] ys h k = k
-all_both P (x ∷ xs) ys h k = (h.0, all_both P xs ys h.1 k)
-
-pub all_map : {A B : Type 0} (P : B → Type 0) (Q : A → Type 0) (f : A → B) → ((x : A) → Q x → P (f x)) → (xs : List A) → AllByRecursion Q xs → AllByRecursion P (map f xs)
-all_map P Q f each [] h = tt
-all_map P Q f each (x ∷ xs) h = (each x h.0, all_map P Q f each xs h.1)
-
-pub all_flat : {A B : Type 0} (P : B → Type 0) (Q : A → Type 0) (f : A → List B) → ((x : A) → Q x → AllByRecursion P (f x)) → (xs : List A) → AllByRecursion Q xs → AllByRecursion P (flat_map f xs)
-all_flat P Q f each [] h = tt
-all_flat P Q f each (x ∷ xs) h = all_both P (f x) (flat_map f xs) (each x h.0) (all_flat P Q f each xs h.1)
+use Rattle.stream_arrays.proofs.FormFeeds.{OnOk, all_both, all_flat, all_map}
 
 abbrev pub Any : {A : Type 0} → A → Type 0
 Any x = Unit {0}

@@ -20,12 +20,11 @@ use Rattle.stream_arrays.specs.Numbers.{Numbering, found, in_bounds, number_of, 
 use Rattle.stream_arrays.specs.Forms.{Invocation, open_behind, inside_size, begins_invocation, invoked, invocation, argument_size}
 use Rattle.stream_arrays.specs.Words.{below, piece_word, invoke_words}
 use Rattle.stream_arrays.specs.Written.{Scope, Outcome, and_then, faulty, some_or, is_selected, array_at, without_arrays, count_in, index_of, both, element_in, index_in}
-use Rattle.stream_arrays.specs.Written.{whole_array, first_place, instances, element_pieces, by_element, by_array, argument_pieces, pieces_from, head_size, invocation_pieces}
-use Rattle.stream_arrays.specs.Written.{nothing}
-use Rattle.stream_arrays.proofs.FormFeeds.{all_take, all_drop, OnOk, ok_then, ok_either, AreSliced}
+use Rattle.stream_arrays.specs.Written.{whole_array, first_place, instances, element_pieces, by_element, by_array, argument_pieces, pieces_from, head_size, invocation_pieces, nothing}
+use Rattle.stream_arrays.proofs.FormFeeds.{all_take, all_drop, OnOk, ok_then, ok_either, AreSliced, all_both, all_flat, all_map}
 use Rattle.tapa_laws.proofs.written.Pieced.{IsSpacedWord, Ends, ends_behind}
 use Rattle.tapa_laws.proofs.written.Terminals.{named_word, closing_text}
-use Rattle.tapa_laws.proofs.written.Holds.{all_both, all_map, all_flat, Any, any, OnSome, some_if, some_map, ok_next}
+use Rattle.tapa_laws.proofs.written.Holds.{Any, any, OnSome, some_if, some_map, ok_next}
 use Rattle.tapa_laws.proofs.written.Words.{Spaced, Named, lexemes_spaced, comma_spaced, element_spaced}
 
 -- ---- counts

@@ -13,6 +13,7 @@ use Rattle.tapa_lex.specs.Reading.{is_single, singles}
 use Rattle.tapa_lex.proofs.Bytes.{one_of, single_apart, letter_no_blank, digit_no_blank, word_in_line}
 use Rattle.tapa_lex.proofs.Signs.{nothing_signed}
 use Rattle.tapa_laws.proofs.written.Follows.{all_single}
+use Rattle.tapa_syntax.proofs.Places.{line_behind_append as line_append}
 
 all_front : (p : ℕ → Bool) (xs : Bytes) (b : ℕ) → list_all p (xs ++ b ∷ []) ≡ true → (list_all p xs ≡ true) × (p b ≡ true)
 all_front p [] b h = (refl, (and_parts (p b) true h).0)
@@ -42,10 +43,6 @@ line_more x y (b ∷ z) f h = line_more (cond (b == 10) [] (x ++ b ∷ [])) (con
     one : (t : Bool) → list_all is_blank (cond t [] (x ++ b ∷ [])) ≡ true → list_all is_blank (cond t [] (y ++ b ∷ [])) ≡ true
     one true k = refl
     one false k = let parts = all_front is_blank x b k in all_push is_blank y b (f parts.0) parts.1
-
-line_append : (x a b : Bytes) → line_behind x (a ++ b) ≡ line_behind (line_behind x a) b
-line_append x [] b = refl
-line_append x (c ∷ a) b = line_append (cond (c == 10) [] (x ++ c ∷ [])) a b
 
 -- where a line begins behind the one, it begins behind the other
 pub opens_more : (old new bytes : Bytes) → (opens_line old ≡ true → opens_line new ≡ true) → opens_line (old ++ bytes) ≡ true → opens_line (new ++ bytes) ≡ true

@@ -8,13 +8,13 @@ use Rattle.tapa_base.specs.Gaps.{Bytes, is_blank}
 use Rattle.tapa_syntax.specs.declared.lexeme.LexKind.{LexKind}
 use Rattle.tapa_syntax.specs.declared.lexeme.LexKind.TheVariants as kind
 use Rattle.tapa_syntax.specs.declared.lexeme.Lexeme.{Lexeme}
-use Rattle.tapa_syntax.specs.Characters.{is_word_byte}
 use Rattle.tapa_syntax.specs.Lexemes.{Piece, IsWord, IsLexeme, Stands, StandInTurn, text_of}
 use Rattle.tapa_lex.specs.Reading.{is_single}
 use Rattle.tapa_lex.proofs.Bytes.{single_apart}
 use Rattle.stream_arrays.specs.Words.{spaced, is_line_feed, start_of, end_of, line_feeds, form_text}
 use Rattle.stream_arrays.proofs.Feeds.{feeds}
 use Rattle.tapa_laws.proofs.written.Follows.{before_other}
+use Rattle.tapa_laws.proofs.written.Apart.{blank_no_word}
 
 -- the rest of a text is pieces in turn, behind what is before it
 pub record IsPieced (before rest : Bytes) : Type 0 where
@@ -48,9 +48,6 @@ anywhere_lexeme k bytes rest h p before = pieced_next before (Some k) bytes rest
 pub record IsSpacedWord (word : Bytes) : Type 0 where
   pub kind : LexKind
   pub stands : (c : ℕ) (z : Bytes) → is_blank c ≡ true → IsLexeme kind word (c ∷ z)
-
-blank_no_word : (c : ℕ) → is_blank c ≡ true → is_word_byte c ≡ false
-blank_no_word c h = grind (arith, nat_tests)
 
 blank_no_sign : (c : ℕ) → is_blank c ≡ true → is_single c ≡ false
 blank_no_sign c h = false_from_ne_true (is_single c) (λ t. false≢true (sym (single_apart c t).blank ∙ h))

@@ -19,6 +19,7 @@ use Rattle.tapa_syntax.specs.Symbols.{words, other_words, signs, look_up, word_t
 use Rattle.tapa_parse_expression.specs.Readers.{same}
 use Rattle.stream_arrays.specs.Standing.{terminal_at, is, is_named}
 use Rattle.stream_arrays.proofs.Feeds.{text_is}
+use Rattle.hw_build.proofs.Free.{closed_read as implied}
 
 abbrev Table : Type 0
 Table = List (List ℕ × Terminal)
@@ -38,10 +39,6 @@ looked_none P o (e ∷ table) x h k =
     by : (t : Bool) → P e.1 ≡ false → P (look_up o table x) ≡ false → P (cond t e.1 (look_up o table x)) ≡ false
     by true a b = a
     by false a b = b
-
-implied : (a b : Bool) → (not a || b) ≡ true → a ≡ true → b ≡ true
-implied true b h k = h
-implied false b h k = absurd (false≢true k)
 
 abbrev has_only : (Terminal → Bool) → Bytes → Table → Bool
 has_only P w table = list_all (λ (e : List ℕ × Terminal). not (P e.1) || bytes_eq e.0 w) table

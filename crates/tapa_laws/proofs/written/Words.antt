@@ -17,11 +17,11 @@ use Rattle.stream_arrays.specs.Standing.{is, is_named, type_size}
 use Rattle.stream_arrays.specs.Forms.{Declaration, label_size, names_behind, names_from, declared_as, with_names, with_depth, behind_count, behind_type, with_type, begins_declaration, declaration}
 use Rattle.stream_arrays.specs.Words.{element_name, below, more_elements, elements, more_names, name_words, depth_words, words_of}
 use Rattle.stream_arrays.specs.Written.{declaration_words}
-use Rattle.stream_arrays.proofs.FormFeeds.{all_take, all_drop, AreSliced}
+use Rattle.stream_arrays.proofs.FormFeeds.{all_take, all_drop, AreSliced, all_both, all_flat, all_map}
 use Rattle.tapa_laws.proofs.written.Follows.{before_none}
 use Rattle.tapa_laws.proofs.written.Pieced.{IsSpacedWord, spaced_word, Ends, ends_one, ends_behind}
 use Rattle.tapa_laws.proofs.written.Terminals.{lexeme_is, named_word, tapa_word}
-use Rattle.tapa_laws.proofs.written.Holds.{all_both, all_map, all_flat, Any, any, OnSome, some_if, some_either, some_map}
+use Rattle.tapa_laws.proofs.written.Holds.{Any, any, OnSome, some_if, some_either, some_map}
 
 -- ---- names with numbers
 

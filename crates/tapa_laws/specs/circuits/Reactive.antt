@@ -35,20 +35,20 @@ outputs_of_top top run n x = if net_kind_is_output (net_kind_of (map port_declar
 abbrev pub IsCausal : {A : Type 0} → (Seen → ℕ → ℕ → A) → Type 0
 IsCausal f = (h k : Seen) (i n : ℕ) → ((j : ℕ) → j ≤ n → (x : Name) → h j x ≡ k j x) → f h i n ≡ f k i n
 
--- A run of a design from these contents beside memories that answer in cycles that depend on the outputs, by number and cycle. In
--- these they show the cell that is asked for, and in the others numbers that depend on the outputs too.
-abbrev pub IsReactiveRun : List ModuleTree → ModuleTree → Environment → (Seen → ℕ → ℕ → Bool) → (Seen → ℕ → ℕ → ℕ)
+-- A run of a design from these contents beside memories that answer, and that show the cell that is asked for, in cycles that depend on the
+-- outputs, by number and cycle. In other cycles they show numbers that depend on the outputs too.
+abbrev pub IsReactiveRun : List ModuleTree → ModuleTree → Environment → (Seen → ℕ → ℕ → Bool) → (Seen → ℕ → ℕ → Bool) → (Seen → ℕ → ℕ → ℕ)
     → (Path → Cycle) → (ℕ → Path → Cycle) → Type 0
-IsReactiveRun ms top env answers others contents nets =
+IsReactiveRun ms top env answers shows others contents nets =
     let seen = outputs_of_top top (λ n. nets n []) in
-    IsRunAmong ms top env (answers seen) (others seen) contents nets
+    IsRunAmong ms top env (answers seen) (shows seen) (others seen) contents nets
 
 -- where no output rests on an input within a cycle and memories look at no later cycle, there is one from each power-up
 abbrev pub OneReactiveRun : Type 0
 OneReactiveRun =
-    (ms : List ModuleTree) (place : ℕ) (top : ModuleTree) (env : Environment) (answers : Seen → ℕ → ℕ → Bool) (others : Seen → ℕ → ℕ → ℕ) (contents : Path → Cycle)
-    → IsDesign ms place → slice_get ms place ≡ Some top → RestsOnNoInput ms (is_top ms) top → IsCausal answers → IsCausal others → FitsPowerUp ms top contents
-    → IsOnly ms top (IsReactiveRun ms top env answers others contents)
+    (ms : List ModuleTree) (place : ℕ) (top : ModuleTree) (env : Environment) (answers shows : Seen → ℕ → ℕ → Bool) (others : Seen → ℕ → ℕ → ℕ) (contents : Path → Cycle)
+    → IsDesign ms place → slice_get ms place ≡ Some top → RestsOnNoInput ms (is_top ms) top → IsCausal answers → IsCausal shows → IsCausal others → FitsPowerUp ms top contents
+    → IsOnly ms top (IsReactiveRun ms top env answers shows others contents)
 
 -- a rule that looks at the outputs of the same cycle alone looks at no later one
 abbrev pub SameCycleIsCausal : Type 0

@@ -9,7 +9,7 @@ use Rattle.vlog_tree.specs.Environment.{Environment}
 use Rattle.kahn_model.specs.Cells.{cells_at}
 use Rattle.kahn_model.specs.Counts.{written, IsKahnStream}
 use Rattle.kahn_model.specs.Ending.{IsLeastToEnd}
-use Rattle.kahn_model.specs.Outcome.{IsJoined, HaveJoinedEnded, IsDone as EndsWithin, shown}
+use Rattle.kahn_model.specs.Outcome.{IsJoined, HaveJoinedEnded, IsDone, shown}
 use Rattle.kahn_model.specs.Timed.{lost}
 use Rattle.vlog_run_laws.specs.Beside.{answers_in}
 use Rattle.circuit_meaning.specs.Clock.{network, counts, all_answer}
@@ -73,8 +73,8 @@ pub record ShowsProgram (program : Program) (added bytes : List ℕ) (limit : �
   -- cycles in which some memory is not ready by the data. `a`: the least number of ticks after which all joined instances have ended.
   pub in_time :
       (most waits : ℕ) → ((s : ℕ) → slice_index added s ≤ most) → ((n : ℕ) → lost (all_answer program (answers_in env)) n ≤ waits) → (bound : ℕ) (k : ℕ → ℕ)
-      → EndsWithin (network program env) bound k
-      → (a : ℕ) × IsLeastToEnd (network program env) a × ((a + 2) * (2 * most + 4) + waits ≤ limit → (n : ℕ) × (at ≡ Some n) × (n ≤ (a + 2) * (2 * most + 4) + waits))
+      → IsDone (network program env) bound k
+      → (a : ℕ) × IsLeastToEnd (network program env) a × (1 + a * suc most + waits ≤ limit → (n : ℕ) × (at ≡ Some n) × (n ≤ 1 + a * suc most + waits))
 
 -- For every text of a circuit of a well-formed program, whatever latencies are added, each report shows the program.
 abbrev pub CircuitTextsShowTheirProgram : Type 0
@@ -101,5 +101,6 @@ abbrev pub LatencyChangesNoReport : Type 0
 LatencyChangesNoReport =
     (program : Program) (added more bytes : List ℕ) (limit most m n : ℕ) (report other : List ℕ) (a : ShowsProgram program added bytes limit (Some m) report)
     (b : ShowsProgram program more bytes most (Some n) other)
-    → ((s : ℕ) (q : Stream) → slice_get program.streams.items s ≡ Some q → IsJoined (network program a.env) q.producer → written_to program added a.env m s ≡ written_to program more b.env n s)
+    → ((s : ℕ) (q : Stream) → slice_get program.streams.items s ≡ Some q → IsJoined (network program a.env) q.producer
+    → written_to program added a.env m s ≡ written_to program more b.env n s)
     × ((x : ℕ) (o : Memory) → slice_get program.memories.items x ≡ Some o → IsJoined (network program a.env) o.owner → a.cells x ≡ b.cells x)

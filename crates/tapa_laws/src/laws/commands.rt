@@ -16,8 +16,7 @@ pub fn law_commands_mean_one_thing()
     law_one_fault();
 }
 
-/// Where the files are known and no read and no write fails, each answer that a command which means one thing comes to by its files is
-/// told whole, or memory ran out.
+/// If the contents of the files are known and no read and no write fails, a command with one meaning writes each answer that its files lead to in full, or memory runs out.
 pub fn law_known_files_decide_the_answer()
     ensures { KnownFilesDecideTheAnswer }
 {}

@@ -30,7 +30,7 @@ pub fn law_sources_build_what_plan_prints()
     ensures { SourcesBuildWhatPlanPrints }
 {}
 
-/// A graph has one plan on a device by a mode, or one reason for none, and never both.
+/// By a mode, a graph has at most one plan on a device and at most one reason for none, and never both.
 pub fn law_graphs_have_one_plan()
     ensures plan { PlansAreOne }
     ensures refusal { RefusalsAreOne }

@@ -18,9 +18,9 @@ pub fn law_every_source_is_legal_or_refused()
     ensures one { (text top : List ℕ) → IsLegal text top → IsRefusedSomehow text top → ⊥ }
 {}
 
-/// In the program of each source that breaks no rule (its stream arrays written out) no two instances have one label, no two streams, no two leaves one
-/// name, nor one and the top task, and no two parameters of the top task. Leaves and parameters have names as the source spells them; a label begins
-/// with a letter or `_`, and goes on with letters, digits, `_` and `$`.
+/// Names are unique in the program of each source that breaks no rule (with its stream arrays written out). No two instances have one label, and no two
+/// streams have one name. No two leaves have one name, and no leaf has the name of the top task. No two parameters of the top task have one name. Leaves and
+/// parameters have names as the source spells them. A label begins with a letter or `_`, and continues with letters, digits, `_` and `$`.
 pub fn law_labels_tell_parts_apart()
     ensures { (text : List ℕ) (lexemes : List Lexeme) (items : List ItemTree) (top : List ℕ)
         → HasLexemes text lexemes → IsTreeOf (symbols_of text lexemes) items → program_faults items top ≡ [] → HasOwnLabels (program_of items top) }

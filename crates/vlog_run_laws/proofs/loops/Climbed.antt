@@ -22,6 +22,7 @@ use Rattle.vlog_run_laws.proofs.runs.Drivers.{count_map}
 use Rattle.vlog_run_laws.proofs.runs.Ending.{Ends, ends, all_end}
 use Rattle.vlog_run_laws.proofs.runs.Module.{contains}
 use Rattle.vlog_run_laws.proofs.runs.Settled.{module_in, child_at}
+use Rattle.tapa_base.proofs.Tests.{zero_left as none_more}
 
 -- what a filter leaves in
 kept_of : {A : Type 0} (p : A → Bool) (x y : A) (xs : List A) (b : Bool) → p x ≡ b → (Has (filter p xs) y → Has xs y × (p y ≡ true)) → Has (cond b (x ∷ filter p xs) (filter p xs)) y → ((x ≡ y) ⊎ Has xs y) × (p y ≡ true)
@@ -29,7 +30,7 @@ kept_of p x y xs true e ih (inl same) = (inl same, ap p (sym same) ∙ e)
 kept_of p x y xs true e ih (inr h) = let r = ih h in (inr r.0, r.1)
 kept_of p x y xs false e ih h = let r = ih h in (inr r.0, r.1)
 
-kept : {A : Type 0} (p : A → Bool) (xs : List A) (y : A) → Has (filter p xs) y → Has xs y × (p y ≡ true)
+pub kept : {A : Type 0} (p : A → Bool) (xs : List A) (y : A) → Has (filter p xs) y → Has xs y × (p y ≡ true)
 kept p [] y h = absurd h
 kept p (x ∷ xs) y h = kept_of p x y xs (p x) refl (kept p xs y) h
 
@@ -42,10 +43,6 @@ left_of p x y xs false e t ih (inr h) = ih h
 left_in : {A : Type 0} (p : A → Bool) (xs : List A) (y : A) → p y ≡ true → Has xs y → Has (filter p xs) y
 left_in p [] y t h = absurd h
 left_in p (x ∷ xs) y t h = left_of p x y xs (p x) refl t (left_in p xs y t) h
-
--- a name that stands at least once
-none_more : (n : ℕ) → 0 + n ≡ n
-none_more n = omega arith
 
 stands_of : (y : Name) (names : List Name) (x : Name) (b : Bool) → bytes_eq y x ≡ b → ((times_in names x == 0) ≡ false → Has names x) → ((cond b 1 0 + times_in names x) == 0) ≡ false → Has (y ∷ names) x
 stands_of y names x true e ih h = inl ((bytes_decides y x).0 e)
@@ -65,7 +62,7 @@ child_instance (Memory w y n) x h = absurd h
 child_instance (Assign y e) x h = absurd h
 child_instance (Always b) x h = absurd h
 
-instance_in : (m : ModuleTree) (x : Name) → Has (module_children m) x → (i : Name) × Has (instances m) (x, i)
+pub instance_in : (m : ModuleTree) (x : Name) → Has (module_children m) x → (i : Name) × Has (instances m) (x, i)
 unfolding module_children
 instance_in m x h =
     let t = of_flat item_children m.items x h in

@@ -8,7 +8,7 @@ use Rattle.vlog_tree.specs.Table.{Name}
 use Rattle.vlog_tree.specs.Cycle.{Path}
 use Rattle.vlog_tree.specs.Loops.{port_of}
 use Rattle.vlog_tree.specs.Flattened.{FlatNet}
-use Rattle.vlog_run_laws.proofs.runs.Sound.{both_true, true_not_false}
+use Rattle.tapa_base.proofs.Tests.{both_true, true_not_false}
 
 abbrev behind : ℕ → Option (Name × Name) → Option (Name × Name)
 behind c None = None

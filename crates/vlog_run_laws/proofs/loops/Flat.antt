@@ -25,13 +25,13 @@ use Rattle.tapa_base.proofs.Lists.{has_flat, of_flat, has_map, of_map, has_split
 use Rattle.vlog_run_laws.proofs.runs.Sound.{declared_by, assign_driven, assign_reads, connection_net}
 use Rattle.vlog_run_laws.proofs.runs.Alone.{instance_item, same_name, module_is, IsNamed}
 use Rattle.vlog_run_laws.proofs.runs.Settled.{child_at}
-use Rattle.vlog_run_laws.proofs.runs.Sizes.{all_at}
 use Rattle.vlog_run_laws.proofs.runs.Module.{name_declared}
 use Rattle.vlog_run_laws.proofs.runs.Parts.{part_line, part_outside, part_answer, driver_part, connection_part}
 use Rattle.vlog_run_laws.proofs.loops.Dots.{at_dot, node, own_node, port_node}
 use Rattle.vlog_run_laws.proofs.loops.Plain.{declared_plain, instance_plain}
 use Rattle.vlog_run_laws.proofs.loops.Climbed.{root_path, path_to}
 use Rattle.vlog_run_laws.specs.loops.Loops.{ContainsNoneItself, HasLoop}
+use Rattle.tapa_base.proofs.Got.{all_at}
 
 -- steps along parts are a walk
 walk_of : {N : Type 0} (parts : N → List N) (a b : N) → Chain (λ x y. Has (parts x) y) a b → (n : ℕ) × Walk parts (suc n) a b

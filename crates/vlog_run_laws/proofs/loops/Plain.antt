@@ -13,11 +13,11 @@ use Rattle.tapa_base.specs.Lists.{Has}
 use Rattle.vlog_tree.specs.Names.{is_name}
 use Rattle.vlog_tree.specs.Table.{Name, declared, port_declared, items_declared, declaration_name}
 use Rattle.tapa_base.proofs.Lists.{of_map, has_right, has_split}
-use Rattle.vlog_run_laws.proofs.runs.Sound.{both_true}
 use Rattle.vlog_run_laws.proofs.runs.Alone.{of_items, items_have}
 use Rattle.vlog_run_laws.proofs.loops.Dots.{at_dot, name_plain}
+use Rattle.tapa_base.proofs.Tests.{both_true}
 
-list_has : {A : Type 0} (p : A → Bool) (xs : List A) (x : A) → list_all p xs ≡ true → Has xs x → p x ≡ true
+pub list_has : {A : Type 0} (p : A → Bool) (xs : List A) (x : A) → list_all p xs ≡ true → Has xs x → p x ≡ true
 list_has p [] x h k = absurd k
 list_has p (y ∷ ys) x h (inl e) = subst (λ z. p z ≡ true) e (both_true (p y) (list_all p ys) h).0
 list_has p (y ∷ ys) x h (inr k) = list_has p ys x (both_true (p y) (list_all p ys) h).1 k

@@ -15,8 +15,10 @@ use Rattle.vlog_tree.specs.Cycle.{Cycle, Sizes, atom_value, put, store, run_step
 use Rattle.vlog_tree.specs.Table.{Name, NameUse, declared, net_kind_of, net_kind_is_read, net_kind_is_memory, is_clk, first_violation}
 use Rattle.vlog_tree.specs.V2.{v2_uses, item_uses, step_uses, atom_uses, read_use, memory_use}
 use Rattle.tapa_base.proofs.Lists.{has_flat}
-use Rattle.vlog_run_laws.proofs.runs.Sound.{item_right, atom_read, both_false, not_no}
+use Rattle.vlog_run_laws.proofs.runs.Sound.{item_right, atom_read}
 use Rattle.vlog_run_laws.proofs.runs.Values.{atom_same}
+use Rattle.tapa_base.proofs.Tests.{not_no}
+use Rattle.std.proofs.lemmas.Bool.{or_parts as both_false}
 
 -- the same numbers at the nets that can be read, and at the cells that are there
 pub record Alike (m : ModuleTree) (s : Sizes) (c d : Cycle) : Type 0 where

@@ -19,7 +19,9 @@ use Rattle.tapa_base.proofs.Lists.{of_flat, of_map, has_left, has_right, has_spl
 use Rattle.vlog_tree.proofs.Walks.{items_declared-cons}
 use Rattle.vlog_tree.specs.declared.tree.PortDecl.{PortDecl}
 use Rattle.vlog_tree.specs.declared.table.NetKind.TheVariants.{WireNet, Register, MemoryArray, ChildInstance}
-use Rattle.vlog_run_laws.proofs.runs.Sound.{item_right, port_right, both_false, true_not_false, not_no}
+use Rattle.vlog_run_laws.proofs.runs.Sound.{item_right, port_right}
+use Rattle.tapa_base.proofs.Tests.{not_no, true_not_false}
+use Rattle.std.proofs.lemmas.Bool.{or_parts as both_false}
 
 pub same_name : (x : Name) → bytes_eq x x ≡ true
 same_name x = (bytes_decides x x).1 refl

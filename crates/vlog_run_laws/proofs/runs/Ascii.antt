@@ -8,7 +8,7 @@ use Rattle.std.proofs.lemmas.Str.{IsAscii-append}
 use Rattle.std.proofs.lemmas.Str.Ascii.{IsAscii-nil}
 use Rattle.vlog_tree.specs.Table.{Name}
 use Rattle.vlog_tree.specs.Labels.{m_ack, m_addr, m_wdata, m_we, s_din, s_wr, s_rdy, done}
-use Rattle.vlog_run_laws.proofs.runs.Sound.{both_true}
+use Rattle.tapa_base.proofs.Tests.{both_true}
 
 ascii_cons : (b : ℕ) (bs : List ℕ) → b < 128 → IsAscii bs → IsAscii (b ∷ bs)
 ascii_cons b bs h k zero = h

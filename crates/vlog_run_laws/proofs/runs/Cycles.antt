@@ -20,12 +20,14 @@ use Rattle.vlog_tree.specs.V4.{v4_uses}
 use Rattle.vlog_tree.specs.Loops.{item_instances}
 use Rattle.vlog_tree.specs.Flattened.{FlatNet, outer_parts, lines_of}
 use Rattle.tapa_base.proofs.Lists.{has_flat, of_flat}
-use Rattle.vlog_run_laws.proofs.runs.Sound.{true_not_false, both_true, assign_driven, connection_port, connection_driven, is_known_module, input_is}
+use Rattle.vlog_run_laws.proofs.runs.Sound.{assign_driven, connection_port, connection_driven, is_known_module, input_is}
 use Rattle.vlog_run_laws.proofs.runs.Alone.{alone, same_name, one_instance, instance_single, module_there, module_is, IsNamed}
 use Rattle.vlog_run_laws.proofs.runs.Settled.{outside, Joined, joined, child_at, module_in}
-use Rattle.vlog_run_laws.proofs.runs.Sizes.{sizes_of, all_from, declared_bits, has_line, memory_cells, found_name}
+use Rattle.vlog_run_laws.proofs.runs.Sizes.{sizes_of, declared_bits, has_line, memory_cells, found_name}
 use Rattle.vlog_run_laws.proofs.runs.Drivers.{Source, value, output, sources, line_sources, source_of, source_cases, source_is, value_line, output_line, IsDrivenBy, assign_source, connection_has_source, few_sources, input_undriven}
 use Rattle.vlog_run_laws.proofs.runs.Equations.{nets_at, first_number, input_value, undriven_value, source_value, equation_in, equation}
+use Rattle.tapa_base.proofs.Tests.{both_true, true_not_false}
+use Rattle.tapa_base.proofs.Got.{all_from}
 
 port_first : (p : Declaration) (ports items : List Declaration) (x : Name) (b : Bool) → (net_kind_is_read (find_name ports x).net_kind ≡ true → find_name (ports ++ items) x ≡ find_name ports x)
     → net_kind_is_read (cond b p (find_name ports x)).net_kind ≡ true → cond b p (find_name (ports ++ items) x) ≡ cond b p (find_name ports x)

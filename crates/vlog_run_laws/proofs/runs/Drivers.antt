@@ -19,6 +19,7 @@ use Rattle.tapa_base.proofs.Lists.{has_flat, of_flat, has_map}
 use Rattle.vlog_run_laws.proofs.runs.Sound.{right}
 use Rattle.vlog_run_laws.proofs.runs.Alone.{count_cons, counted, alone, same_name}
 use Rattle.vlog_run_laws.proofs.runs.Sizes.{found_name}
+use Rattle.tapa_base.proofs.Got.{map_append as map_both}
 
 -- what drives a net: a value, or a port of an instance
 pub data Source : Type 0 where
@@ -96,10 +97,6 @@ none_counted (s ∷ ss) x e = count_cons (names_it x) s ss ∙ none_step ss x s.
 pub count_map : {A B : Type 0} (p : B → Bool) (f : A → B) (xs : List A) → count_by p (map f xs) ≡ count_by (λ x. p (f x)) xs
 count_map p f [] = refl
 count_map p f (x ∷ xs) = count_cons p (f x) (map f xs) ∙ ap (λ n. cond (p (f x)) 1 0 + n) (count_map p f xs) ∙ sym (count_cons (λ x. p (f x)) x xs)
-
-map_both : {A B : Type 0} (f : A → B) (xs ys : List A) → map f (xs ++ ys) ≡ map f xs ++ map f ys
-map_both f [] ys = refl
-map_both f (x ∷ xs) ys = ap (λ l. f x ∷ l) (map_both f xs ys)
 
 map_flat : {A B C : Type 0} (f : B → C) (g : A → List B) (k : A → List C) → ((x : A) → map f (g x) ≡ k x) → (xs : List A) → map f (flat_map g xs) ≡ flat_map k xs
 map_flat f g k e [] = refl

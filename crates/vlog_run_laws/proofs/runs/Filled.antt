@@ -13,9 +13,10 @@ use Rattle.vlog_tree.specs.Refused.{IsSound}
 use Rattle.vlog_run_laws.specs.runs.Filled.{HoldsFill, IsFilled, filled, filled_module}
 use Rattle.vlog_run_laws.specs.runs.OneRun.{FitsPowerUp}
 use Rattle.vlog_run_laws.proofs.runs.Settled.{module_in}
-use Rattle.vlog_run_laws.proofs.runs.Sizes.{all_at, all_from, declared_bits, has_line}
+use Rattle.vlog_run_laws.proofs.runs.Sizes.{declared_bits, has_line}
+use Rattle.tapa_base.proofs.Got.{all_at, all_from}
 
-cut_below : (n w : ℕ) → n % 2 ^ w < 2 ^ w
+pub cut_below : (n w : ℕ) → n % 2 ^ w < 2 ^ w
 cut_below n w = mod-lt n (pow_pos w)
 
 fill_fits : (fill : ℕ) (c : Cycle) (it : Item) → HoldsFill fill c it → PowersUp c it

@@ -8,8 +8,8 @@ use Rattle.vlog_tree.specs.declared.tree.PortDecl.{PortDecl}
 use Rattle.tapa_base.specs.Lists.{Has}
 use Rattle.vlog_tree.specs.Table.{Name}
 use Rattle.tapa_base.proofs.Lists.{of_flat, has_got}
-use Rattle.vlog_run_laws.proofs.runs.Sound.{true_not_false}
 use Rattle.vlog_run_laws.proofs.runs.Alone.{same_name, count_cons, twice_counted}
+use Rattle.tapa_base.proofs.Tests.{true_not_false}
 
 -- the place of the first label of this name
 abbrev pub place : List Port → Name → ℕ

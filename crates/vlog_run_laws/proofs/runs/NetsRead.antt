@@ -27,7 +27,7 @@ use Rattle.vlog_run_laws.proofs.runs.TopPorts.{clock_joined, asked_declared}
 use Rattle.vlog_run_laws.proofs.runs.Solved.{module_around}
 use Rattle.vlog_run_laws.specs.runs.Readable.{CanBeRead}
 
-by_input : (b : Bool) (l : List Name) (y : Name) → Has (cond b l []) y → b ≡ true
+pub by_input : (b : Bool) (l : List Name) (y : Name) → Has (cond b l []) y → b ≡ true
 by_input true l y h = refl
 by_input false l y h = absurd h
 

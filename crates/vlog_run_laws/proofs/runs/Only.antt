@@ -16,12 +16,12 @@ use Rattle.vlog_tree.specs.Flattened.{FlatNet, parts, line_parts}
 use Rattle.tapa_base.proofs.Lists.{of_flat}
 use Rattle.vlog_run_laws.specs.runs.OneRun.{SameHeld}
 use Rattle.vlog_run_laws.specs.runs.Readable.{CanBeRead}
-use Rattle.vlog_run_laws.proofs.runs.Sizes.{all_from}
 use Rattle.vlog_run_laws.proofs.runs.Parts.{part_line, part_outside, part_answer}
 use Rattle.vlog_run_laws.proofs.runs.Equations.{module_same, input_value}
 use Rattle.vlog_run_laws.proofs.runs.Run.{asked_at}
 use Rattle.vlog_run_laws.proofs.runs.NetsRead.{line_net, outside_net, answer_net}
 use Rattle.vlog_run_laws.proofs.runs.Solved.{numbers, Allowed, net_solves, inner_input}
+use Rattle.tapa_base.proofs.Got.{all_from}
 
 module _ (ms : List ModuleTree) (root : ModuleTree) (names : first_violation (v2_uses ms) ≡ None) (drivers : first_violation (v4_uses ms) ≡ None) (tops : first_violation (v6_uses ms) ≡ None)
     (in_root : Has ms root) (top_is : is_top ms root.name ≡ true) where

@@ -13,9 +13,10 @@ use Rattle.vlog_tree.specs.Labels.{rst, done, scalar_of, ack_of, rdata_of, addr_
 use Rattle.vlog_tree.specs.V2.{v2_uses}
 use Rattle.vlog_tree.specs.V6.{v6_uses, module_tops, port_fits, is_expected, is_memory_port, fixed_fits, scalar_fits, ack_fits, rdata_fits, addr_fits, wdata_fits, we_fits, has_all_five, has_port, is_in, is_out, agrees, is_top, is_whole_top}
 use Rattle.tapa_base.proofs.Lists.{of_map}
-use Rattle.vlog_run_laws.proofs.runs.Sound.{both_true, not_no, no_is, true_not_false, declared_by}
+use Rattle.vlog_run_laws.proofs.runs.Sound.{declared_by}
 use Rattle.vlog_run_laws.proofs.runs.Sizes.{declared_net_kind, has_port as port_in}
 use Rattle.vlog_run_laws.proofs.runs.TopPorts.{port_right, use_right}
+use Rattle.tapa_base.proofs.Tests.{not_no, not_so as no_is, both_true, true_not_false}
 
 pub record PortFits (ports : List Declaration) (before : List PortDecl) (p : PortDecl) : Type 0 where
   pub expected : is_expected p.name ≡ true
@@ -39,7 +40,7 @@ port_parts ports before p h =
     let f = both_true (is_expected p.name) (fixed_fits p) s.0 in
     record { expected = f.0; fixed = f.1; scalar = s.1; ack = k.1; rdata = r.1; addr = a.1; wdata = d.1; we = w.1 }
 
-either_true : (a b : Bool) → a ≡ true → (not a || b) ≡ true → b ≡ true
+pub either_true : (a b : Bool) → a ≡ true → (not a || b) ≡ true → b ≡ true
 either_true true b e h = h
 either_true false b e h = cc
 

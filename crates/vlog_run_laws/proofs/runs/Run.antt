@@ -15,9 +15,10 @@ use Rattle.vlog_tree.specs.Flattened.{FlatNet, parts}
 use Rattle.vlog_tree.proofs.Grounds.{values, values_solve}
 use Rattle.vlog_run_laws.specs.runs.OneRun.{SameHeld, FitsPowerUp, BeginsWith}
 use Rattle.vlog_run_laws.proofs.runs.Settled.{answers, module_in}
-use Rattle.vlog_run_laws.proofs.runs.Sizes.{sizes_of, all_from, all_at, declared_net_kind, has_line, ports_hold}
+use Rattle.vlog_run_laws.proofs.runs.Sizes.{sizes_of, declared_net_kind, has_line, ports_hold}
 use Rattle.vlog_run_laws.proofs.runs.Equations.{nets_at, first_number, equation, equation_reads}
 use Rattle.vlog_run_laws.proofs.runs.Cycles.{held_number, input_number, lines_hold, lines_connected}
+use Rattle.tapa_base.proofs.Got.{all_at, all_from}
 
 -- what is around the top: how it begins, what it makes of the top's nets in a cycle, and what it gives an input
 pub record World (W : Type 0) : Type 0 where

@@ -15,17 +15,10 @@ use Rattle.vlog_tree.specs.Cycle.{Cycle, Sizes, Holds, PortHolds}
 use Rattle.vlog_tree.specs.Table.{Name, declared, port_declared, items_declared, declaration_name, find_name, net_kind_of, bits_of, net_kind_is_memory, net_kind_is_register, first_violation}
 use Rattle.vlog_tree.specs.V2.{v2_uses}
 use Rattle.tapa_base.proofs.Lists.{has_map, of_map, has_left, has_right, has_split}
-use Rattle.vlog_run_laws.proofs.runs.Sound.{declared_by, true_not_false}
+use Rattle.vlog_run_laws.proofs.runs.Sound.{declared_by}
 use Rattle.vlog_run_laws.proofs.runs.Alone.{one_memory, stands_for, of_items, items_have, find_there}
-
-pub all_at : {A : Type 0} (P : A → Type 0) (xs : List A) (x : A) → AllByRecursion P xs → Has xs x → P x
-all_at P [] x a h = absurd h
-all_at P (y ∷ ys) x a (inl e) = subst P e a.0
-all_at P (y ∷ ys) x a (inr h) = all_at P ys x a.1 h
-
-pub all_from : {A : Type 0} (P : A → Type 0) (xs : List A) → ((x : A) → Has xs x → P x) → AllByRecursion P xs
-all_from P [] f = tt
-all_from P (y ∷ ys) f = (f y (inl refl), all_from P ys (λ x h. f x (inr h)))
+use Rattle.tapa_base.proofs.Tests.{true_not_false}
+use Rattle.tapa_base.proofs.Got.{all_at, all_from}
 
 abbrev pub cells_of : List Item → Name → ℕ
 cells_of [] x = 0

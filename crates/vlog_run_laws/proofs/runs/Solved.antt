@@ -22,36 +22,38 @@ use Rattle.vlog_tree.specs.V4.{v4_uses}
 use Rattle.vlog_tree.specs.Flattened.{FlatNet}
 use Rattle.tapa_base.proofs.Lists.{of_flat, of_map, has_map}
 use Rattle.vlog_run_laws.specs.runs.OneRun.{SameHeld}
-use Rattle.vlog_run_laws.proofs.runs.Sound.{both_true, assign_driven, assign_reads, assign_cell}
+use Rattle.vlog_run_laws.proofs.runs.Sound.{assign_driven, assign_reads, assign_cell}
 use Rattle.vlog_run_laws.proofs.runs.Alone.{count_cons, instance_single, module_is, IsNamed, find_there}
 use Rattle.vlog_run_laws.proofs.runs.Settled.{outside, Joined, joined, module_in}
-use Rattle.vlog_run_laws.proofs.runs.Sizes.{sizes_of, all_at, width_held, memory_item, register_item, memory_cells}
+use Rattle.vlog_run_laws.proofs.runs.Sizes.{sizes_of, width_held, memory_item, register_item, memory_cells}
 use Rattle.vlog_run_laws.proofs.runs.Values.{driven_same, ReadsAlike}
 use Rattle.vlog_run_laws.proofs.runs.Drivers.{Source, value, output, sources, line_sources, source_of, source_cases, value_line, output_line, IsDrivenBy, has_source}
 use Rattle.vlog_run_laws.proofs.runs.Equations.{nets_at, first_number, input_value, undriven_value, source_value, module_equation}
 use Rattle.vlog_run_laws.proofs.runs.Cycles.{port_stands, outside_has}
 use Rattle.vlog_run_laws.proofs.runs.Alike.{memory_is}
 use Rattle.vlog_run_laws.proofs.runs.TopPorts.{input_port}
+use Rattle.tapa_base.proofs.Tests.{both_true}
+use Rattle.tapa_base.proofs.Got.{all_at}
 
 abbrev pub numbers : (Path → Cycle) → FlatNet → ℕ
 numbers c k = (c k.0).net k.1
 
-below_of : (a n : ℕ) → nat_lt a n ≡ true → a < n
+pub below_of : (a n : ℕ) → nat_lt a n ≡ true → a < n
 below_of a n h = grind (arith, nat_tests)
 
 read_of : (b : Bool) (a n p q : ℕ) → nat_lt a n ≡ b → (a < n → p ≡ q) → cond b p 0 ≡ cond b q 0
 read_of true a n p q e f = f (below_of a n e)
 read_of false a n p q e f = refl
 
-some_step : {A : Type 0} (p : A → Bool) (x : A) (xs : List A) (b : Bool) → p x ≡ b → 1 ≤ one_if b + count_by p xs → (1 ≤ count_by p xs → (y : A) × Has xs y × (p y ≡ true)) → (y : A) × Has (x ∷ xs) y × (p y ≡ true)
+pub some_step : {A : Type 0} (p : A → Bool) (x : A) (xs : List A) (b : Bool) → p x ≡ b → 1 ≤ one_if b + count_by p xs → (1 ≤ count_by p xs → (y : A) × Has xs y × (p y ≡ true)) → (y : A) × Has (x ∷ xs) y × (p y ≡ true)
 some_step p x xs true e h f = (x, inl refl, e)
 some_step p x xs false e h f = let r = f (omega arith) in (r.0, inr r.1, r.2)
 
-some_counted : {A : Type 0} (p : A → Bool) (xs : List A) → 1 ≤ count_by p xs → (x : A) × Has xs x × (p x ≡ true)
+pub some_counted : {A : Type 0} (p : A → Bool) (xs : List A) → 1 ≤ count_by p xs → (x : A) × Has xs x × (p x ≡ true)
 some_counted p [] h = absurd (omega arith)
 some_counted p (x ∷ xs) h = some_step p x xs (p x) refl (subst (λ n. 1 ≤ n) (count_cons p x xs) h) (some_counted p xs)
 
-count_one : (n : ℕ) → (n == 1) ≡ true → 1 ≤ n
+pub count_one : (n : ℕ) → (n == 1) ≡ true → 1 ≤ n
 count_one n e = grind (arith, nat_tests)
 
 connection_for : (ports : List Declaration) (connections : List Connection) → all_connected ports connections ≡ true → (d : Declaration) → Has ports d → (l : Connection) × Has connections l × (bytes_eq l.port d.name ≡ true)

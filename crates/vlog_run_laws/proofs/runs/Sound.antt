@@ -21,6 +21,8 @@ use Rattle.vlog_tree.specs.V2.{memory_use, v2_uses, module_uses, port_uses, item
 use Rattle.vlog_tree.specs.Loops.{value_nets, atom_nets}
 use Rattle.vlog_tree.proofs.Lists.{known}
 use Rattle.tapa_base.proofs.Lists.{has_flat, of_flat, has_left, has_right, has_split}
+use Rattle.tapa_base.proofs.Tests.{not_no, not_so as no_is, both_true, true_not_false}
+use Rattle.std.proofs.lemmas.Bool.{or_parts as both_false}
 
 right_here : (b : Bool) (x : Name) (o : Option Name) → cond b (Some x) o ≡ None → b ≡ false
 right_here true x o h = cc
@@ -35,27 +37,6 @@ pub right : (us : List NameUse) → first_violation us ≡ None → (u : NameUse
 right [] h u has = absurd has
 right (v ∷ us) h u (inl e) = ap (λ (w : NameUse). w.1) (sym e) ∙ right_here v.1 v.0 (first_violation us) h
 right (v ∷ us) h u (inr has) = right us (right_behind v.1 v.0 (first_violation us) h) u has
-
-pub both_false : (a b : Bool) → (a || b) ≡ false → (a ≡ false) × (b ≡ false)
-both_false false false h = (refl, refl)
-both_false false true h = cc
-both_false true b h = cc
-
-pub not_no : (a : Bool) → not a ≡ false → a ≡ true
-not_no true h = refl
-not_no false h = cc
-
-pub no_is : (a : Bool) → not a ≡ true → a ≡ false
-no_is true h = cc
-no_is false h = refl
-
-pub true_not_false : true ≡ false → ⊥
-true_not_false h = cc
-
-pub both_true : (a b : Bool) → (a && b) ≡ true → (a ≡ true) × (b ≡ true)
-both_true true true h = (refl, refl)
-both_true true false h = cc
-both_true false b h = cc
 
 -- a name whose net kind passes a test that Unknown doesn't is declared
 pub declared_by : (test : NetKind → Bool) (ds : List Declaration) (x : Name) → test Unknown ≡ false → test (net_kind_of ds x) ≡ true → Has (map declaration_name ds) x

@@ -65,25 +65,25 @@ pub record IsRunAround (ms : List ModuleTree) (top : ModuleTree) (env : Environm
 abbrev stored : Cycle → Name → List ℕ → List ℕ
 stored c l cells = if (c.net (m_ack l) == 1) && (c.net (m_we l) == 1) then set_cell cells (c.net (m_addr l)) (c.net (m_wdata l)) else cells
 
-later : (n : ℕ) → (suc n == 0) ≡ false
+pub later : (n : ℕ) → (suc n == 0) ≡ false
 later n = grind (arith, nat_tests)
 
 later_reset : (n : ℕ) → one_if (suc n == 0) ≡ 0
 later_reset n = ap (λ b. one_if b) (later n)
 
-clock_of_ack : (l : Name) → is_clk (m_ack l) ≡ false
+pub clock_of_ack : (l : Name) → is_clk (m_ack l) ≡ false
 unfolding m_ack clk
 clock_of_ack l = refl
 
-clock_of_we : (l : Name) → is_clk (m_we l) ≡ false
+pub clock_of_we : (l : Name) → is_clk (m_we l) ≡ false
 unfolding m_we clk
 clock_of_we l = refl
 
-clock_of_wdata : (l : Name) → is_clk (m_wdata l) ≡ false
+pub clock_of_wdata : (l : Name) → is_clk (m_wdata l) ≡ false
 unfolding m_wdata clk
 clock_of_wdata l = refl
 
-stored_same : (a a' w w' p p' d d' : ℕ) (cells : List ℕ) → a ≡ a' → w ≡ w' → p ≡ p' → d ≡ d'
+pub stored_same : (a a' w w' p p' d d' : ℕ) (cells : List ℕ) → a ≡ a' → w ≡ w' → p ≡ p' → d ≡ d'
     → cond ((a == 1) && (w == 1)) (set_cell cells p d) cells ≡ cond ((a' == 1) && (w' == 1)) (set_cell cells p' d') cells
 stored_same a a' w w' p p' d d' cells e f g h = rw (e, f, g, h) refl
 

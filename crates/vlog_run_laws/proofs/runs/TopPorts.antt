@@ -15,10 +15,11 @@ use Rattle.vlog_tree.specs.Table.{Name, NameUse, clk, is_clk, declared, port_dec
 use Rattle.vlog_tree.specs.Labels.{rdata_of, m_addr, m_ack, m_we, m_wdata, m_rdata, read_of, address_of}
 use Rattle.vlog_tree.specs.V6.{v6_uses, module_tops, top_ports, clock_connections, clock_connection, port_fits, rdata_fits, addr_fits, wdata_fits, we_fits, has_all_five, has_port, is_top, agrees}
 use Rattle.tapa_base.proofs.Lists.{has_flat, has_map, of_map, has_left, has_right, has_split}
-use Rattle.vlog_run_laws.proofs.runs.Sound.{right, both_true, not_no}
+use Rattle.vlog_run_laws.proofs.runs.Sound.{right}
 use Rattle.vlog_run_laws.proofs.runs.Sizes.{found_name}
 use Rattle.vlog_run_laws.proofs.runs.Alone.{of_items}
 use Rattle.vlog_run_laws.proofs.runs.Cycles.{port_stands}
+use Rattle.tapa_base.proofs.Tests.{not_no, both_true}
 
 pub memory_clock : (x : Name) → is_clk (m_addr x) ≡ false
 unfolding m_addr clk

@@ -13,7 +13,6 @@ use Rattle.vlog_tree.specs.Labels.{m_rdata, m_wdata, rdata_of, wdata_of}
 use Rattle.vlog_tree.specs.V2.{v2_uses}
 use Rattle.vlog_tree.specs.V6.{v6_uses, module_tops, top_ports, clock_connections, port_fits, rdata_fits, wdata_fits, has_all_five, bits_before, agrees, is_top}
 use Rattle.tapa_base.proofs.Lists.{has_left}
-use Rattle.vlog_run_laws.proofs.runs.Sound.{both_true, not_no}
 use Rattle.vlog_run_laws.proofs.runs.Alone.{same_name}
 use Rattle.vlog_run_laws.proofs.runs.Sizes.{declared_bits, has_port}
 use Rattle.vlog_tree.proofs.Labelled.{label_of}
@@ -21,6 +20,7 @@ use Rattle.vlog_run_laws.proofs.runs.Labelled.{rdata_of_label}
 use Rattle.vlog_run_laws.proofs.runs.TopPorts.{use_right, five_of, five_rdata}
 use Rattle.vlog_run_laws.proofs.runs.Ports.{port_parts, named_port}
 use Rattle.vlog_run_laws.proofs.widths.Bits.{same_of}
+use Rattle.tapa_base.proofs.Tests.{not_no, both_true}
 
 pub wdata_of_label : (l : Name) → 0 < length l → wdata_of (m_wdata l) ≡ Some l
 unfolding wdata_of m_wdata

@@ -1,4 +1,5 @@
--- Each run in an environment is one beside memories that show a cell where they answer, and so is one beside memories that show given numbers else.
+-- Each run in an environment is one beside memories that show a cell where they answer and nothing is stored, and so is one beside memories that show
+-- given numbers else.
 use Rattle.std.proofs.Common.{◌≡◌, ℕ, zero, suc, ◌^◌, ◌<◌, Bool, true, false, cond, List, [], get_or, Some, refl, ap, ◌∙◌}
 use Rattle.std.specs.Prelude.{◌==◌, if◌then◌else◌, slice_get, unwrap_or}
 use Rattle.tapa_base.specs.declared.shape.Port.{Port}
@@ -8,7 +9,7 @@ use Rattle.vlog_tree.specs.Cycle.{Cycle, Path}
 use Rattle.vlog_tree.specs.Environment.{Environment, FitsShape, RunsIn, shape_of, ready_at, cells_at}
 use Rattle.vlog_tree.specs.Form.{ModuleTree}
 use Rattle.vlog_tree.specs.Refused.{IsDesign}
-use Rattle.vlog_tree.specs.Labels.{m_addr}
+use Rattle.vlog_tree.specs.Labels.{m_addr, m_we}
 use Rattle.vlog_run_laws.proofs.runs.Surround.{cell_at}
 use Rattle.vlog_run_laws.proofs.widths.Fitting.{run_fits, run_fits_among}
 use Rattle.vlog_run_laws.proofs.widths.Given.{GivesTop, stands_give, among_gives}
@@ -38,19 +39,21 @@ runs_beside ms place root d at env env_fits nets r =
           quiet = refl;
           ack = λ n. (r.stands.memories i l got).ack n ∙ bit_back (get_or env.ready i []) n;
           width = λ n. given.rdata n i l got (fits.outside n i l got);
-          rdata = λ n ok. (r.stands.memories i l got).rdata n;
+          rdata = λ n ok still. (r.stands.memories i l got).rdata n;
         };
       };
     }
 
 module _ (ms : List ModuleTree) (place : ℕ) (root : ModuleTree) (d : IsDesign ms place) (at : slice_get ms place ≡ Some root)
-    (env : Environment) (env_fits : FitsShape env (shape_of root)) (answers : ℕ → ℕ → Bool) (others : ℕ → ℕ → ℕ) (quiet : (i : ℕ) → answers i 0 ≡ false)
+    (env : Environment) (env_fits : FitsShape env (shape_of root)) (answers shows : ℕ → ℕ → Bool) (others : ℕ → ℕ → ℕ) (quiet : (i : ℕ) → answers i 0 ≡ false)
     (low : (i n : ℕ) (l : Port) → slice_get (shape_of root).memories i ≡ Some l → others i n < 2 ^ l.bits) where
-  pub among_is_beside : (contents : Path → Cycle) (nets : ℕ → Path → Cycle) → IsRunAmong ms root env answers others contents nets → RunsBeside ms root env answers nets
-  among_is_beside contents nets r =
+  pub among_is_beside : (contents : Path → Cycle) (nets : ℕ → Path → Cycle)
+      → ((i n : ℕ) (l : Port) → slice_get (shape_of root).memories i ≡ Some l → answers i n ≡ true → (nets n []).net (m_we l.name) ≡ 0 → shows i n ≡ true)
+      → IsRunAmong ms root env answers shows others contents nets → RunsBeside ms root env answers nets
+  among_is_beside contents nets shown r =
       let run : ℕ → Cycle = λ n. nets n [] in
-      let fits = run_fits_among ms place root d at env env_fits answers others low nets r.runs r.stands in
-      let given : GivesTop root env run = among_gives root env answers others low run r.stands in
+      let fits = run_fits_among ms place root d at env env_fits answers shows others low nets r.runs r.stands in
+      let given : GivesTop root env run = among_gives root env answers shows others low run r.stands in
       record {
         runs = r.runs;
         stands = record {
@@ -61,9 +64,9 @@ module _ (ms : List ModuleTree) (place : ℕ) (root : ModuleTree) (d : IsDesign 
             quiet = quiet i;
             ack = λ n. r.stands.ack n i l got;
             width = λ n. given.rdata n i l got (fits.outside n i l got);
-            rdata = λ n ok.
+            rdata = λ n ok still.
                 r.stands.rdata n i l got
-                ∙ ap (λ b. cond b (cell_at (cells_at run l.name (get_or env.memories i []) n) ((run n).net (m_addr l.name))) (others i n)) ok;
+                ∙ ap (λ b. cond b (cell_at (cells_at run l.name (get_or env.memories i []) n) ((run n).net (m_addr l.name))) (others i n)) (shown i n l got ok still);
           };
         };
       }

@@ -20,11 +20,10 @@ use Rattle.vlog_tree.specs.Cycle.{Cycle, Sizes, atom_value, atom_width, op_value
 use Rattle.vlog_tree.specs.V3.{memory_fits, net_fits, is_width, atom_bits, atom_fits, has_bits, is_divisor, op_fits, value_fits}
 use Rattle.vlog_tree.specs.Loops.{atom_nets, value_nets}
 use Rattle.tapa_base.proofs.Lists.{has_left, has_right}
-use Rattle.vlog_run_laws.proofs.runs.Sound.{both_true}
 use Rattle.vlog_run_laws.specs.widths.Widths.{TakesOperands, Operates}
-
-below_of : (a n : ℕ) → nat_lt a n ≡ true → a < n
-below_of a n h = grind (arith, nat_tests)
+use Rattle.tapa_base.proofs.Tests.{cond_low as chosen_below, both_true, join_fits as row_below}
+use Rattle.vlog_run_laws.proofs.runs.Solved.{below_of}
+use Rattle.vlog_run_laws.proofs.runs.Filled.{cut_below}
 
 pub same_of : (a b : ℕ) → (a == b) ≡ true → a ≡ b
 same_of a b h = grind (arith, nat_tests)
@@ -32,24 +31,9 @@ same_of a b h = grind (arith, nat_tests)
 more_than_none : (n : ℕ) → (n == 0) ≡ false → 0 < n
 more_than_none n h = grind (arith, nat_tests)
 
-cut_below : (n w : ℕ) → n % 2 ^ w < 2 ^ w
-cut_below n w = mod-lt n (pow_pos w)
-
 one_below : (b : Bool) (w : ℕ) → w ≡ 1 → one_if b < 2 ^ w
 one_below true w e = subst (λ n. 1 < 2 ^ n) (sym e) (omega arith)
 one_below false w e = pow_pos w
-
-chosen_below : (b : Bool) (p q n : ℕ) → p < n → q < n → cond b p q < n
-chosen_below true p q n h k = h
-chosen_below false p q n h k = k
-
--- a number of n bits before one of w bits
-row_below : (a v n w : ℕ) → a < 2 ^ n → v < 2 ^ w → a * 2 ^ w + v < 2 ^ (n + w)
-row_below a v n w h k =
-    let row : suc a * 2 ^ w ≤ 2 ^ n * 2 ^ w = mul-le-mul_right (2 ^ w) h in
-    let one : suc a * 2 ^ w ≡ a * 2 ^ w + 2 ^ w = suc-mul a (2 ^ w) in
-    let all : 2 ^ (n + w) ≡ 2 ^ n * 2 ^ w = pow-add 2 n w in
-    omega arith
 
 copies_below : (w v n : ℕ) → v < 2 ^ w → copies w v n < 2 ^ (n * w)
 copies_below w v zero h = pow_pos (zero * w)

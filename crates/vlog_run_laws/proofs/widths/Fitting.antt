@@ -17,7 +17,7 @@ use Rattle.vlog_run_laws.specs.runs.OneRun.{FitsPowerUp}
 use Rattle.vlog_run_laws.proofs.runs.Sound.{assign_driven, assign_reads, driven_is_read}
 use Rattle.vlog_run_laws.proofs.runs.Alone.{register_clock}
 use Rattle.vlog_run_laws.proofs.runs.Settled.{design_settles, top_tree, IsTopTree, module_in}
-use Rattle.vlog_run_laws.proofs.runs.Sizes.{all_at, all_from, declared_net_kind, has_line, width_held}
+use Rattle.vlog_run_laws.proofs.runs.Sizes.{declared_net_kind, has_line, width_held}
 use Rattle.vlog_run_laws.proofs.runs.Solved.{Allowed}
 use Rattle.vlog_run_laws.specs.widths.Widths.{NumbersFit, OutsideFits, RunFits, DriversFit}
 use Rattle.vlog_run_laws.proofs.widths.Bits.{value_operates}
@@ -25,6 +25,7 @@ use Rattle.vlog_run_laws.proofs.widths.Ruled.{assign_width, assign_clock, net_wi
 use Rattle.vlog_run_laws.proofs.widths.Steps.{register_bits, items_fit}
 use Rattle.vlog_run_laws.proofs.widths.Nets.{cycle_fits}
 use Rattle.vlog_run_laws.proofs.widths.Given.{GivesTop, stands_give, beside_gives, among_gives, input_below, outside_next, mapped_got, listed}
+use Rattle.tapa_base.proofs.Got.{all_at, all_from}
 
 module _ (ms : List ModuleTree) (place : ℕ) (root : ModuleTree) (d : IsDesign ms place) (at_place : slice_get ms place ≡ Some root) (env : Environment) (env_fits : FitsShape env (shape_of root)) (nets : ℕ → Path → Cycle) (runs : Runs ms root nets) (given : GivesTop root env (λ n. nets n [])) where
   tree : IsTopTree ms root
@@ -94,7 +95,7 @@ module _ (ms : List ModuleTree) (place : ℕ) (root : ModuleTree) (d : IsDesign 
         value = subst (λ v. v < 2 ^ bits_of (declared m) x) (is ∙ ap (λ w. driven s w (nets n path) e) width) (fit.nets x read (assign_clock ms d.sound.names m here x e has));
       }
 
--- in an environment, and beside memories that show a cell where they answer
+-- in an environment, and beside memories that show a cell where they answer and nothing is stored
 module _ (ms : List ModuleTree) (place : ℕ) (root : ModuleTree) (d : IsDesign ms place) (at_place : slice_get ms place ≡ Some root) (env : Environment) (env_fits : FitsShape env (shape_of root)) where
   pub run_fits : (nets : ℕ → Path → Cycle) → RunsIn ms root env nets → RunFits ms root env nets
   run_fits nets r = all_fit ms place root d at_place env env_fits nets r.runs (stands_give root env (λ n. nets n []) r.stands)
@@ -102,9 +103,9 @@ module _ (ms : List ModuleTree) (place : ℕ) (root : ModuleTree) (d : IsDesign 
   pub run_fits_beside : (acks : ℕ → ℕ → Bool) (nets : ℕ → Path → Cycle) → RunsBeside ms root env acks nets → RunFits ms root env nets
   run_fits_beside acks nets r = all_fit ms place root d at_place env env_fits nets r.runs (beside_gives root env acks (λ n. nets n []) r.stands)
 
-  pub run_fits_among : (acks : ℕ → ℕ → Bool) (others : ℕ → ℕ → ℕ) → ((i n : ℕ) (l : Port) → slice_get (shape_of root).memories i ≡ Some l → others i n < 2 ^ l.bits)
-      → (nets : ℕ → Path → Cycle) → Runs ms root nets → StandsAmong root env acks others (λ n. nets n []) → RunFits ms root env nets
-  run_fits_among acks others low nets runs s = all_fit ms place root d at_place env env_fits nets runs (among_gives root env acks others low (λ n. nets n []) s)
+  pub run_fits_among : (acks shows : ℕ → ℕ → Bool) (others : ℕ → ℕ → ℕ) → ((i n : ℕ) (l : Port) → slice_get (shape_of root).memories i ≡ Some l → others i n < 2 ^ l.bits)
+      → (nets : ℕ → Path → Cycle) → Runs ms root nets → StandsAmong root env acks shows others (λ n. nets n []) → RunFits ms root env nets
+  run_fits_among acks shows others low nets runs s = all_fit ms place root d at_place env env_fits nets runs (among_gives root env acks shows others low (λ n. nets n []) s)
 
   pub drivers_fit : (nets : ℕ → Path → Cycle) → RunsIn ms root env nets → (n : ℕ) (path : Path) (m : ModuleTree) → module_at ms root path ≡ Some m → DriversFit m (nets n path)
   drivers_fit nets r n path m at = each_driver_fits ms place root d at_place env env_fits nets r.runs (stands_give root env (λ n. nets n []) r.stands) n path m at

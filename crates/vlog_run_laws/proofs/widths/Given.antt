@@ -21,7 +21,6 @@ use Rattle.vlog_tree.specs.Environment.{Environment, FitsShape, widths, shape_of
 use Rattle.vlog_run_laws.specs.Beside.{StandsBeside}
 use Rattle.vlog_run_laws.specs.runs.Among.{StandsAmong}
 use Rattle.tapa_base.proofs.Lists.{has_flat, of_flat, got_has, has_got}
-use Rattle.vlog_run_laws.proofs.runs.Sound.{both_true}
 use Rattle.vlog_run_laws.proofs.runs.Cycles.{port_stands}
 use Rattle.vlog_run_laws.proofs.runs.TopPorts.{input_port, five_of}
 use Rattle.vlog_run_laws.proofs.runs.Ports.{PortFits, fits, named_port, ack_input, rdata_input, input_has_label}
@@ -29,6 +28,7 @@ use Rattle.vlog_run_laws.proofs.runs.Labelled.{scalar_label as label_of_scalar, 
 use Rattle.vlog_run_laws.specs.widths.Widths.{NumbersFit, CellsFit, OutsideFits}
 use Rattle.vlog_run_laws.proofs.widths.Bits.{same_of}
 use Rattle.vlog_run_laws.proofs.widths.Agreeing.{port_bits, data_agree}
+use Rattle.tapa_base.proofs.Tests.{both_true}
 
 abbrev AllBelow : ℕ → List ℕ → Type 0
 AllBelow w vs = AllByRecursion (λ v. v < 2 ^ w) vs
@@ -78,7 +78,7 @@ reset_bit : (run : ℕ → Cycle) → (run 0).net rst ≡ 1 → ((n : ℕ) → (
 reset_bit run first later zero = subst (λ v. v < 2 ^ 1) (sym first) (omega arith)
 reset_bit run first later (suc n) = subst (λ v. v < 2 ^ 1) (sym (later n)) (omega arith)
 
--- an environment does, and so do memories that show a cell where they answer
+-- an environment does, and so do memories that show a cell where they answer and nothing is stored
 pub stands_give : (m : ModuleTree) (env : Environment) (run : ℕ → Cycle) → Stands m env run → GivesTop m env run
 stands_give m env run s = record {
   reset = reset_bit run s.reset s.runs;
@@ -100,10 +100,10 @@ chosen_below : (w : ℕ) (b : Bool) (u v : ℕ) → u < 2 ^ w → v < 2 ^ w → 
 chosen_below w true u v f g = f
 chosen_below w false u v f g = g
 
--- and so do those that show given numbers of their width where they do not
-pub among_gives : (m : ModuleTree) (env : Environment) (acks : ℕ → ℕ → Bool) (others : ℕ → ℕ → ℕ)
-    → ((i n : ℕ) (l : Port) → slice_get (shape_of m).memories i ≡ Some l → others i n < 2 ^ l.bits) → (run : ℕ → Cycle) → StandsAmong m env acks others run → GivesTop m env run
-among_gives m env acks others low run s = record {
+-- and so do those that show given numbers of their width where they do not show a cell
+pub among_gives : (m : ModuleTree) (env : Environment) (acks shows : ℕ → ℕ → Bool) (others : ℕ → ℕ → ℕ)
+    → ((i n : ℕ) (l : Port) → slice_get (shape_of m).memories i ≡ Some l → others i n < 2 ^ l.bits) → (run : ℕ → Cycle) → StandsAmong m env acks shows others run → GivesTop m env run
+among_gives m env acks shows others low run s = record {
   reset = reset_bit run s.reset s.runs;
   scalars = λ n i l got. s.scalars n i l got;
   ack = λ n i l got. subst (λ v. v < 2 ^ 1) (sym (s.ack n i l got)) (bit_of (acks i n));
@@ -111,7 +111,7 @@ among_gives m env acks others low run s = record {
       let asked : ℕ = (run n).net (m_addr l.name) in
       let now : List ℕ = cells_at run l.name (get_or env.memories i []) n in
       subst (λ v. v < 2 ^ l.bits) (sym (s.rdata n i l got))
-      (chosen_below l.bits (acks i n) (unwrap_or (slice_get now asked) 0) (others i n) (got_below l.bits now asked cells) (low i n l got));
+      (chosen_below l.bits (shows i n) (unwrap_or (slice_get now asked) 0) (others i n) (got_below l.bits now asked cells) (low i n l got));
 }
 
 module _ (ports : List Declaration) (before : List PortDecl) (p : PortDecl) (f : PortFits ports before p) where

@@ -26,7 +26,7 @@ use Rattle.vlog_run_laws.specs.runs.OneRun.{SameHeld, FitsPowerUp}
 use Rattle.vlog_run_laws.proofs.runs.Sound.{assign_reads, assign_cell, connection_port, connection_net, connection_clock, output_is, is_known_module, input_is}
 use Rattle.vlog_run_laws.proofs.runs.Alone.{child_is, module_there, module_is, IsNamed}
 use Rattle.vlog_run_laws.proofs.runs.Settled.{outside, Joined, joined, child_at, module_in}
-use Rattle.vlog_run_laws.proofs.runs.Sizes.{sizes_of, cells_of, all_at, all_from, memory_item, memory_cells, register_item}
+use Rattle.vlog_run_laws.proofs.runs.Sizes.{sizes_of, cells_of, memory_item, memory_cells, register_item}
 use Rattle.vlog_run_laws.proofs.runs.Drivers.{Source, value, output, sources, line_sources, source_cases, value_line, output_line, IsDrivenBy}
 use Rattle.vlog_run_laws.proofs.runs.Parts.{part_line, part_outside, driver_part, connection_part}
 use Rattle.vlog_run_laws.proofs.runs.Equations.{first_number, input_value, undriven_value, source_value}
@@ -38,6 +38,7 @@ use Rattle.vlog_run_laws.specs.widths.Widths.{NumbersFit}
 use Rattle.vlog_run_laws.proofs.widths.Bits.{CellsBelow, value_below}
 use Rattle.vlog_run_laws.proofs.widths.Ruled.{assign_width, connection_width}
 use Rattle.vlog_run_laws.proofs.widths.Steps.{memory_bits, register_bits}
+use Rattle.tapa_base.proofs.Got.{all_at, all_from}
 
 first_below : (v : FlatNet → ℕ) (ns : List FlatNet) (w : ℕ) → ((b : FlatNet) → Has ns b → v b < 2 ^ w) → first_number v ns < 2 ^ w
 first_below v [] w f = pow_pos w

@@ -20,13 +20,14 @@ use Rattle.vlog_run_laws.proofs.runs.Sound.{assign_driven, assign_reads, assign_
 use Rattle.vlog_run_laws.proofs.runs.Alone.{register_clock}
 use Rattle.vlog_run_laws.proofs.runs.Alike.{memory_is}
 use Rattle.vlog_run_laws.proofs.runs.Module.{wires_end}
-use Rattle.vlog_run_laws.proofs.runs.Sizes.{sizes_of, cells_of, all_at, all_from, memory_item, memory_cells, register_item, width_held, declared_net_kind, has_line}
+use Rattle.vlog_run_laws.proofs.runs.Sizes.{sizes_of, cells_of, memory_item, memory_cells, register_item, width_held, declared_net_kind, has_line}
 use Rattle.vlog_run_laws.proofs.runs.Drivers.{Source, value, output, sources, line_sources, source_of, source_cases, value_line, output_line, IsDrivenBy, has_source}
 use Rattle.vlog_run_laws.proofs.runs.Values.{ReadsAlike, driven_same}
 use Rattle.vlog_run_laws.specs.widths.Widths.{NumbersFit, GivenFits}
 use Rattle.vlog_run_laws.proofs.widths.Bits.{CellsBelow, value_below}
 use Rattle.vlog_run_laws.proofs.widths.Ruled.{assign_width, step_fits}
 use Rattle.vlog_run_laws.proofs.widths.Steps.{memory_bits, register_bits, items_fit}
+use Rattle.tapa_base.proofs.Got.{all_at, all_from}
 
 module _ (ms : List ModuleTree) (is_top : Name → Bool) (sound : IsSound ms) (loopless : IsLoopless ms is_top) (m : ModuleTree) (in_ms : Has ms m) (run : ℕ → Cycle) (f : Follows m run)
     (given : (n : ℕ) → GivenFits ms m (run n)) where

@@ -19,14 +19,13 @@ use Rattle.vlog_tree.specs.V2.{v2_uses, item_uses, step_uses, read_use, driven_u
 use Rattle.vlog_tree.specs.V3.{v3_uses, module_widths, item_widths, port_widths, connection_widths, step_widths, is_width, is_cell_count, net_fits, memory_fits, has_bits, value_fits}
 use Rattle.vlog_tree.specs.Loops.{atom_nets}
 use Rattle.tapa_base.proofs.Lists.{has_flat, of_map, has_left, has_right, has_split}
-use Rattle.vlog_run_laws.proofs.runs.Sound.{right, both_false, both_true, not_no, true_not_false, item_right, atom_read}
+use Rattle.vlog_run_laws.proofs.runs.Sound.{right, item_right, atom_read}
 use Rattle.vlog_run_laws.proofs.runs.Alone.{of_items}
 use Rattle.vlog_run_laws.proofs.runs.Sizes.{found_name}
 use Rattle.vlog_run_laws.specs.widths.Widths.{IsInRange, WidthsInRange}
 use Rattle.vlog_run_laws.proofs.widths.Bits.{same_of}
-
-at_least : (n w : ℕ) → nat_le n w ≡ true → n ≤ w
-at_least n w h = grind (arith, nat_tests)
+use Rattle.tapa_base.proofs.Tests.{not_no, both_true, below as at_least, true_not_false}
+use Rattle.std.proofs.lemmas.Bool.{or_parts as both_false}
 
 in_range : (w : ℕ) → is_width w ≡ true → IsInRange w
 in_range w h = let p = both_true (nat_le 1 w) (nat_le w 128) h in (at_least 1 w p.0, at_least w 128 p.1)

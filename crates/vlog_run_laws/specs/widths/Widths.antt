@@ -46,7 +46,7 @@ pub record RunFits (ms : List ModuleTree) (top : ModuleTree) (env : Environment)
   pub modules : (n : ℕ) (path : Path) (m : ModuleTree) → module_at ms top path ≡ Some m → NumbersFit m (nets n path)
   pub outside : (n : ℕ) → OutsideFits top env (λ k. nets k []) n
 
--- beside memories that show a cell where they answer they fit too
+-- beside memories that show a cell where they answer and nothing is stored they fit too
 abbrev pub NumbersFitBeside : Type 0
 NumbersFitBeside =
     (ms : List ModuleTree) (place : ℕ) (top : ModuleTree) (env : Environment) (answers : ℕ → ℕ → Bool) (nets : ℕ → Path → Cycle)

@@ -31,19 +31,20 @@ pub fn law_one_run_in_environment()
         → IsDesign ms top → slice_get ms top ≡ Some m → FitsPowerUp ms m contents → IsOnly ms m (IsRunFrom ms m env contents) }
 {}
 
-/// A design has exactly one run from each such contents beside memories that answer in any given cycles, show the cell that is asked
-/// for in those, and any given numbers in the others.
+/// From each such contents a design has exactly one run with memories that answer in any given cycles. They show the requested cell in any given cycles, and
+/// any given numbers in the others.
 pub fn law_one_run_beside()
     ensures { OneRunAmong }
 {}
 
-/// Where no memory answers in reset and the given numbers are of their memories' widths, it is a run beside memories that show a cell
-/// in the cycles in which they answer, and any number of their width in others.
+/// Such a run is also a run with memories that show a cell in the cycles in which they answer and nothing is stored, and any number of their width in others.
+/// It is so if no memory answers in reset, the given numbers are of their memories' widths, and each memory shows the cell in those cycles.
 pub fn law_among_is_beside()
     ensures { AmongIsBeside }
 {}
 
-/// Each run beside such memories is the one from what it begins with, where the numbers given are those that the memories show.
+/// Each run beside such memories is the one from what it begins with, where the numbers given are those that the memories show. The cycles that are given for
+/// the cell are those in which the memories answer and nothing is stored.
 pub fn law_beside_is_among()
     ensures { BesideIsAmong }
 {}

@@ -21,7 +21,7 @@ pub fn law_numbers_fit()
         → IsDesign ms top → slice_get ms top ≡ Some m → FitsShape env (shape_of m) → RunsIn ms m env nets → RunFits ms m env nets }
 {}
 
-/// They do so too beside memories that show a cell in the cycles in which they answer, and any number of their width in others.
+/// They do so too beside memories that show a cell in the cycles in which they answer and nothing is stored, and any number of their width in others.
 /// The memories of an environment are such memories.
 pub fn law_numbers_fit_beside()
     ensures fit { NumbersFitBeside }

@@ -1,5 +1,5 @@
 """Bucket sort by eight lanes: each sends its keys to the eight buckets through a crossbar of 64 streams, and each bucket sorts what it gets."""
-from families.parts import Design, numbers
+from families.parts import Design, numbers, tasks
 
 LANES, KEYS = 8, 24
 
@@ -9,46 +9,7 @@ INS = ", ".join(f"tapa::istream<int>& q_{at}" for at in range(LANES))
 CLOSED = " ".join(f"q_{at}.close();" for at in range(LANES))
 TAKEN = "\n".join(f"  TAPA_WHILE_NOT_EOT(q_{at}) {{ out << q_{at}.read(); }}\n  q_{at}.open();" for at in range(LANES))
 
-TASKS = f"""const int CELLS = {LANES * KEYS};
-void Load(tapa::mmap<const int> m, int n, tapa::ostream<int>& q) {{ for (int i = 0; i < n; ++i) {{ q << m[i]; }} }}
-void Classify(tapa::istream<int>& in, int n, {OUTS}) {{
-  for (int i = 0; i < n; ++i) {{
-    int x = in.read();
-    int b = x >> 5 & 7;
-    {CASES}
-  }}
-  {CLOSED}
-}}
-void Merge({INS}, tapa::ostream<int>& out) {{
-{TAKEN}
-  out.close();
-}}
-void Sort(tapa::istream<int>& in, tapa::ostream<int>& out) {{
-  int kept[CELLS];
-  int count = 0;
-  TAPA_WHILE_NOT_EOT(in) {{
-    int x = in.read();
-    int at = count;
-    while (at > 0 && kept[at - 1] > x) {{
-      kept[at] = kept[at - 1];
-      at -= 1;
-    }}
-    kept[at] = x;
-    count += 1;
-  }}
-  in.open();
-  for (int i = 0; i < count; ++i) {{ out << kept[i]; }}
-  out.close();
-}}
-void Store(tapa::istream<int>& in, tapa::mmap<int> m) {{
-  int i = 0;
-  TAPA_WHILE_NOT_EOT(in) {{
-    m[i] = in.read();
-    i += 1;
-  }}
-  in.open();
-}}
-"""
+TASKS = tasks("bucket", CELLS=LANES * KEYS, OUTS=OUTS, INS=INS, CASES=CASES, CLOSED=CLOSED, TAKEN=TAKEN)
 
 
 def design():

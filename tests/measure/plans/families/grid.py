@@ -1,45 +1,14 @@
 """A matrix product on a grid of processing elements, as AutoSA builds convolutional layers: feeders along two sides, a drain beside each element."""
-from families.parts import Design, numbers, signed
+from families.parts import Design, numbers, signed, tasks
 
 DEPTH = 4
 
-TASKS = f"""const int DEPTH = {DEPTH};
-void Load(tapa::mmap<const int> m, int n, tapa::ostream<int>& q) {{ for (int i = 0; i < n; ++i) {{ q << m[i]; }} }}
-void Feed(tapa::istream<int>& in, tapa::ostream<int>& side, tapa::ostream<int>& next, int more) {{
-  for (int i = 0; i < DEPTH; ++i) {{ side << in.read(); }}
-  for (int i = 0; i < more; ++i) {{ next << in.read(); }}
-}}
-void FeedLast(tapa::istream<int>& in, tapa::ostream<int>& side) {{ for (int i = 0; i < DEPTH; ++i) {{ side << in.read(); }} }}
-void Element(tapa::istream<int>& left, tapa::istream<int>& up, tapa::ostream<int>& right, tapa::ostream<int>& down, tapa::ostream<int>& out) {{
-  int sum = 0;
-  for (int i = 0; i < DEPTH; ++i) {{
-    int a = left.read();
-    int b = up.read();
-    sum += a * b;
-    right << a;
-    down << b;
-  }}
-  out << sum;
-}}
-void End(tapa::istream<int>& in) {{ for (int i = 0; i < DEPTH; ++i) {{ in.read(); }} }}
-void DrainFirst(tapa::istream<int>& own, tapa::ostream<int>& out) {{ out << own.read(); }}
-void Drain(tapa::istream<int>& own, tapa::istream<int>& above, tapa::ostream<int>& out, int count) {{
-  for (int i = 0; i < count; ++i) {{ out << above.read(); }}
-  out << own.read();
-}}
-void GatherFirst(tapa::istream<int>& column, tapa::ostream<int>& out, int rows) {{ for (int i = 0; i < rows; ++i) {{ out << column.read(); }} }}
-void Gather(tapa::istream<int>& column, tapa::istream<int>& before, tapa::ostream<int>& out, int rows, int count) {{
-  for (int i = 0; i < count; ++i) {{ out << before.read(); }}
-  for (int i = 0; i < rows; ++i) {{ out << column.read(); }}
-}}
-void Store(tapa::istream<int>& q, tapa::mmap<int> m, int n) {{ for (int i = 0; i < n; ++i) {{ m[i] = q.read(); }} }}
-"""
+TASKS = tasks("grid", DEPTH=DEPTH)
 
 
 def feeders(name, count):
     """The chain of feeders of one side, by the streams `name_in` and `name_0[0]`, `name_1[0]` and so on."""
-    for at in range(count - 1):
-        yield f"Feed, {name}_in[{at}], {name}_{at}[0], {name}_in[{at + 1}], {(count - 1 - at) * DEPTH}"
+    yield from (f"Feed, {name}_in[{at}], {name}_{at}[0], {name}_in[{at + 1}], {(count - 1 - at) * DEPTH}" for at in range(count - 1))
     yield f"FeedLast, {name}_in[{count - 1}], {name}_{count - 1}[0]"
 
 
@@ -53,8 +22,7 @@ def elements(rows, cols):
 
 def gathers(rows, cols):
     yield f"GatherFirst, d_0[{rows - 1}], e[0], {rows}"
-    for col in range(1, cols):
-        yield f"Gather, d_{col}[{rows - 1}], e[{col - 1}], e[{col}], {rows}, {col * rows}"
+    yield from (f"Gather, d_{col}[{rows - 1}], e[{col - 1}], e[{col}], {rows}, {col * rows}" for col in range(1, cols))
 
 
 def design(rows, cols):

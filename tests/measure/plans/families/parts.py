@@ -1,6 +1,8 @@
 """A design in parts: its tasks, its streams and its invokes, whose order may be changed without changing what is computed."""
 import random
 from dataclasses import dataclass
+from pathlib import Path
+from string import Template
 
 
 @dataclass
@@ -22,6 +24,11 @@ class Design:
             random.Random(order).shuffle(invokes)
         lines = [f"  {stream};" for stream in self.streams] + ["  tapa::task()"] + [f"    .invoke({invoke})" for invoke in invokes]
         return f"#include <tapa.h>\n{self.tasks}void {self.top}({self.parameters}) {{\n" + "\n".join(lines) + ";\n}\n"
+
+
+def tasks(name, **words):
+    """The tasks of a family, in a file beside it, with these words in their places."""
+    return Template(Path(__file__).with_name(f"{name}.cpp").read_text(encoding="utf-8")).substitute(words)
 
 
 def numbers(count, seed, below):

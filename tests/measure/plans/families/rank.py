@@ -2,7 +2,7 @@
 a page gives, so the two are one group, and another task gathers what all lanes send to its pages."""
 import random
 
-from families.parts import Design
+from families.parts import Design, tasks
 
 LANES, PAGES, EDGES, ROUNDS = 4, 4, 12, 3
 FIRST, BASE = 1000, 150
@@ -15,52 +15,11 @@ ADDED = "\n".join(
     f"  TAPA_WHILE_NOT_EOT(in_{at}) {{\n    uint64_t gift = in_{at}.read();\n    sum[gift >> 32] += int(gift & 4294967295);\n  }}\n  in_{at}.open();" for at in range(LANES)
 )
 
-
-def scatter(name, parameter, passed):
-    """The task that follows a lane's edges; all but the last round pass the edges on."""
-    return f"""void {name}(tapa::istream<uint64_t>& edges, {parameter}tapa::ostream<int>& ask, tapa::istream<int>& answer, {OUTS}) {{
-  for (int i = 0; i < EDGES; ++i) {{
-    uint64_t edge = edges.read();
-    {passed}
-    ask << int(edge >> 32);
-    uint64_t lane = edge >> 2 & 3;
-    uint64_t gift = (edge & 3) << 32 | uint64_t(answer.read());
-    {SENT}
-  }}
-  ask.close();
-  {CLOSED}
-}}
-"""
-
-
-def table(name, parameter, passed):
-    """The task that keeps a lane's ranks and weights."""
-    return f"""void {name}(tapa::istream<int>& ranks, tapa::istream<int>& weights, {parameter}tapa::istream<int>& ask, tapa::ostream<int>& answer) {{
-  int gives[PAGES];
-  for (int i = 0; i < PAGES; ++i) {{
-    int weight = weights.read();
-    {passed}
-    gives[i] = ranks.read() * weight >> 16;
-  }}
-  TAPA_WHILE_NOT_EOT(ask) {{ answer << gives[ask.read()]; }}
-  ask.open();
-}}
-"""
-
-
-TASKS = f"""const int EDGES = {EDGES};
-const int PAGES = {PAGES};
-void LoadEdges(tapa::mmap<const uint64_t> m, tapa::ostream<uint64_t>& q) {{ for (int i = 0; i < EDGES; ++i) {{ q << m[i]; }} }}
-void LoadPages(tapa::mmap<const int> m, tapa::ostream<int>& ranks, tapa::ostream<int>& weights) {{
-  for (int i = 0; i < PAGES; ++i) {{ ranks << {FIRST}; weights << m[i]; }}
-}}
-{scatter("Scatter", "tapa::ostream<uint64_t>& edges_on, ", "edges_on << edge;")}{scatter("ScatterLast", "", "")}{table("Table", "tapa::ostream<int>& weights_on, ", "weights_on << weight;")}{table("TableLast", "", "")}void Gather({INS}, tapa::ostream<int>& ranks) {{
-  int sum[PAGES];
-{ADDED}
-  for (int i = 0; i < PAGES; ++i) {{ ranks << {BASE} + (sum[i] * 27 >> 5); }}
-}}
-void Store(tapa::istream<int>& ranks, tapa::mmap<int> m) {{ for (int i = 0; i < PAGES; ++i) {{ m[i] = ranks.read(); }} }}
-"""
+# The task that follows a lane's edges, and the one that keeps its ranks and weights; all but the last round pass the edges and the weights on.
+SCATTERS = tasks("rank_scatter", NAME="Scatter", PARAMETER="tapa::ostream<uint64_t>& edges_on, ", PASSED="edges_on << edge;", OUTS=OUTS, SENT=SENT, CLOSED=CLOSED)
+SCATTERS += tasks("rank_scatter", NAME="ScatterLast", PARAMETER="", PASSED="", OUTS=OUTS, SENT=SENT, CLOSED=CLOSED)
+TABLES = tasks("rank_table", NAME="Table", PARAMETER="tapa::ostream<int>& weights_on, ", PASSED="weights_on << weight;") + tasks("rank_table", NAME="TableLast", PARAMETER="", PASSED="")
+TASKS = tasks("rank", EDGES=EDGES, PAGES=PAGES, FIRST=FIRST, BASE=BASE, INS=INS, ADDED=ADDED, SCATTERS=SCATTERS, TABLES=TABLES)
 
 
 def ranked(edges, weights):

@@ -4,16 +4,24 @@ import os
 import re
 import subprocess
 import tempfile
-from typing import Dict, List, NamedTuple, Tuple
+from typing import Dict, List, NamedTuple, Optional, Tuple
 
 from ..faults import Unusable
-from ..tree.kinds import Carrier
+from ..passes.layout import Layout, is_packed
+from ..tree.kinds import Carrier, Record
 from ..tree.program import Function, Program, Variable
 from ..tree.statements import Chain, Declare
 from ..tree.walking import found
 from . import native
 
 Key = Tuple[str, str, int, int]
+
+
+class Place(NamedTuple):
+    """The place, the name, the element and the word in the original, and which bits of the word are in fields; the others may have any value."""
+
+    key: Key
+    bits: int
 
 
 class Compared(NamedTuple):
@@ -23,17 +31,19 @@ class Compared(NamedTuple):
     other: List[str]
 
 
-def origin_of(program: Program, it: Variable) -> Tuple[str, int, int]:
-    """The name in the original, the element and the word of a ported stream or memory."""
+def place_of(program: Program, path: str, it: Variable, at: Optional[int] = None) -> Place:
+    """What a ported stream or memory is in the original, where it is the element `at`, or the one that it is made of."""
     back = {new: old for old, new in program.renamed.items()}
     old = back.get(it, it)
-    origin = old.origin if old.origin is not None else (old, None, None)
-    return origin[0].name, -1 if origin[1] is None else origin[1], origin[2] or 0
+    variable, element, word = old.origin if old.origin is not None else (old, None, None)
+    inner = getattr(variable.kind, "element", None)
+    layout = Layout(inner) if isinstance(inner, Record) and is_packed(inner) else None
+    return Place((path, variable.name, at if at is not None else -1 if element is None else element, word or 0), layout.field_bits(word or 0) if layout is not None and not layout.why else (1 << 64) - 1)
 
 
-def labels(program: Program) -> Dict[str, Key]:
-    """The labels of the ported streams, with the place, the name, the element and the word that each has in the original."""
-    out: Dict[str, Key] = {}
+def labels(program: Program) -> Dict[str, Place]:
+    """The labels of the ported streams and memories."""
+    out = {f"memory {it.name}": place_of(program, "memory", it) for it in program.top.parameters}
 
     def one(function: Function, front: str, path: str) -> None:
         for statement in found(function.body, Declare):
@@ -41,12 +51,11 @@ def labels(program: Program) -> Dict[str, Key]:
                 it = local.variable
                 if not isinstance(it.kind, Carrier):
                     continue
-                name, _, word = origin_of(program, it)
                 if it.kind.sort == "streams":
                     for at in range(it.kind.length):
-                        out[f"{front}{it.name}_{at}"] = (path, name, at, word)
+                        out[f"stream {front}{it.name}_{at}"] = place_of(program, path, it, at)
                 else:
-                    out[front + it.name] = (path, name, -1, word)
+                    out[f"stream {front}{it.name}"] = place_of(program, path, it, -1)
         for chain in found(function.body, Chain):
             number = 0
             for invoke in chain.invokes:
@@ -57,7 +66,7 @@ def labels(program: Program) -> Dict[str, Key]:
     return out
 
 
-def ported_report(program: Program, text: str, data: str, tapa: str) -> Tuple[Dict[Key, str], str]:
+def ported_report(known: Dict[str, Place], program: Program, text: str, data: str, tapa: str) -> Tuple[Dict[Key, str], str]:
     """What `tapa run` reports of the ported source: by the places of the original, and whether it was done."""
     with tempfile.TemporaryDirectory(prefix="tapa-port-") as folder:
         path = os.path.join(folder, "ported.cpp")
@@ -72,22 +81,22 @@ def ported_report(program: Program, text: str, data: str, tapa: str) -> Tuple[Di
         said = ran.stderr.replace(folder + "/", "").strip()
     if ran.returncode not in (0, 8):
         raise Unusable(f"`tapa` refuses the ported source: {said}")
-    known = labels(program)
     out: Dict[Key, str] = {}
     end = ""
     for line in ran.stdout.splitlines():
         front, _, rest = line.partition(":")
         words = front.split()
-        if words[:1] == ["stream"] and words[1] in known:
-            out[known[words[1]]] = rest.strip()
-        elif words[:1] == ["memory"]:
-            it = next((each for each in program.top.parameters if each.name == words[1]), None)
-            if it is not None:
-                name, element, word = origin_of(program, it)
-                out[("memory", name, element, word)] = rest.strip()
+        if " ".join(words[:2]) in known:
+            out[known[" ".join(words[:2])].key] = rest.strip()
         elif words[:1] and words[0] in ("done", "stopped"):
             end = words[0]
     return out, end
+
+
+def of_fields(lists: Dict[Key, str], known: Dict[str, Place]) -> Dict[Key, str]:
+    """Lists of tokens with the bits between the fields of structs as 0."""
+    bits = {it.key: it.bits for it in known.values()}
+    return {key: " ".join(str(int(each) & bits[key]) if each.isdecimal() else each for each in it.split()) if key in bits else it for key, it in lists.items()}
 
 
 def original_report(lines: List[str]) -> Tuple[Dict[Key, str], str]:
@@ -122,8 +131,10 @@ def compared(program: Program, text: str, data: str, tapa: str, original: native
             given = json.load(file)
     except (OSError, ValueError) as why:
         raise Unusable(f"{data}: {getattr(why, 'strerror', None) or why}") from None
-    theirs, end = ported_report(program, text, data, tapa)
+    known = labels(program)
+    theirs, end = ported_report(known, program, text, data, tapa)
     mine, original_end = original_report(original.run(given))
+    mine, theirs = of_fields(mine, known), of_fields(theirs, known)
     other = [f"{said(key)}: {differing(mine.get(key, ''), theirs.get(key, ''))}" for key in sorted(set(mine) | set(theirs)) if mine.get(key, "") != theirs.get(key, "")]
     if end != original_end:
         other.append(f"the original is {original_end}, the ported source {end}")

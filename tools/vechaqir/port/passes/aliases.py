@@ -1,5 +1,5 @@
 """References among the locals: the name stands for the place itself, whose indices are kept where they change afterwards. Lambdas, whose bodies are where they are called, go."""
-from typing import List, Optional, Sequence
+from typing import List, Optional, Sequence, Set
 
 from ..faults import Refused
 from ..tree.kinds import LAMBDA
@@ -7,8 +7,8 @@ from ..tree.making import declare, name
 from ..tree.nodes import Call, Expression, Lambda
 from ..tree.program import Program, Variable
 from ..tree.statements import Block, Declare, Empty, Local, Statement
-from ..tree.walking import assigned, has, mapped, replaced, substituted, used
-from .binding import is_place
+from ..tree.walking import assigned, declared, has, mapped, replaced, substituted, used
+from .binding import IN_ARMS, ONE_OF, is_one_of, is_place
 from .hoisting import indices, is_pure, with_indices
 from .marking import marked
 
@@ -59,6 +59,9 @@ class Aliases:
         """What a reference stands for."""
         first = local.first
         assert first is not None
+        changed = assigned(*rest)
+        if is_one_of(first) and first.kind == local.variable.kind and (used(first) | {local.variable}) & changed:
+            raise Refused(local.at, ONE_OF, IN_ARMS)
         if not is_place(first) or first.kind != local.variable.kind:
             new = Variable(local.variable.name, local.variable.kind, "local", local.variable.is_const, at=local.variable.at)
             made = declare(new, first)
@@ -66,7 +69,6 @@ class Aliases:
             out.append(made)
             return name(new)
         self.program.note(local.at, f"the reference `{local.variable.name}`", "what it refers to")
-        changed = assigned(*rest)
         found_: List[Expression] = []
         for each in indices(first):
             if used(each) & changed or not is_pure(each):
@@ -77,14 +79,20 @@ class Aliases:
         return with_indices(first, found_)
 
 
+def copied(it: Lambda) -> Set[Variable]:
+    """The variables of which a lambda has copies."""
+    own = {*it.function.parameters, *declared(it.function.body)}
+    return set(it.copies) if it.references is None else used(it.function.body) - own - set(it.references)
+
+
 def lambdas(program: Program, it: Block) -> Block:
     """Marks a lambda that has copies of variables which change after it."""
     def one(block: Block) -> Block:
         parts: List[Statement] = []
         for at, part in enumerate(block.parts):
             made = next((each.first for each in (part.locals if isinstance(part, Declare) else ()) if isinstance(each.first, Lambda)), None)
-            if made is not None and isinstance(made, Lambda) and set(made.copies) & assigned(*block.parts[at + 1:]):
-                parts.append(marked(program, part, Refused(part.at, "a lambda with a copy of a variable that changes after it", "`[&]`, or the copy as a parameter")))
+            if made is not None and isinstance(made, Lambda) and copied(made) & assigned(made.function.body, *block.parts[at + 1:]):
+                parts.append(marked(program, part, Refused(part.at, "a lambda with a copy of a variable that changes", "`[&]`, or the copy as a parameter")))
                 continue
             parts.append(mapped(part, lambda each: one(each) if isinstance(each, Block) else each) if not isinstance(part, Block) else one(part))
         return block if all(a is b for a, b in zip(parts, block.parts)) else replaced(block, parts=tuple(parts))

@@ -1,17 +1,19 @@
 """What takes the place of a function's parameters: the argument itself, or a variable with its value."""
 from typing import TYPE_CHECKING, Dict, List, Optional, Sequence
 
+from ..faults import Refused
 from ..tree.kinds import FUNCTION, LAMBDA, Array, Carrier, Record
 from ..tree.making import cast, declare, name
-from ..tree.nodes import Binary, Braces, Choose, Expression, Field, Index, Name, Node, Number, This
+from ..tree.nodes import Assign, Binary, Braces, Choose, Comma, Expression, Field, Index, Name, Node, Number, Step, This
 from ..tree.program import Function, Variable
 from ..tree.statements import Statement
-from ..tree.walking import assigned, children, counted, declared, has, rewritten, root, size, substituted, used
-from .hoisting import indices, is_pure, with_indices
+from ..tree.walking import assigned, children, counted, declared, has, rewritten, root, size, substituted, targets, used, walk
+from .hoisting import indices, is_pure, operates, with_indices
 
 if TYPE_CHECKING:
     from .hoisted import Hoister
 
+ONE_OF, IN_ARMS = "a reference to one of several variables, which changes", "`if` with `else`"
 
 
 def is_place(it: Expression) -> bool:
@@ -19,6 +21,11 @@ def is_place(it: Expression) -> bool:
     while isinstance(it, (Index, Field)):
         it = it.base
     return isinstance(it, (Name, This))
+
+
+def is_one_of(it: Expression) -> bool:
+    """A place that a test or an assignment gives."""
+    return all(is_place(each) or is_one_of(each) for each in (it.then, it.other)) if isinstance(it, Choose) else isinstance(it, (Assign, Comma)) or isinstance(it, Step) and it.is_prefix
 
 
 def once(it: Node, variable: Variable) -> bool:
@@ -72,6 +79,8 @@ class Binding:
         is_same = parameter.kind == argument.kind
         if parameter.is_reference and is_place(argument) and is_same:
             return self.place(argument)
+        if parameter.is_reference and is_same and is_one_of(argument) and (parameter in inner or used(argument) & self.changed):
+            raise Refused(argument.at, ONE_OF, IN_ARMS)
         value = argument if is_same or isinstance(parameter.kind, Record) else cast(parameter.kind, argument)
         if isinstance(value, Braces):
             return self.kept(parameter, value)
@@ -80,7 +89,7 @@ class Binding:
         if is_pure(argument):
             is_short = isinstance(argument, (Name, Number)) or size(argument) <= 3 or body is not None and counted(body, parameter) <= 1
             return value if is_short else self.kept(parameter, value)
-        if is_single and body is not None and once(body, parameter):
+        if is_single and body is not None and not operates(body) and once(body, parameter):
             return value
         return self.kept(parameter, value)
 
@@ -111,15 +120,11 @@ class Binding:
 
 def has_this_assigned(function: Function) -> bool:
     """Whether a method changes its object."""
-    from ..tree.nodes import Assign, Step
-    from ..tree.walking import walk
-    for it in walk(function.body):
-        if isinstance(it, (Assign, Step)):
-            place = it.target
-            while isinstance(place, (Index, Field)):
-                place = place.base
-            if isinstance(place, This):
-                return True
+    for place in (each for it in walk(function.body) for each in targets(it)):
+        while isinstance(place, (Index, Field)):
+            place = place.base
+        if isinstance(place, This):
+            return True
     return False
 
 

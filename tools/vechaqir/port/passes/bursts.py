@@ -3,13 +3,15 @@ from typing import Dict, List, NamedTuple, Optional, Sequence, Tuple
 
 from ..faults import Refused
 from ..tree.kinds import BOOL, Carrier
-from ..tree.making import assign, block, both, name, terms
+from ..tree.making import assign, block, both, declare, name, terms
 from ..tree.nodes import Assign, Expression, Field, Index, Name, Node, Null, Number, Operation, Step, Unary
 from ..tree.program import Program, Variable
 from ..tree.statements import Declare, Evaluate, For, If, Statement, While
 from ..tree.walking import assigned, found, replaced, rewritten, root, substituted, used, walk
 
 
+from .control import commas
+from .hoisting import operates
 from .polls import is_idle
 
 CHANNELS = ("read_addr", "read_data", "write_addr", "write_data", "write_resp")
@@ -98,12 +100,13 @@ class Burst:
             raise self.refused(self.loop.at, "no statement takes what was read, or writes")
 
     def first(self, variable: Variable) -> Optional[Expression]:
-        """The value with which a counter begins."""
+        """The value with which a counter begins: the last one that it gets before the loop."""
+        out: Optional[Expression] = None
         for it in [*self.outside, self.loop.start if isinstance(self.loop, For) else None]:
-            for local in (it.locals if isinstance(it, Declare) else ()):
-                if local.variable is variable:
-                    return local.first if local.first is not None else Number(variable.kind, 0)
-        return None
+            sets = [each.value for each in commas(it.expression) if isinstance(each, Assign) and each.sign == "=" and root(each.target) is variable] if isinstance(it, Evaluate) else []
+            sets += [each.first or Number(variable.kind, 0) for each in it.locals if each.variable is variable] if isinstance(it, Declare) else []
+            out = sets[-1] if sets else name(variable) if variable in assigned(it) else out
+        return out
 
     def alike(self, one: Variable, other: Variable, steps: Tuple[Sequence[Statement], Sequence[Statement]]) -> bool:
         """Whether two counters begin with one value and grow by the same number."""
@@ -189,11 +192,14 @@ class Burst:
         if isinstance(start, Declare):
             kept = tuple(it for it in start.locals if it.variable not in gone or it.variable is count)
             start = replaced(start, locals=kept) if kept else None
+        front: List[Statement] = []
+        if isinstance(start, Evaluate):
+            front, start = [Evaluate(each) for each in commas(start.expression) if not isinstance(each, Assign) or root(each.target) not in set(gone) - {count}], None
         after = [assign(name(it), name(count)) for it in gone if it is not count and self.first(it) is not None and not is_in(it, self.loop)]
         self.program.gone |= set(gone) - {count}
         whole: Statement = For(start, test, None, block([*self.idle, *body], self.loop.body)) if start is not None else While(test if test is not None else Number(BOOL, 1), block([*self.idle, *body], self.loop.body))
         whole.at = self.loop.at
-        return [whole, *after]
+        return [*front, whole, *after]
 
 
 def is_in(variable: Variable, loop: Statement) -> bool:
@@ -237,7 +243,7 @@ def loaded(it: Node, addresses: Dict[Variable, Expression]) -> Optional[Node]:
 def stored(parts: Sequence[Statement], burst: "Burst | None") -> List[Statement]:
     """An address and a value that are written one after the other as one store."""
     out: List[Statement] = []
-    waiting: Dict[Variable, Tuple[str, Expression]] = {}
+    waiting: Dict[Variable, Tuple[str, Expression, int]] = {}
     for it in parts:
         found_ = use_of(it.expression) if isinstance(it, Evaluate) else None
         if found_ is None or found_.channel not in ("write_addr", "write_data"):
@@ -248,9 +254,13 @@ def stored(parts: Sequence[Statement], burst: "Burst | None") -> List[Statement]
         value = found_.operation.arguments[0]
         other = waiting.pop(found_.memory, None)
         if other is None or other[0] == found_.channel:
-            waiting[found_.memory] = (found_.channel, value)
+            waiting[found_.memory] = (found_.channel, value, len(out))
             continue
-        address, data = (value, other[1]) if found_.channel == "write_addr" else (other[1], value)
+        first, after = other[1], [*out[other[2]:], Evaluate(value)]
+        if used(first) & assigned(*after) or assigned(first) & used(*after) or operates(first) and operates(*after):
+            out.insert(other[2], declare(kept := Variable("first", first.kind), first))
+            first = name(kept)
+        address, data = (value, first) if found_.channel == "write_addr" else (first, value)
         kind = found_.memory.kind
         element = kind.element if isinstance(kind, Carrier) else data.kind
         made = assign(Index(element, memory_name(found_.memory), address), data)

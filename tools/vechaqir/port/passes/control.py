@@ -4,11 +4,11 @@ from typing import List, Optional, Sequence, Tuple
 from ..faults import Refused
 from ..tree.kinds import BOOL, INT, Array, Record
 from ..tree.making import binary, block, both, declare, leave_unless, name, number, stepped
-from ..tree.nodes import Assign, Binary, Comma, Expression, Index, Number, Step
+from ..tree.nodes import Assign, Binary, Choose, Comma, Expression, Index, Number, Step
 from ..tree.program import Function, Program, Variable
 from ..tree.statements import Block, Break, Continue, Declare, Do, Evaluate, For, ForEach, Group, If, Return, Statement, Switch, While
-from ..tree.walking import dressed, has, replaced, size, statements, substituted
-from .hoisting import is_pure
+from ..tree.walking import assigned, dressed, has, replaced, size, statements, substituted, used
+from .hoisting import is_pure, operates
 from .jumps import Jumps
 from .marking import marked
 
@@ -43,10 +43,19 @@ class Control:
             return self.each(it)
         if isinstance(it, Evaluate) and isinstance(it.expression, Comma):
             return [Evaluate(each) for each in commas(it.expression)]
+        if isinstance(it, Evaluate) and isinstance(it.expression, (Assign, Step)) and isinstance(it.expression.target, Choose):
+            return self.picked(it.expression, it.expression.target)
         return None
 
+    def picked(self, it: "Assign | Step", target: Choose) -> Sequence[Statement]:
+        """An assignment to one of two places."""
+        if isinstance(it, Assign) and not is_pure(it.value):
+            raise Refused(it.at, "an assignment to one of several variables, by a value with effects", "`if` with `else`")
+        self.program.note(it.at, "an assignment to one of several variables", "`if` with `else`")
+        return [If(target.test, block([Evaluate(replaced(it, target=target.then))]), block([Evaluate(replaced(it, target=target.other))]))]
+
     def loop(self, it: For) -> Optional[Sequence[Statement]]:
-        """The first step stays in the head; the others go to the end of the body, and all starts but the last before the loop."""
+        """The first step stays in the head, or the last where they need one another; the others go to the end of the body, and all starts but the last before the loop."""
         steps = commas(it.step)
         starts = commas(it.start.expression) if isinstance(it.start, Evaluate) else []
         is_plain = not steps or isinstance(steps[0], (Step, Assign)) or not is_pure(steps[0])
@@ -55,6 +64,8 @@ class Control:
         self.program.note(it.at, "several steps in the head of a `for`", "one, and the others at the end of the body")
         body = it.body
         if len(steps) > 1:
+            if used(steps[0]) & assigned(*steps[1:]) or assigned(steps[0]) & used(*steps[1:]) or any(not is_pure(each) and not isinstance(each, (Step, Assign)) or operates(each) for each in steps):
+                steps = [steps[-1], *steps[:-1]]
             inner = Jumps(Continue).parts(body.parts) if Jumps(Continue).jumps(body) else list(body.parts)
             body = block([*inner, *(Evaluate(each) for each in steps[1:])], body)
         start = Evaluate(starts[-1]) if starts else it.start

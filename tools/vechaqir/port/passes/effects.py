@@ -1,11 +1,12 @@
 """Assignments and `++` within expressions become statements of their own; operations on streams and memories leave the right operands of `&&` and `||` and the arms of `?:`, where the language has none."""
 from typing import List, Optional, Set
 
+from ..tree.kinds import Record
 from ..tree.making import assign, declare, name, stepped
-from ..tree.nodes import Assign, Binary, Choose, Comma, Expression, Index, Name, Node, Step
+from ..tree.nodes import Assign, Binary, Choose, Comma, Expression, Index, Name, Node, Operation, Step
 from ..tree.program import Function, Program
 from ..tree.statements import Evaluate, For, Statement
-from ..tree.walking import counted, replaced, walk
+from ..tree.walking import counted, replaced, statements, walk
 from .hoisted import Hoister
 from .hoisting import is_operation, is_pure
 
@@ -86,9 +87,18 @@ class Effects(Hoister):
         return name(variable)
 
 
+def received(it: Statement) -> Optional[List[Statement]]:
+    """`q >> s.x` as `s.x = q.read()`: what is no variable of one number may be a part of a word."""
+    inner = it.expression if isinstance(it, Evaluate) else None
+    if not isinstance(inner, Operation) or inner.method != ">>" or all(isinstance(each, Name) and not isinstance(each.kind, Record) for each in inner.arguments):
+        return None
+    return [assign(place, Operation(place.kind, "read", inner.stream)) for place in inner.arguments]
+
+
 def run(program: Program, function: Function) -> None:
     if function.body is None:
         return
-    effects = Effects(program, function.body)
-    if effects.has(function.body):
-        function.body = effects.block(function.body)
+    function.body = body = statements(function.body, received)
+    effects = Effects(program, body)
+    if effects.has(body):
+        function.body = effects.block(body)

@@ -18,6 +18,11 @@ def operates(*nodes: Optional[Node]) -> bool:
     return any(is_operation(it) or isinstance(it, Call) for node in nodes for it in walk(node))
 
 
+def loads(it: Expression) -> bool:
+    """Whether what an expression does is only to load from memories."""
+    return not has(it, (Assign, Step, Operation, Call)) and operates(it)
+
+
 def is_pure(it: Optional[Node]) -> bool:
     """Whether computing an expression once more, or not at all, makes no difference."""
     return not any(is_operation(each) or isinstance(each, (Call, Assign, Step)) for each in walk(it))
@@ -78,16 +83,25 @@ class Parts:
         for it in parts:
             at = len(before)
             made = self.expression(it, before)
-            if len(before) > at:
-                moved = before[at:]
-                for number_, each in enumerate(out):
-                    if not is_stable(each, moved):
-                        variable = self.fresh(each.kind)
-                        before.insert(at, declare(variable, each))
-                        at += 1
-                        out[number_] = name(variable)
-            out.append(made)
+            out = [*self.settled(out, at, before), made]
         return out
+
+    def settled(self, values: Sequence[Expression], at: int, before: List[Statement]) -> List[Expression]:
+        """Values from before the statements that follow `at`; those that these change are kept in variables before them."""
+        moved, out = before[at:], []
+        for it in values:
+            if moved and not is_stable(it, moved):
+                before.insert(at, declare(variable := self.fresh(it.kind), it))
+                at, it = at + 1, name(variable)
+            out.append(it)
+        return out
+
+    def once_only(self, it: Expression, before: List[Statement], word: str = "value") -> Expression:
+        """An expression that may be used several times: one with effects is kept in a variable."""
+        if is_pure(it):
+            return it
+        before.append(declare(variable := self.fresh(it.kind, word), it))
+        return name(variable)
 
     def expression(self, it: Expression, before: List[Statement]) -> Expression:
         if not self.has(it):

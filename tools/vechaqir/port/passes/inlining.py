@@ -9,9 +9,9 @@ from ..tree.nodes import Assign, Braces, Call, Expression, Name, Node, This
 from ..tree.program import Function, Program, Variable
 from ..tree.statements import Block, Declare, Evaluate, If, Return, Statement
 from ..tree.walking import assigned, counted, found, has, placed, replaced, size, substituted, used
-from .binding import Binding
+from .binding import Binding, is_place
 from .hoisted import Hoister
-from .hoisting import is_pure
+from .hoisting import indices, is_pure, with_indices
 from .jumps import Jumps
 
 MOST = 400
@@ -44,7 +44,7 @@ def as_expression(parts: Sequence[Statement], function: Function) -> Optional[Ex
         local = it.locals[0]
         if local.first is None or local.variable.is_reference or not is_pure(local.first) or local.variable in assigned(*rest) or isinstance(local.variable.kind, (Record, Array)):
             return None
-        if sum(counted(each, local.variable) for each in rest) > 1 and size(local.first) > 3:
+        if sum(counted(each, local.variable) for each in rest) > 1 and size(local.first) > 3 or used(local.first) & assigned(*rest):
             return None
         first = cast(local.variable.kind, local.first)
         return as_expression([substituted(each, {local.variable: first}) for each in rest], function)
@@ -88,7 +88,7 @@ class Inliner(Hoister):
         """The value of a call, whose statements go before; into a variable where one is given and the body has several returns."""
         function = self.prepared(it.function, it.at)
         self.program.note(function.at if it.at < 0 else it.at, f"the call of `{function.word or function.name}`", "its body")
-        made = self.sequence([*([it.target] if it.target is not None else []), *it.arguments], before)
+        made = self.given(it, before)
         target = made.pop(0) if it.target is not None else None
         if function.is_constructor:
             return self.constructed(it, function, made, before, result)
@@ -104,6 +104,18 @@ class Inliner(Hoister):
         if self.total > MOST_WHOLE:
             raise Refused(it.at, "the bodies of what is called are more than can be put in one another", "a task with streams")
         return self.finished(it, function, parts, before, result)
+
+    def given(self, it: Call, before: List[Statement]) -> List[Expression]:
+        """The object and the arguments of a call; of a place that goes by reference only the indices are computed before what follows."""
+        by_name = [it.target is not None] * (it.target is not None) + [each.is_reference or isinstance(each.kind, (Array, Carrier)) for each in it.function.parameters]
+        made: List[Expression] = []
+        for each in [*([it.target] if it.target is not None else []), *it.arguments]:
+            at = len(before)
+            new = self.expression(each, before)
+            parts = [indices(one) if is_by_name and is_place(one) else [one] for one, is_by_name in zip(made, by_name)]
+            kept = iter(self.settled([one for part in parts for one in part], at, before))
+            made = [with_indices(one, [next(kept) for _ in part]) if is_by_name and is_place(one) else next(kept) for one, is_by_name, part in zip(made, by_name, parts)] + [new]
+        return made
 
     def finished(self, it: Call, function: Function, parts: List[Statement], before: List[Statement], result: Optional[Variable]) -> Expression:
         """The statements of a body go before; what is left is the value of its last `return`, or a variable."""
@@ -169,7 +181,7 @@ class Inliner(Hoister):
 
     def takes(self, variable: Variable, call: Call) -> bool:
         """Whether a variable may be the one into which a body puts its result."""
-        return not variable.is_reference and call.function.result == variable.kind and variable not in used(*call.arguments, call.target) and not call.function.is_constructor
+        return not variable.is_reference and call.function.result == variable.kind and variable not in used(*call.arguments, call.target, self.prepared(call.function, call.at).body) and not call.function.is_constructor
 
     def evaluated(self, it: Evaluate) -> List[Statement]:
         inner = it.expression

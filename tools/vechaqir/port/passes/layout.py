@@ -9,7 +9,7 @@ MOST_LEAVES = 4096
 
 
 class Leaf(NamedTuple):
-    """A field of numbers: its way from the outside, its kind, the word, the shift there, its bits, and the value with which it begins."""
+    """A field of numbers: its way from the outside, its kind, the word where it begins, the shift there, its bits, and the value with which it begins. Its upper bits may be in the next word."""
 
     path: Path
     kind: Kind
@@ -17,6 +17,11 @@ class Leaf(NamedTuple):
     shift: int
     bits: int
     first: int
+
+    @property
+    def over(self) -> int:
+        """How many bits are in the next word; 0 for all fields but those of packed structs."""
+        return max(0, self.shift + self.bits - 64)
 
 
 def whole(kind: Kind) -> Whole:
@@ -63,8 +68,6 @@ class Layout:
                 self.add(kind.element, at + number * bits_of(kind.element), (*path, number), 0, None)
         elif isinstance(kind, (Whole, Floating, Narrow)):
             size = width if width is not None else whole(kind).bits
-            if at % 64 + size > 64:
-                self.why = self.why or f"its field `{path[-1] if path else ''}` lies across two words"
             self.leaves.append(Leaf(path, kind, at // 64, at % 64, size, first))
             if isinstance(kind, Narrow) and kind.bits > 64:
                 self.why = self.why or f"a field of {kind.bits} bits"
@@ -74,11 +77,21 @@ class Layout:
     def word_kind(self, number: int) -> Kind:
         """The kind of a word: that of the field where it has one alone, and else the least without sign."""
         inside = [it for it in self.leaves if it.word == number]
+        over = max((it.over for it in self.leaves if it.word == number - 1), default=0)
+        if over or any(it.over for it in inside):
+            return holding(max(8, over, max((min(64, it.shift + it.bits) for it in inside), default=0)))
         if len(inside) == 1 and inside[0].shift == 0 and inside[0].bits == whole(inside[0].kind).bits:
             return inside[0].kind
         if not inside:
             return Whole(8, False)
         return holding(max(8 if len(inside) > 1 or inside[0].kind != BOOL else 1, max(it.shift + it.bits for it in inside)))
+
+    def field_bits(self, number: int) -> int:
+        """The bits of a word that are in fields."""
+        out = 0
+        for it in self.leaves:
+            out |= (((1 << it.bits) - 1) << it.shift) >> 64 * (number - it.word) & (1 << 64) - 1 if 0 <= number - it.word <= 1 else 0
+        return out
 
     def names(self, name: str) -> List[str]:
         return [name] if self.count == 1 else [f"{name}_{number}" for number in range(self.count)]

@@ -48,6 +48,11 @@ def width(it: Expression) -> "tuple[int, bool]":
     return (kind.bits, kind.is_signed) if isinstance(kind, (Narrow, Whole)) else (64, True)
 
 
+def is_shifted(it: Expression) -> bool:
+    """Whether a value comes from `<<` that is left to be cut with what it is a part of."""
+    return isinstance(it, Binary) and it.sign in MODULO and (it.sign == "<<" or is_shifted(it.left) or is_shifted(it.right))
+
+
 def whole_kind(kind: Kind) -> Kind:
     """A kind with whole numbers in the place of narrow ones."""
     if isinstance(kind, Narrow):
@@ -95,7 +100,7 @@ class Narrower:
         if isinstance(it, Assign):
             return self.assigned(it)
         if isinstance(it, Step) and isinstance(it.target.kind, Narrow):
-            return self.assigned(Assign(it.kind, "=", it.target, Binary(Narrow(it.target.kind.bits, it.target.kind.is_signed), it.sign[0], it.target, number(1))))
+            return self.assigned(Assign(it.kind, it.sign[0] + "=", it.target, number(1)))
         if isinstance(it, Bit):
             return self.bits(it)
         if isinstance(it, Bits):
@@ -119,6 +124,8 @@ class Narrower:
 
     def fits(self, it: Expression, kind: Narrow) -> bool:
         """Whether a value is one of a width without being cut."""
+        if is_shifted(it):
+            return False
         bits, is_signed = width(it)
         return bits <= kind.bits and is_signed == kind.is_signed or not is_signed and bits < kind.bits and kind.is_signed
 

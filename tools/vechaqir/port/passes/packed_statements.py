@@ -5,10 +5,10 @@ from ..faults import Refused
 
 from ..tree.kinds import INT, Array, Carrier, Record
 from ..tree.making import assign, binary, cast, declare, name
-from ..tree.nodes import Assign, Braces, Choose, Expression, Field, Index, Name, Number, Operation, Step
-from ..tree.program import Program, Variable
+from ..tree.nodes import Assign, Bit, Braces, Choose, Expression, Field, Index, Name, Number, Operation, Step
+from ..tree.program import Function, Program, Variable
 from ..tree.statements import Chain, Declare, Evaluate, For, Invoke, Statement
-from ..tree.walking import found, replaced, root, used
+from ..tree.walking import found, has, replaced, root, used
 from . import words as fields
 from .hoisting import is_pure
 from .layout import is_packed
@@ -29,10 +29,24 @@ class Words(Packer):
             return it
         given: List[Expression] = []
         for each in it.arguments:
-            if is_packed(each.kind):
-                raise Refused(each.at, "a struct as an argument of a task", "a scalar for each field")
-            given += self.carried(each, []) if inner_kind(each.kind) is not None else [each]
+            try:
+                if is_packed(each.kind):
+                    raise Refused(each.at, "a struct as an argument of a task", "a scalar for each field")
+                given += self.carried(each, []) if inner_kind(each.kind) is not None else [each]
+            except Refused as why:
+                self.program.mark(why.at, why.why, why.instead)
+                given.append(each)
         return replaced(it, arguments=tuple(given))
+
+    def parameter(self, it: Variable, function: Function) -> List[Variable]:
+        """What a parameter becomes; one that cannot be ported stays, with a mark."""
+        try:
+            if is_packed(it.kind):
+                raise Refused(it.at, f"the parameter `{it.name}` of `{function.name}` is a struct", "a scalar for each field")
+            return [it] if inner_kind(it.kind) is None else self.words_of(it, it.at)
+        except Refused as why:
+            self.program.mark(why.at, why.why, why.instead)
+            return [it]
 
     def declaration(self, it: Declare) -> List[Statement]:
         out: List[Statement] = []
@@ -78,6 +92,12 @@ class Words(Packer):
         """An assignment to a struct, to a part of one, or to a field."""
         assert isinstance(it, (Assign, Step))
         target = it.target
+        if isinstance(target, Bit) and self.has(target.base):   # bits of a field: of a copy, which becomes the field
+            if has(target.base, Operation):
+                raise Refused(it.at, "bits of a field whose index is read", "a variable for the index")
+            kept = self.fresh(target.base.kind, "bits")
+            value = self.evaluated(Evaluate(replaced(it, target=replaced(target, base=name(kept)))))
+            return [declare(kept, self.expression(target.base, before)), *value, *self.evaluated(assign(target.base, name(kept)))]
         if is_packed(target.kind):
             assert isinstance(it, Assign)
             if isinstance(it.value, Choose) and not is_pure(it.value):
@@ -91,21 +111,29 @@ class Words(Packer):
 
     def whole_assigned(self, target: Expression, value: Expression, before: List[Statement]) -> List[Statement]:
         values = self.words(value, before)
-        places = self.words(target, before)
-        return self.in_order(places, values, before)
+        at = len(before)
+        places = self.places(target, before)
+        return self.in_order(places, self.settled(values, at, before), before)
+
+    def places(self, it: Expression, before: List[Statement]) -> List[Expression]:
+        """The words of what is assigned; an index that needs one of them is kept before the first of them changes."""
+        words = self.words(it, before)
+        index = words[0].index if isinstance(words[0], Index) else None
+        if index is None or len(words) == 1 or not used(index) & {root(each) for each in words}:
+            return words
+        before.append(declare(kept := self.fresh(index.kind, "index"), index))
+        return [replaced(each, index=name(kept)) for each in words]
 
     def in_order(self, places: Sequence[Expression], values: Sequence[Expression], before: List[Statement]) -> List[Statement]:
-        """Word by word; a value that needs a word which is assigned before it is kept first."""
+        """Word by word; a value that needs a word which is assigned before it is kept first, and where one is, all others with operations."""
         out: List[Statement] = []
-        done: "set[Variable]" = set()
-        for place, value in zip(places, values):
-            if used(value) & done:
+        done = [root(place) for place in places]
+        late = [bool(used(value).intersection(done[:at])) for at, value in enumerate(values)]
+        for place, value, is_late in zip(places, values, late):
+            if is_late or any(late) and has(value, Operation):
                 kept = self.fresh(value.kind, "word")
                 before.append(declare(kept, value))
                 value = name(kept)
-            of = root(place)
-            if of is not None:
-                done.add(of)
             if not (isinstance(place, Name) and isinstance(value, Name) and value.variable is place.variable):
                 out.append(assign(place, value))
         return out
@@ -116,18 +144,20 @@ class Words(Packer):
         way = fields.way(target)
         layout = self.layout(way.base.kind, it.at)
         value = self.expression(it.value, before) if isinstance(it, Assign) else Number(INT, 1)
+        path, at = way.path(), len(before)
         steps = [self.expression(each, before) if isinstance(each, Expression) else each for each in way.steps]
-        path = way.path()
-        words = self.words(way.base, before)
+        words = self.places(way.base, before)
+        steps = self.steps_once(steps, words, before)
+        value = self.settled([value], at, before)[0]
         sign = it.sign[:-1] if isinstance(it, Assign) else it.sign[0]
         if sign:
-            old = fields.read(layout, layout.by_path[path], words[layout.by_path[path].word]) if path is not None else fields.read_at(layout, steps, words)
+            old = fields.read_of(layout, layout.by_path[path], words) if path is not None else fields.read_at(layout, steps, words)
             value = cast(target.kind, binary(sign, old, value)) if not isinstance(target.kind, Record) else value
         if path is not None:
             leaf = layout.by_path[path]
-            place = words[leaf.word]
-            return [assign(place, fields.written(layout, leaf, place, value))]
-        return [assign(place, new) for place, new in zip(words, fields.write_at(layout, steps, words, value))]
+            parts = fields.written_of(layout, leaf, words, self.once(leaf, value, before))
+            return self.in_order([words[at] for at, _ in parts], [new for _, new in parts], before)
+        return self.in_order(words, fields.write_at(layout, steps, words, self.once_only(value, before) if len(words) > 1 else value), before)
 
     def part_assigned(self, target: Expression, value: Expression, before: List[Statement]) -> List[Statement]:
         """A struct within a struct: field by field, those of one word at once."""
@@ -137,12 +167,15 @@ class Words(Packer):
             raise Refused(target.at, "a struct within a struct by a computed index", "its fields one by one")
         whole, part = self.layout(way.base.kind, target.at), self.layout(target.kind, target.at)
         values = self.words(value, before)
-        places = self.words(way.base, before)
+        start = len(before)
+        places = self.places(way.base, before)
+        values = self.settled(values, start, before)
         new = list(places)
         for leaf in whole.leaves:
             if leaf.path[:len(path)] == path:
                 inner = part.by_path[leaf.path[len(path):]]
-                new[leaf.word] = fields.written(whole, leaf, new[leaf.word], fields.read(part, inner, values[inner.word]))
+                for at, word in fields.written_of(whole, leaf, new, self.once(leaf, fields.read_of(part, inner, values), before)):
+                    new[at] = word
         changed = [at for at in range(len(places)) if new[at] is not places[at]]
         return self.in_order([places[at] for at in changed], [new[at] for at in changed], before)
 
@@ -185,15 +218,7 @@ class Words(Packer):
 def run(program: Program) -> None:
     packer = Words(program)
     for function in program.tasks:
-        parameters: List[Variable] = []
-        for it in function.parameters:
-            if inner_kind(it.kind) is None:
-                parameters.append(it)
-            elif is_packed(it.kind):
-                raise Refused(it.at, f"the parameter `{it.name}` of `{function.name}` is a struct", "a scalar for each field")
-            else:
-                parameters += packer.words_of(it, it.at)
-        function.parameters = parameters
+        function.parameters = [new for it in function.parameters for new in packer.parameter(it, function)]
         if function.body is not None:
             function.body = packer.block(function.body)
             packer.known.clear()

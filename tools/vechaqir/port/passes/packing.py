@@ -4,15 +4,15 @@ from typing import Dict, List, Optional, Sequence, Tuple
 from ..faults import Refused
 
 from ..tree.kinds import INT, Array, Carrier, Kind, Record
-from ..tree.making import binary, cast, choose, declare, name
+from ..tree.making import assign, binary, cast, choose, declare, name
 from ..tree.nodes import Braces, Choose, Expression, Field, Index, Name, Node, Null, Number, Operation
 from ..tree.program import Program, Variable
 from ..tree.statements import Local, Statement
-from ..tree.walking import placed
+from ..tree.walking import placed, size
 from . import words as fields
 from .hoisted import Hoister
 from .hoisting import is_pure
-from .layout import Layout, is_packed
+from .layout import Layout, Leaf, is_packed
 from .lists import spread
 
 
@@ -99,8 +99,13 @@ class Packer(Hoister):
             raise Refused(it.at, "a part of a struct in a place where it is no value", "a variable for it")
         if path is not None:
             leaf = layout.by_path[path]
-            return placed(fields.read(layout, leaf, self.one_word(way.base, leaf.word, before)), it)
-        return placed(fields.read_at(layout, steps, self.words(way.base, before)), it)
+            return placed(fields.read_of(layout, leaf, self.all_words(way.base, before)), it)
+        words = self.all_words(way.base, before)
+        return placed(fields.read_at(layout, self.steps_once(steps, words, before), words), it)
+
+    def steps_once(self, steps: Sequence[object], words: Sequence[Expression], before: List[Statement]) -> List[object]:
+        """Computed indices, which are used once for each word."""
+        return [self.once_only(each, before, "index") if isinstance(each, Expression) and len(words) > 1 else each for each in steps]
 
     def onto(self, base: Expression, way: "fields.Way") -> Expression:
         """The same way from another whole."""
@@ -125,14 +130,22 @@ class Packer(Hoister):
             value = spread(value)[number]
         return value if value.kind == old.kind else cast(old.kind, value)
 
-    def one_word(self, base: Expression, word: int, before: List[Statement]) -> Expression:
-        """One word of a whole; of a token that is read all are taken."""
+    def all_words(self, base: Expression, before: List[Statement]) -> List[Expression]:
+        """The words of a whole of which a part is used; of a token that is read all are taken."""
         all_ = self.words(base, before)
         if isinstance(base, Operation) and base.method == "read" and len(all_) > 1:
             kept = [self.fresh(each.kind, "word") for each in all_]
             before += [declare(variable, each) for variable, each in zip(kept, all_)]
-            return name(kept[word])
-        return all_[word]
+            return [name(each) for each in kept]
+        return all_
+
+    def once(self, leaf: Leaf, value: Expression, before: List[Statement]) -> Expression:
+        """A value that is used once, or that may be used twice."""
+        if not leaf.over or is_pure(value) and size(value) <= 3:
+            return value
+        kept = self.fresh(value.kind, "part")
+        before.append(declare(kept, value))
+        return name(kept)
 
     def words(self, it: Expression, before: List[Statement]) -> List[Expression]:
         """The words of an expression of a struct."""
@@ -143,13 +156,15 @@ class Packer(Hoister):
             return self.part_words(it, before)
         if isinstance(it, Index):
             index = self.expression(it.index, before)
-            if layout.count > 1 and not is_pure(index):
-                kept = self.fresh(index.kind, "index")
-                before.append(declare(kept, index))
-                index = name(kept)
+            if layout.count > 1:
+                index = self.once_only(index, before, "index")
             return [Index(kind, each, index) for kind, each in zip(layout.words, self.carried(it.base, before))]
         if isinstance(it, Operation) and it.method in ("read", "peek"):
             return [placed(Operation(kind, it.method, each, it.arguments), it) for kind, each in zip(layout.words, self.carried(it.stream, before))]
+        if isinstance(it, Choose) and not is_pure(it):
+            kept = self.fresh(it.kind)
+            before += [*(declare(each) for each in self.words_of(kept, it.at)), *self.branches(it, lambda value: [assign(name(kept), value)])]
+            return self.words(name(kept), before)
         if isinstance(it, Choose):
             test = self.expression(it.test, before)
             return [choose(test, left, right, kind) for kind, left, right in zip(layout.words, self.words(it.then, before), self.words(it.other, before))]
@@ -175,9 +190,9 @@ class Packer(Hoister):
         if isinstance(way.base, Braces):
             return self.words(self.of_list(way.base, path, it), before)
         whole, layout = self.layout(way.base.kind, it.at), self.layout(it.kind, it.at)
-        all_ = self.words(way.base, before)
-        values = {leaf.path[len(path):]: fields.read(whole, leaf, all_[leaf.word]) for leaf in whole.leaves if leaf.path[:len(path)] == path}
-        return self.joined(layout, [(leaf.word, fields.placed(layout, leaf, values[leaf.path])) for leaf in layout.leaves])
+        all_ = self.all_words(way.base, before)
+        values = {leaf.path[len(path):]: fields.read_of(whole, leaf, all_) for leaf in whole.leaves if leaf.path[:len(path)] == path}
+        return self.joined(layout, [piece for leaf in layout.leaves for piece in fields.placed_of(layout, leaf, self.once(leaf, values[leaf.path], before))])
 
     def packed(self, layout: Layout, it: Braces, before: List[Statement]) -> List[Expression]:
         """The words of a list of values."""
@@ -189,21 +204,22 @@ class Packer(Hoister):
         names: Sequence[object] = [each.name for each in it.kind.members] if isinstance(it.kind, Record) else range(len(values))
         values = self.sequence_of(values, before)
         for step, value in zip(names, values):
-            way = (*path, step)
+            way, at, old = (*path, step), len(before), len(out)
             if isinstance(value.kind, Array) and not isinstance(value, Braces):
                 kind = value.kind
-                value = Braces(kind, tuple(Index(kind.element, value, Number(INT, at)) for at in range(kind.length)))
+                value = Braces(kind, tuple(Index(kind.element, value, Number(INT, cell)) for cell in range(kind.length)))
             if isinstance(value, Braces):
                 out += self.pieces(layout, value, way, before)
             elif is_packed(value.kind):
                 inner = self.layout(value.kind, it.at)
-                all_ = self.words(value, before)
+                all_ = self.all_words(value, before)
                 for leaf in inner.leaves:
                     to = layout.by_path[way + leaf.path]  # type: ignore[index]
-                    out.append((to.word, fields.placed(layout, to, fields.read(inner, leaf, all_[leaf.word]))))
+                    out += fields.placed_of(layout, to, self.once(to, fields.read_of(inner, leaf, all_), before))
             else:
                 to = layout.by_path[way]  # type: ignore[index]
-                out.append((to.word, fields.placed(layout, to, value)))
+                out += fields.placed_of(layout, to, self.once(to, value, before))
+            out[:old] = zip([word for word, _ in out[:old]], self.settled([each for _, each in out[:old]], at, before))
         return out
 
     def sequence_of(self, values: Sequence[Expression], before: List[Statement]) -> List[Expression]:

@@ -1,21 +1,19 @@
 """Fewer ticks for the same values: a declaration takes its first assignment, a variable that a pass has made and that is used once goes into its use, and what nobody reads goes."""
+import copy
 from typing import Dict, List, Optional, Sequence, Set
 
-from ..tree.kinds import BOOL, Carrier, Whole
-from ..tree.making import cast, negated
+from ..tree.kinds import Carrier, Whole
+from ..tree.making import both, cast, negated
 from ..tree.nodes import Assign, Binary, Choose, Expression, Name, Node, Operation, Step
 from ..tree.program import Function, Program, Variable
 from ..tree.statements import Block, Declare, Empty, Evaluate, If, Local, Marked, Return, Statement
-from ..tree.walking import assigned, children, counted, found, has, mapped, replaced, root, size, substituted, used, walk
-from .hoisting import is_pure, is_stable, operates
+from ..tree.walking import assigned, children, counted, dressed, found, has, mapped, replaced, root, size, substituted, targets, used, walk
+from .hoisting import is_pure, is_stable, loads, operates
 from .simplifying import simplified
+from .summing import summed
 
 MOST = 200
-
-
-def is_made(it: Variable) -> bool:
-    """Whether a variable is not one of the task as it was written."""
-    return it.role == "local" and (it.at < 0 or it.origin is not None)
+MOST_SPREAD = 9
 
 
 class Counts:
@@ -27,10 +25,10 @@ class Counts:
         for it in walk(body):
             if isinstance(it, Name):
                 self.named[it.variable] = self.named.get(it.variable, 0) + 1
-            elif isinstance(it, (Assign, Step)):
-                variable = root(it.target)
+            for variable in map(root, targets(it)):
                 if variable is not None:
                     self.set[variable] = self.set.get(variable, 0) + 1
+                    self.named[variable] = self.named.get(variable, 0) + isinstance(it, Operation)   # such a variable is needed
 
 
 class Shortener:
@@ -118,6 +116,8 @@ class Shortener:
     def may_go(self, it: Statement, variable: Variable, first: Expression, between: Sequence[Statement]) -> bool:
         if isinstance(it, Marked) or size(first) > MOST:
             return False
+        if loads(first):   # a memory has no other task, so a load may go over all but a store into it
+            return not used(first) & assigned(*between) and comes_first(head_of(it), variable)
         if not is_stable(first, between):
             return False
         if is_pure(first):
@@ -126,8 +126,7 @@ class Shortener:
             return not used(first) & assigned(it) and (isinstance(it, If) or size(first) <= 6)
         if any(operates(each) for each in between):
             return False
-        place = head_of(it)
-        return place is not None and comes_first(place, variable)
+        return comes_first(head_of(it), variable)
 
     def before_changes(self, it: Statement, variable: Variable, first: Expression) -> bool:
         """Within one statement a value is computed before anything is assigned."""
@@ -136,6 +135,39 @@ class Shortener:
         if isinstance(inner, Assign) and has(inner.value, (Assign, Step)):
             return False
         return not (isinstance(inner, Operation) and any(has(each, (Assign, Step)) for each in inner.arguments)) and first is not None
+
+    # a variable that is never assigned again
+
+    def spread(self, parts: List[Statement]) -> List[Statement]:
+        """The value of a variable in each of its uses, where it is short and takes no operation: a declaration is a tick, and what is computed within a statement is none."""
+        out = list(parts)
+        at = len(out) - 2
+        while at >= 0:
+            it = out[at]
+            local = it.locals[0] if isinstance(it, Declare) and len(it.locals) == 1 else None
+            if local is not None and local.first is not None and self.is_spread(local.variable, local.first) and self.lasts(local.variable, local.first, out[at + 1:]):
+                value = local.first if local.first.kind == local.variable.kind else cast(local.variable.kind, local.first)
+                for index in range(at + 1, len(out)):
+                    if counted(out[index], local.variable):
+                        new = simplified(substituted(out[index], {local.variable: value}))
+                        assert isinstance(new, Statement)
+                        out[index] = new
+                if it.before:
+                    out[at + 1] = copy.copy(out[at + 1])
+                    out[at + 1].before = it.before + out[at + 1].before
+                for variable in used(value):
+                    self.counts.named[variable] = self.counts.named.get(variable, 0) + self.counts.named.get(local.variable, 0) - 1
+                del out[at]
+            at -= 1
+        return out
+
+    def is_spread(self, variable: Variable, first: Expression) -> bool:
+        return variable in self.made and not variable.is_reference and isinstance(variable.kind, Whole) and not self.counts.set.get(variable) and is_pure(first) and size(first) <= (MOST_SPREAD if self.counts.named.get(variable, 0) > 1 else MOST)
+
+    def lasts(self, variable: Variable, first: Expression, rest: Sequence[Statement]) -> bool:
+        """Whether a value is the same at all uses of a variable."""
+        last = max((at for at, each in enumerate(rest) if counted(each, variable)), default=-1)
+        return last >= 0 and not any(isinstance(each, Marked) for each in rest) and not used(first) & assigned(*rest[:last + 1])
 
     # what nobody reads
 
@@ -172,8 +204,10 @@ def head_of(it: Statement) -> Optional[Node]:
     return it.test if isinstance(it, If) else it.value if isinstance(it, Return) else None
 
 
-def comes_first(it: Node, variable: Variable) -> bool:
+def comes_first(it: Optional[Node], variable: Variable) -> bool:
     """Whether a variable is named before any operation, and in each case."""
+    if it is None:
+        return False
     if isinstance(it, Assign):
         parts: List[Node] = [it.value] if isinstance(it.target, Name) else [it.target, it.value] if it.sign != "=" else [it.value, it.target]
         if not isinstance(it.target, Name) and operates(it.target) and counted(it.value, variable):
@@ -200,9 +234,7 @@ def merged_tests(it: Statement) -> Statement:
     if isinstance(it, If) and it.other is None and len(it.then.parts) == 1 and it.text is None:
         inner = it.then.parts[0]
         if isinstance(inner, If) and inner.other is None and inner.text is None and not operates(inner.test) and not inner.before and not it.then.end:
-            test = Binary(BOOL, "&&", it.test, inner.test)
-            test.at = it.test.at
-            return replaced(it, test=test, then=inner.then)
+            return replaced(it, test=both([it.test, inner.test]), then=inner.then)
     if isinstance(it, If) and not it.then.parts and it.other is not None:
         return replaced(it, test=negated(it.test), then=it.other, other=None)
     return it
@@ -227,13 +259,11 @@ def tidy(parts: List[Statement]) -> List[Statement]:
             is_nothing = isinstance(it, Empty) or isinstance(it, Block) and not it.parts or isinstance(it, If) and not it.then.parts and it.other is None and is_pure(it.test) or \
                 isinstance(it, Evaluate) and is_pure(it.expression) and not isinstance(it.expression, (Assign, Step))
             if is_nothing:
-                if it.before and out is not None:
-                    out.append(it if isinstance(it, Empty) else placed_empty(it))
+                out += [it if isinstance(it, Empty) else placed_empty(it)] if it.before else []
                 continue
             if isinstance(it, Block) and not any(isinstance(each, Declare) for each in it.parts) and not it.end:
                 inner = list(it.parts)
                 if it.before and inner:
-                    import copy
                     inner[0] = copy.copy(inner[0])
                     inner[0].before = it.before + inner[0].before
                 out += inner
@@ -243,9 +273,7 @@ def tidy(parts: List[Statement]) -> List[Statement]:
 
 
 def placed_empty(it: Statement) -> Statement:
-    made = Empty()
-    made.before, made.margin, made.at = it.before, it.margin, it.at
-    return made
+    return dressed([Empty()], it)[0]
 
 
 def run(program: Program, function: Function, originals: Set[Variable]) -> None:
@@ -256,14 +284,17 @@ def run(program: Program, function: Function, originals: Set[Variable]) -> None:
     for _ in range(4):
         body = simplified(body)  # type: ignore[assignment]
         before = body
-        made = {it for it in (each.variable for each in found(body, Local)) if it not in originals}
+        rewritten = {each.variable for it in found(body, Declare) if it.text is None for each in it.locals}
+        made = {it for it in (each.variable for each in found(body, Local)) if it not in originals or it in rewritten}
         shortener = Shortener(body, made)
         body = blocks(body, tidy)  # type: ignore[assignment]
-        body = blocks(body, shortener.joined)  # type: ignore[assignment]
+        body = blocks(blocks(body, shortener.joined), summed)  # type: ignore[assignment]
         shortener.count(body)
         body = blocks(body, shortener.unread)  # type: ignore[assignment]
         shortener.count(body)
         body = blocks(body, shortener.forwarded)  # type: ignore[assignment]
+        shortener.count(body)
+        body = blocks(body, shortener.spread)  # type: ignore[assignment]
         if body is before:
             break
     function.body = body

@@ -4,12 +4,13 @@ from typing import Dict, List, Optional, Sequence, Set
 from ..faults import Refused
 from ..tree.folding import constant
 from ..tree.kinds import Array, Record, innermost
-from ..tree.making import assign, declare, name
-from ..tree.nodes import Assign, Braces, Expression, Field, Index, Name, Node
+from ..tree.making import assign, declare, name, number
+from ..tree.nodes import Assign, Braces, Expression, Field, Index, Name, Node, Operation
 from ..tree.program import Function, Program, Variable
 from ..tree.statements import Block, Declare, Evaluate, Local, Statement
-from ..tree.walking import from_above, statements, used, walk
+from ..tree.walking import from_above, has, statements, used, walk
 from .layout import Layout
+from .unrolling import MOST_CELLS
 from .lists import spread
 from .marking import marked
 
@@ -90,7 +91,13 @@ class Splitter:
             return [*(declare(each) for each in members.values()), *self.assigned(it.variable, it.first)]
         values = spread(it.first)
         has_values = bool(it.first.values) or any(each.first for each in kind.members)
-        return [declare(variable, from_above(value, self.field) if has_values and not (isinstance(value, Braces) and not value.values) else None) for variable, value in zip(members.values(), values)]
+        out: List[Statement] = []
+        for variable, value in zip(members.values(), values):
+            value = from_above(value, self.field)
+            is_array = named_array(value) is not None
+            out.append(declare(variable, value if has_values and not is_array and not (isinstance(value, Braces) and not value.values) else None))
+            out += copied(name(variable), value) if is_array else []
+        return out
 
     def assigned(self, variable: Variable, value: Expression) -> List[Statement]:
         """A struct that gets a value as a whole: field by field, by variables where one field's value needs another's."""
@@ -103,17 +110,16 @@ class Splitter:
         values = [from_above(each, self.field) for each in spread(value)]
         out: List[Statement] = []
         front: List[Statement] = []
-        done: Set[Variable] = set()
-        for each, one in zip(members, values):
-            if used(one) & done:
+        late = [bool(used(one).intersection(members[:at])) or members[at] in used(one) and isinstance(one, Braces) for at, one in enumerate(values)]
+        for each, one, is_late in zip(members, values, late):
+            if is_late or any(late) and has(one, Operation):
                 kept = Variable(each.name, each.kind)
-                front.append(declare(kept, one))
+                front += [declare(kept), *copied(name(kept), one)] if named_array(one) is not None else [declare(kept, one)]
                 one = name(kept)
             if isinstance(each.kind, Array):
                 out += listed(name(each), one)
             elif not (isinstance(one, Name) and one.variable is each):
                 out.append(assign(name(each), one))
-            done.add(each)
         return [*front, *out]
 
     def run(self, body: Block) -> Block:
@@ -128,7 +134,6 @@ def copied(target: Expression, value: Expression) -> List[Statement]:
     """An array cell by cell."""
     kind = target.kind
     assert isinstance(kind, Array)
-    from ..tree.making import number
     out: List[Statement] = []
     for at in range(kind.length):
         left, right = Index(kind.element, target, number(at)), Index(kind.element, value, number(at))
@@ -140,7 +145,6 @@ def listed(target: Expression, value: Expression) -> List[Statement]:
     """An array from a list of values, or from another one."""
     if not isinstance(value, Braces):
         return copied(target, value)
-    from ..tree.making import number
     kind = target.kind
     assert isinstance(kind, Array)
     out: List[Statement] = []
@@ -150,9 +154,14 @@ def listed(target: Expression, value: Expression) -> List[Statement]:
     return out
 
 
-def small_arrays(body: Block) -> Dict[Variable, List[Variable]]:
-    """The arrays made of fields whose indices are all constant: a variable for each cell."""
-    made = {it.variable for it in walk(body) if isinstance(it, Local) and it.variable.origin is not None and isinstance(it.variable.kind, Array) and it.variable.kind.length <= 64}
+def named_array(it: Optional[Node]) -> Optional[Name]:
+    """An expression that is the name of an array."""
+    return it if isinstance(it, Name) and isinstance(it.kind, Array) else None
+
+
+def small_arrays(body: Block, is_late: bool) -> Dict[Variable, List[Variable]]:
+    """The arrays made of fields, and at last all with a few cells, whose indices are all constant: a variable for each cell."""
+    made = {it.variable for it in walk(body) if isinstance(it, Local) and isinstance(it.variable.kind, Array) and it.variable.kind.length <= (64 if it.variable.origin is not None else MOST_CELLS if is_late else 0)}
     uses: Dict[Variable, bool] = {it: True for it in made if not isinstance(innermost(it.kind), Record) and not isinstance(getattr(it.kind, "element", None), Array)}
     inside: Set[int] = set()
     for it in walk(body):
@@ -162,14 +171,16 @@ def small_arrays(body: Block) -> Dict[Variable, List[Variable]]:
             if at is None or not 0 <= at < getattr(it.base.kind, "length", 0):
                 uses[it.base.variable] = False
     for it in walk(body):
-        if isinstance(it, Local) and it.variable in uses and it.first is not None and not isinstance(it.first, Braces):
+        if isinstance(it, Local) and it.variable in uses and it.first is not None and not isinstance(it.first, Braces) and named_array(it.first) is None:
+            uses[it.variable] = False
+        if is_late and isinstance(it, Name) and it.variable in uses and id(it) not in inside:   # as a whole
             uses[it.variable] = False
     return {it: [Variable(f"{it.name}_{at}", getattr(it.kind, "element"), "local", at=it.at, origin=it.origin) for at in range(getattr(it.kind, "length"))] for it, is_small in uses.items() if is_small}
 
 
-def cells(body: Block) -> Block:
+def cells(body: Block, is_late: bool = False) -> Block:
     """A body with a variable for each cell of the small arrays."""
-    small = small_arrays(body)
+    small = small_arrays(body, is_late)
     if not small:
         return body
 
@@ -182,6 +193,9 @@ def cells(body: Block) -> Block:
                 values: Sequence[Optional[Expression]] = [None] * len(small[local.variable])
                 if isinstance(local.first, Braces) and local.first.values:
                     values = spread(local.first)
+                other = named_array(local.first)
+                if other is not None:
+                    values = [Index(each.kind, other, number(at)) for at, each in enumerate(small[local.variable])]
                 out += [declare(each, value) for each, value in zip(small[local.variable], values)]
             else:
                 out.append(Declare((local,)))

@@ -1,16 +1,17 @@
-"""Loops that are written out: those with constant ends whose variable picks a stream, a memory or a cell of a struct's array. Exact for each loop whose body does not assign its variable."""
+"""Loops that are written out: those with constant ends whose variable picks a stream, a memory, a cell of a struct's array or of a small array. Exact for each loop whose body does not assign its variable."""
 from typing import Callable, Dict, List, NamedTuple, Optional, Sequence, Set
 
 from ..tree.folding import constant, simplified
 from ..tree.kinds import Array, Whole, is_many
 from ..tree.making import block, number
-from ..tree.nodes import Assign, Binary, Expression, Field, Index, Name, Node, Step
+from ..tree.nodes import Assign, Binary, Braces, Cast, Expression, Field, Index, Name, Node, Number, Step
 from ..tree.program import Function, Program, Variable
-from ..tree.statements import Block, Break, Continue, Declare, For, LOOPS, Local, Statement
-from ..tree.walking import assigned, children, declared, found, replaced, rewritten, size, statements, substituted, used, walk
+from ..tree.statements import Block, Break, Continue, Declare, Evaluate, For, LOOPS, Local, Statement
+from ..tree.walking import assigned, children, declared, found, replaced, rewritten, root, size, statements, substituted, targets, used, walk
 from .jumps import Jumps
 
 MOST = 64
+MOST_CELLS, MOST_SHORT = 8, 60
 MOST_NODES = 20000
 TURNED = {"<": ">", "<=": ">=", ">": "<", ">=": "<=", "!=": "!=", "==": "=="}
 
@@ -66,9 +67,9 @@ def following(body: Node, variable: Variable) -> Set[Variable]:
     return out
 
 
-def picks(body: Node, variable: Variable) -> bool:
-    """Whether a variable picks a stream, a memory or a cell of an array within a struct."""
-    chosen = [it for it in found(body, Index) if is_many(it.base.kind) or is_lane(it.base)]
+def picks(body: Node, variable: Variable, small: Set[Variable]) -> bool:
+    """Whether a variable picks a stream, a memory, a cell of an array within a struct or of a small array."""
+    chosen = [it for it in found(body, Index) if is_many(it.base.kind) or is_lane(it.base) or isinstance(it.base, Name) and it.base.variable in small]
     if not chosen:
         return False
     follows = following(body, variable)
@@ -82,6 +83,30 @@ def is_lane(it: Expression) -> bool:
     return isinstance(it, Field) and isinstance(it.kind, Array)
 
 
+def small_arrays(body: Node) -> Set[Variable]:
+    """Arrays of a few cells whose indices are constant once short loops are written out: each cell becomes a variable, which takes no ticks of its own."""
+    short: Set[Variable] = set()
+    for loop in found(body, For):
+        made = trip(loop, MOST_CELLS) if size(loop.body) <= MOST_SHORT and not jumps(loop.body, Break) else None
+        short |= {made.variable} if made is not None else set()
+    out = {it.variable for it in found(body, Local) if isinstance(it.variable.kind, Array) and it.variable.kind.length <= MOST_CELLS and not isinstance(it.variable.kind.element, Array) and (it.first is None or isinstance(it.first, Braces))}
+    whole = {id(it): it.variable for it in found(body, Name) if it.variable in out}
+    for it in found(body, Index):
+        if isinstance(it.base, Name) and it.base.variable in out:
+            whole.pop(id(it.base), None)
+            if used(it.index) - short or not all(isinstance(each, (Name, Number, Binary, Cast)) for each in walk(it.index)):
+                out.discard(it.base.variable)
+    return out - set(whole.values())
+
+
+def is_sum(it: For) -> bool:
+    """Whether a loop adds up at most eight cells: written out it becomes one statement, and takes a tick instead of three for each cell."""
+    inner = it.body.parts[0] if len(it.body.parts) == 1 else None
+    if not isinstance(inner, Evaluate) or not isinstance(inner.expression, Assign) or inner.expression.sign not in ("+=", "^=", "|=", "&=") or not isinstance(inner.expression.target, Name):
+        return False
+    return isinstance(inner.expression.value, Index) and isinstance(inner.expression.value.base, Name) and isinstance(inner.expression.value.base.kind, Array) and trip(it, MOST_CELLS) is not None
+
+
 def jumps(it: Node, jump: type) -> bool:
     """Whether a body has a `break` or `continue` of its own loop."""
     return isinstance(it, jump) or any(jumps(each, jump) for each in children(it) if not isinstance(each, LOOPS))
@@ -89,7 +114,7 @@ def jumps(it: Node, jump: type) -> bool:
 
 def propagated(it: Node, is_all: bool = True) -> Node:
     """A tree in which variables of one constant value are that value."""
-    changed = {root for node in walk(it) if isinstance(node, (Assign, Step)) for root in [root_of(node.target)] if root is not None}
+    changed = {root(place) for node in walk(it) for place in targets(node)}
     names = {}
     for local in found(it, Local):
         known = constant(local.first)
@@ -108,11 +133,6 @@ def propagated(it: Node, is_all: bool = True) -> Node:
     return made
 
 
-def root_of(place: Expression) -> Optional[Variable]:
-    from ..tree.walking import root
-    return root(place)
-
-
 def copies(it: For, trip_: Trip) -> List[Statement]:
     """The body once for each value."""
     has_break = jumps(it.body, Break)
@@ -120,7 +140,7 @@ def copies(it: For, trip_: Trip) -> List[Statement]:
     out: List[Statement] = []
     for turn, value in enumerate(trip_.values):
         body = block(parts, it.body)
-        fresh = {each: Variable(each.name, each.kind, each.role, each.is_const, each.is_reference, each.at) for each in declared(body)} if has_break else {}
+        fresh = {each: Variable(each.name, each.kind, each.role, each.is_const, each.is_reference, each.at, origin=each.origin) for each in declared(body)} if turn or has_break else {}
         made = substituted(body, {trip_.variable: number(value, trip_.variable.kind if isinstance(trip_.variable.kind, Whole) else Whole(32, True))}, fresh)
         made = propagated(simplified(made))
         made = simplified(made)
@@ -143,12 +163,12 @@ def without_comments(it: Node) -> Optional[Node]:
 class Unroller:
     """The loops of one program."""
 
-    def __init__(self, program: Program) -> None:
-        self.program = program
+    def __init__(self, program: Program, small: Set[Variable]) -> None:
+        self.program, self.small = program, small
         self.nodes = 0
 
     def change(self, it: Statement) -> Optional[Sequence[Statement]]:
-        if not isinstance(it, For) or not isinstance(it.start, Declare) or not picks(it.body, it.start.locals[0].variable):
+        if not isinstance(it, For) or not isinstance(it.start, Declare) or not picks(it.body, it.start.locals[0].variable, self.small):
             return None
         found_ = trip(it)
         if found_ is None or jumps(it.body, Break) and len(found_.values) > 16 or size(it.body) * len(found_.values) > MOST_NODES:
@@ -190,8 +210,21 @@ def outer_first(node: Block, change: "object") -> Block:
 
 def run(program: Program, function: Function) -> None:
     body = function.body
-    if body is None or not any(is_many(it.base.kind) or is_lane(it.base) for it in found(body, Index)):
+    if body is None:
         return
     made = propagated(body, False)
     assert isinstance(made, Block)
-    function.body = from_outside(made, Unroller(program))
+    small = small_arrays(made)
+    if small or any(is_many(it.base.kind) or is_lane(it.base) for it in found(body, Index)):
+        function.body = from_outside(made, Unroller(program, small))
+
+
+def sums(function: Function) -> bool:
+    """Loops that add up a few cells, written out, once arrays have their last form; whether there was one."""
+    def change(it: Statement) -> Optional[Sequence[Statement]]:
+        made = trip(it, MOST_CELLS) if isinstance(it, For) and is_sum(it) else None
+        return copies(it, made) if made is not None and isinstance(it, For) else None
+    before = function.body
+    if before is not None:
+        function.body = statements(before, change)
+    return function.body is not before

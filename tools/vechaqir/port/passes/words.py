@@ -1,6 +1,7 @@
 """Fields of packed structs: read by a shift and a conversion, written by a mask; by a computed index a choice of words and a shift."""
 from typing import List, NamedTuple, Optional, Sequence, Tuple
 
+from ..faults import Refused
 from ..tree.folding import constant
 from ..tree.kinds import BOOL, INT, UINT64, Array, Floating, Kind, Narrow, Record, Whole
 from ..tree.making import binary, cast, choose, number
@@ -89,6 +90,39 @@ def written(layout: Layout, leaf: Leaf, word: Expression, value: Expression) -> 
     return kept if isinstance(new, Number) and new.value == 0 else binary("|", kept, new)
 
 
+def read_of(layout: Layout, leaf: Leaf, words: Sequence[Expression]) -> Expression:
+    """A field of the words of a struct; of a packed one it may begin in one word and end in the next."""
+    if not leaf.over:
+        return read(layout, leaf, words[leaf.word])
+    low = binary(">>", cast(UINT64, words[leaf.word]), number(leaf.shift))
+    both = binary("|", low, binary("<<", cast(UINT64, words[leaf.word + 1]), number(64 - leaf.shift)))
+    own = whole(leaf.kind)
+    made = bit_field(both, leaf._replace(shift=0), 64, own) if leaf.bits < own.bits else cast(own, both)
+    return made if own == leaf.kind else as_kind(made, leaf.kind)
+
+
+def halves(layout: Layout, leaf: Leaf, value: Expression) -> List[Tuple[int, Expression]]:
+    """A value at the place of a field that is in two words."""
+    own = whole(leaf.kind)
+    it = cast(UINT64, cast(unsigned(own.bits), as_whole(value, leaf.kind)))
+    if leaf.bits < own.bits:
+        it = binary("&", it, Number(UINT64, (1 << leaf.bits) - 1))
+    return [(leaf.word, binary("<<", it, number(leaf.shift))), (leaf.word + 1, cast(layout.words[leaf.word + 1], binary(">>", it, number(64 - leaf.shift))))]
+
+
+def placed_of(layout: Layout, leaf: Leaf, value: Expression) -> List[Tuple[int, Expression]]:
+    """A value at the place of a field, in the word or the two words that have it."""
+    return halves(layout, leaf, value) if leaf.over else [(leaf.word, placed(layout, leaf, value))]
+
+
+def written_of(layout: Layout, leaf: Leaf, words: Sequence[Expression], value: Expression) -> List[Tuple[int, Expression]]:
+    """The words that have a field, with the field anew."""
+    if not leaf.over:
+        return [(leaf.word, written(layout, leaf, words[leaf.word], value))]
+    kept = ((1 << leaf.shift) - 1, (1 << whole(layout.words[leaf.word + 1]).bits) - 1 & ~((1 << leaf.over) - 1))
+    return [(at, binary("|", binary("&", words[at], Number(unsigned(max(32, whole(layout.words[at]).bits)), mine)), new)) for mine, (at, new) in zip(kept, halves(layout, leaf, value))]
+
+
 class Way(NamedTuple):
     """The way to a field or a part: the whole, the steps from there, of which some may be computed, and the kind of the part."""
 
@@ -153,6 +187,8 @@ def position(layout: Layout, steps: Sequence[object]) -> Tuple[Expression, Leaf]
         kind = kind.element
         path.append(0)
     leaf = layout.by_path[tuple(path)]  # type: ignore[arg-type]
+    if any(each.over for each in layout.leaves):
+        raise Refused(-1, f"a computed index within `{layout.kind}`, of which a field is in two words", "a struct that is not packed, or its fields one by one")
     whole_position = number(at) if made is None else made if not at else binary("+", made, number(at))
     return whole_position, leaf
 

@@ -28,9 +28,17 @@ class Calls(Context):
             return self.method_call(cursor, to, *found)
         if to.kind in (self.sort.FUNCTION_DECL, self.sort.FUNCTION_TEMPLATE):
             return self.function_call(cursor, to)
+        if to.kind == self.sort.CXX_METHOD and to.is_static_method():
+            return self.called(cursor, to, None, self.arguments(cursor))
         return self.call_of_value(cursor)
 
     def call_of_value(self, cursor: Any) -> Expression:
+        """A call of a function that is an argument of a template, or of a constant function."""
+        to = next(iter(kids(cursor)), None)
+        while to is not None and to.kind.name in ("UNEXPOSED_EXPR", "PAREN_EXPR", "DECL_REF_EXPR", "UNARY_OPERATOR") and to.referenced is None:
+            to = next(iter(kids(to)), None)
+        if to is not None and to.referenced is not None and to.referenced.kind == self.sort.FUNCTION_DECL:
+            return self.function_call(cursor, to.referenced)
         known = value(cursor)
         if known is not None and isinstance(self.kind(cursor), Whole):
             return self.number_of(cursor, known)
@@ -131,6 +139,10 @@ class Calls(Context):
             if made.at == -2 and at < len(function.parameters) and function.parameters[at].first is not None:
                 made = function.parameters[at].first or made
             filled.append(made)
+        for it, made in zip(function.parameters, filled):
+            known_lambda = made.variable.first if isinstance(made, Name) else made
+            if it.kind == LAMBDA and isinstance(known_lambda, Lambda):   # a function has an instance of its own for each lambda
+                it.first = known_lambda
         return Call(self.kinds.of(cursor.type), function, object_, tuple(filled))
 
     def implicit(self, cursor: Any, target: Any, given: List[Any]) -> Expression:

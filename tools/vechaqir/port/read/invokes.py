@@ -110,7 +110,7 @@ class Invokes(Operators):
         return [Evaluate(bad)]
 
     def bound(self, cursor: Any) -> List[Statement]:
-        """`auto [a, b] = e;`: a copy of the whole, whose fields are what the names stand for."""
+        """`auto [a, b] = e;`: a copy of the whole, or a reference to it, whose fields are what the names stand for."""
         parts = kids(cursor)
         names = [it for it in parts if it.kind == self.sort.UNEXPOSED_DECL]
         first = next((it for it in parts if it.kind.is_expression()), None)
@@ -119,17 +119,10 @@ class Invokes(Operators):
             bad = Unknown(Plain("void"), "names in brackets for what is no struct", "one declaration for each")
             bad.at = self.at(cursor)
             return [Evaluate(bad)]
-        made = self.expression(first)
-        is_reference = "&" in self.text(cursor).split("[")[0]
-        whole: Expression = made
-        out: List[Statement] = []
-        if not is_reference:
-            it = Variable("_".join(name.spelling for name in names), kind, at=self.at(cursor))
-            whole = Name(kind, it)
-            out = [Declare((Local(it, made),))]
+        it = Variable("_".join(name.spelling for name in names), kind, is_reference="&" in self.text(cursor).split("[")[0], at=self.at(cursor))
         for name, member in zip(names, kind.members):
-            self.bindings[self.key(name)] = Field(member.kind, whole, member.name)
-        return out or [Empty()]
+            self.bindings[self.key(name)] = Field(member.kind, Name(kind, it), member.name)
+        return [Declare((Local(it, self.expression(first)),))]
 
     def is_chain(self, cursor: Any) -> bool:
         """Whether an expression invokes tasks."""

@@ -52,7 +52,7 @@ class Literals(Context):
             return Name(FUNCTION, self.variable(to))
         if to.kind not in (self.sort.VAR_DECL, self.sort.PARM_DECL):
             return self.refused(cursor, f"`{cursor.spelling}` is no variable")
-        if to.kind == self.sort.VAR_DECL and not self.parsed.is_own(to) or to.semantic_parent is not None and to.semantic_parent.kind in (self.sort.STRUCT_DECL, self.sort.CLASS_DECL, self.sort.CLASS_TEMPLATE):
+        if to.kind == self.sort.VAR_DECL and not self.parsed.is_own(to) and self.is_of_file(to) or to.semantic_parent is not None and to.semantic_parent.kind in (self.sort.STRUCT_DECL, self.sort.CLASS_DECL, self.sort.CLASS_TEMPLATE):
             return self.static_member(cursor, to)
         it = self.variable(to)
         made = Name(it.kind, it)
@@ -118,7 +118,7 @@ class Literals(Context):
         """An implicit conversion."""
         if inner.kind == kind or isinstance(kind, (Plain, Carrier, Record)) or isinstance(inner.kind, (Plain, Carrier, Record)):
             return inner
-        if isinstance(inner, Cast) and inner.text is None and is_bit_field(inner.operand) and isinstance(kind, Whole):   # a bit field of an `unsigned` becomes an `int` where all its values are of one
+        if isinstance(inner, Cast) and not inner.is_written and is_bit_field(inner.operand) and isinstance(kind, Whole):   # a bit field of an `unsigned` becomes an `int` where all its values are of one
             inner = inner.operand
         if isinstance(kind, Whole) and isinstance(inner.kind, Whole) or isinstance(kind, Floating) and isinstance(inner.kind, Floating):
             return inner
@@ -139,7 +139,7 @@ class Literals(Context):
             return inner
         if not isinstance(kind, (Whole, Floating, Narrow)) or not isinstance(inner.kind, (Whole, Floating, Narrow)):
             return self.refused(cursor, f"`{self.text(cursor)[:40]}`: a conversion of this sort", "one between kinds of numbers")
-        made = Cast(kind, self.inside(inner, kind))
+        made = Cast(kind, self.inside(inner, kind), True)
         text = self.text(cursor)
         form = WRITTEN.match(text) or ONE.match(text) or STATIC.match(text)
         if form and is_word(form[1]) and isinstance(kind, Whole) and isinstance(inner.kind, Whole):

@@ -132,12 +132,14 @@ class Operators(Calls, Literals):
         body = next((it for it in reversed(parts) if it.kind == self.sort.COMPOUND_STMT), None)
         front = self.text(cursor).split("]")[0].lstrip("[").strip()
         by_name = [it.strip() for it in front.split(",") if it.strip()]
+        if any("=" in it[1:] for it in by_name):
+            return self.refused(cursor, "a lambda with a variable of its own", "a variable before it")
         captured: List[Any] = [it.referenced for it in parts if it.kind == self.sort.VARIABLE_REF]
-        copies = [self.variable(it) for it in captured if it is not None and it.kind != self.sort.FIELD_DECL and (it.spelling in by_name or by_name[:1] == ["="] and f"&{it.spelling}" not in by_name)]
+        by_copy, by_reference = ([self.variable(it) for it in captured if it is not None and it.kind != self.sort.FIELD_DECL and sign + it.spelling in by_name] for sign in ("", "&"))
         made.name = "lambda"
         if body is not None:
             self.pending.append((made, body))
-        return Lambda(LAMBDA, made, tuple(copies))
+        return Lambda(LAMBDA, made, tuple(by_copy), tuple(by_reference) if by_name[:1] == ["="] else None)
 
 
 def is_carrier(it: Expression) -> bool:

@@ -90,6 +90,7 @@ class Cast(Expression):
     """A conversion of a value, which is written, or which changes between numbers of different sorts."""
 
     operand: Expression
+    is_written: bool = False
 
 
 @dataclass(eq=False)
@@ -144,8 +145,11 @@ class Comma(Expression):
 
 @dataclass(eq=False)
 class Lambda(Expression):
+    """`copies` are captured by copy; where all others are, `references` are those that are not."""
+
     function: "Function"
     copies: Tuple["Variable", ...]
+    references: Optional[Tuple["Variable", ...]] = None
 
 
 @dataclass(eq=False)

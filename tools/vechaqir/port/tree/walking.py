@@ -2,9 +2,10 @@
 import copy
 from typing import Any, Callable, Dict, Iterator, List, Optional, Sequence, Tuple, Type, TypeVar, Union
 
-from .nodes import Assign, Expression, Name, Node, Step
+from .kinds import Array
+from .nodes import Assign, Call, Expression, Name, Node, Operation, Step
 from .program import Variable
-from .statements import Block, Declare, Local, Statement
+from .statements import Block, Local, Statement
 
 N = TypeVar("N", bound=Node)
 Change = Callable[[Node], Optional[Node]]
@@ -134,7 +135,7 @@ def statements(node: N, change: Callable[[Statement], Optional[Sequence[Statemen
     return one(node)
 
 
-def root(place: Expression) -> Optional[Variable]:
+def root(place: Optional[Expression]) -> Optional[Variable]:
     """The variable that a place is a part of."""
     from .nodes import Bit, Field, Index
     while isinstance(place, (Index, Field, Bit)):
@@ -142,17 +143,28 @@ def root(place: Expression) -> Optional[Variable]:
     return place.variable if isinstance(place, Name) else None
 
 
+def targets(it: Node) -> Tuple[Optional[Expression], ...]:
+    """The places that a node itself assigns: by an operator, by an operation on a stream, or as arguments by reference."""
+    if isinstance(it, (Assign, Step)):
+        return (it.target,)
+    if isinstance(it, Operation):
+        return it.arguments if it.method not in ("write", "<<", "try_write", "memcpy", "memset") else (it.stream,) if it.method[:3] == "mem" else ()
+    if isinstance(it, Call):
+        return (it.target, *(each for parameter, each in zip(it.function.parameters, it.arguments) if isinstance(parameter.kind, Array) or parameter.is_reference and not parameter.is_const))
+    return ()
+
+
 def assigned(*nodes: Optional[Node]) -> "set[Variable]":
-    """The variables that are assigned, stepped or declared within."""
-    out = set()
-    for node in nodes:
-        for it in walk(node):
-            if isinstance(it, (Assign, Step)):
-                variable = root(it.target)
-                if variable is not None:
-                    out.add(variable)
-            elif isinstance(it, Local):
+    """The variables that are assigned, stepped or declared within, and in what is called there."""
+    out, met, left = set(), set(), list(nodes)
+    while left:
+        for it in walk(left.pop()):
+            out |= {variable for place in targets(it) for variable in [root(place)] if variable is not None}
+            if isinstance(it, Local):
                 out.add(it.variable)
+            elif isinstance(it, Call) and it.function not in met:
+                met.add(it.function)
+                left.append(it.function.body)
     return out
 
 
@@ -189,7 +201,3 @@ def declared(node: Optional[Node]) -> List[Variable]:
 
 def size(node: Optional[Node]) -> int:
     return sum(1 for _ in walk(node))
-
-
-def is_declared_within(node: Node) -> bool:
-    return has(node, Declare)

@@ -88,7 +88,7 @@ function showGraph() {
   fold.hidden = !D.folded;
   fold.addEventListener("click", () => showView(shownView === "whole" ? "folded" : "whole"));
   byId("fit").addEventListener("click", () => views[shownView].fit());
-  byId("size").addEventListener("click", () => views[shownView].fit([0, 0, 1, views[shownView].height]));
+  byId("size").addEventListener("click", () => views[shownView].fit(views[shownView].end));
   listeners.push(() => { for (const view of Object.values(views)) markChosen(view.inside); });
   showView(D.folded ? "folded" : "whole");
 }
@@ -101,23 +101,30 @@ function addView(name, { width, height, boxes, wires }) {
   inside.append(...boxes.filter((it) => it[0] === "upper").map(boxShape), ...shapes.map((it) => it[0]), ...boxes.filter((it) => it[0] !== "upper").map(boxShape), ...shapes.map((it) => it[1]));
   svg.append(inside);
   byId("graph").append(svg);
-  views[name] = { svg, inside, boxes, height, ...panAndZoom(svg, width, height) };
+  views[name] = { svg, inside, boxes, width, height, end: [0, 0, 1, height], ...panAndZoom(svg, width, height) };
 }
 
 function showView(name, around = null) {
   shownView = name;
   for (const [other, view] of Object.entries(views)) view.svg.style.display = other === name ? "" : "none";
   const view = views[name], box = around && view.boxes.find((it) => it[0] === "upper" && it[1] === around);
-  byId("graph").style.height = `${Math.max(220, Math.min(460, 1.2 * view.height + 40))}px`;
+  const high = `${Math.max(300, Math.min(460, 1.2 * view.height + 40))}px`;
+  byId("graph").style.height = byId("detail").style.maxHeight = high;
   byId("fold").textContent = name === "whole" ? "fold upper-level tasks" : "unfold upper-level tasks";
-  view.fit(box ? box.slice(3) : null);
+  view.fit(box ? box.slice(3) : opening(view));
 }
 
-function boxShape([kind, name, words, x, y, width, height]) {
+// a network whose labels would be small as a whole opens at its left end: in its whole height, or, if that is still too small, at full size
+function opening(view) {
+  const pane = byId("graph"), wide = Math.min(view.width, Math.max(0.8 * pane.clientWidth, view.height * pane.clientWidth / pane.clientHeight));
+  return pane.clientWidth < 0.12 * wide ? view.end : pane.clientWidth < 0.5 * view.width ? [0, 0, wide, view.height] : null;
+}
+
+function boxShape([kind, name, words, x, y, width, height, labelX, labelY]) {
   const group = draw("g", { class: kind, "data-name": name });
   group.append(draw("rect", { x, y, width, height, rx: kind === "memory" ? 9 : 4 }));
   const small = kind === "memory", isFolded = kind === "task" && !tasks.has(name);
-  if (kind === "upper") group.append(label(x + 8, y + 14, words, { class: "quiet", "font-size": 10 }));
+  if (kind === "upper") group.append(draw("title", {}, name), label(labelX, labelY, words, { class: "quiet", "font-size": 10 }));
   else group.append(label(x + width / 2, y + height / 2 + (small ? 3.5 : 4), words, { "text-anchor": "middle", "font-size": small ? 10 : 12 }));
   if (kind === "task") reactTo(group, name, isFolded ? () => showView("whole", name) : undefined);
   if (isFolded) {
@@ -131,7 +138,7 @@ function boxShape([kind, name, words, x, y, width, height]) {
 function wireShape([name, way, words, facts, x, y], view) {
   const group = draw("g", { class: "wire", "data-name": name });
   group.append(draw("path", { d: way, class: "grip" }), draw("path", { d: way, class: "line", "marker-end": `url(#end-${view})` }));
-  const named = draw("g", { class: "named", "data-name": name }, label(x, y - 4, words, { "font-size": 10, "font-weight": "bold" }), label(x, y + 11, facts, { "font-size": 10, class: "quiet" }));
+  const named = draw("g", { class: "named", "data-name": name }, label(x, y - 6, words, { "font-size": 10, "font-weight": "bold" }), label(x, y + 11, facts, { "font-size": 10, class: "quiet" }));
   if (D.plan && D.plan.streams[name] && D.plan.streams[name][1] + D.plan.streams[name][2] > 0) group.classList.add("late");
   reactTo(group, name);
   named.addEventListener("click", () => choose(name));
@@ -220,8 +227,8 @@ function taskDetail(task) {
   return [
     make("h3", {}, task.label), make("p", { class: "note" }, `task ${task.task}, line ${task.line}${task.detached ? ", detached" : ""}`), bar(parts(task)),
     table(["", "cycles"], parts(task).map(([kind, words, cycles]) => [make("span", {}, make("span", { class: `key ${kind}` }), ` ${words}`), share(cycles)]), [1]),
-    ...usesOf(task), make("h3", { style: "margin-top:10px" }, "Streams"), table(["", "stream", "other end"], [...rows, ...memories]),
-    make("h3", { style: "margin-top:10px" }, "States"), table(["", "line", "act"], task.states.map(([line, says], at) => [String(at), String(line), says]), [0, 1]),
+    ...usesOf(task), make("h3", {}, "Streams"), table(["", "stream", "other end"], [...rows, ...memories]),
+    make("h3", {}, "States"), table(["", "line", "act"], task.states.map(([line, says], at) => [String(at), String(line), says]), [0, 1]),
   ];
 }
 
@@ -250,8 +257,8 @@ function streamDetail(it) {
 
 // ---- time
 
-const ROW = 18, LEFT = 170, HEAD = 22;
-const time = { first: 1, count: Math.max(D.cycles, 1), rows: [] };
+const ROW = 18, HEAD = 22, NAMES = '11px "DejaVu Sans", Verdana, sans-serif';
+const time = { first: 1, count: Math.max(D.cycles, 1), rows: [], longest: 0, left: 60 };
 const COLOURS = ["tick", "ended", "bad", "read", "write", "memory", "fill", "ink", "quiet", "line", "card", "markpale"];
 
 function showTime() {
@@ -260,7 +267,11 @@ function showTime() {
     ". Arrow keys and dragging move, + and - and the wheel with Ctrl zoom, 0 shows all.", D.span > 1 ? ` A column is one of each ${D.span} cycles.` : "");
   time.rows = [...D.tasks.map((it) => ({ name: it.label, task: it })), ...D.streams.map((it) => ({ name: it.name, stream: it }))];
   place.firstElementChild.style.height = `${HEAD + ROW * time.rows.length + 6}px`;
-  time.width = () => Math.max(canvas.clientWidth - LEFT - 12, 50);
+  const pen = canvas.getContext("2d");
+  pen.font = NAMES;
+  // names have the room that they need, up to a quarter of the width
+  time.longest = Math.max(...time.rows.map((it) => pen.measureText(it.name).width));
+  time.width = () => Math.max(canvas.clientWidth - time.left - 12, 50);
   place.addEventListener("scroll", drawTime);
   addEventListener("resize", drawTime);
   place.addEventListener("wheel", (event) => { if (event.ctrlKey) { event.preventDefault(); zoomTime(Math.exp(event.deltaY / 300), cycleAt(event)); } }, { passive: false });
@@ -276,7 +287,7 @@ function showTime() {
 }
 
 function cycleAt(event) {
-  const x = event.clientX - byId("tracks").querySelector("canvas").getBoundingClientRect().left - LEFT;
+  const x = event.clientX - byId("tracks").querySelector("canvas").getBoundingClientRect().left - time.left;
   return time.first + x * time.count / time.width();
 }
 
@@ -320,12 +331,13 @@ function sayNow(event) {
 function drawTime() {
   const place = byId("tracks"), canvas = place.querySelector("canvas"), ratio = devicePixelRatio || 1;
   const width = place.clientWidth, height = Math.min(560, HEAD + ROW * time.rows.length + 6);
+  time.left = Math.max(60, Math.min(time.longest + 24, width / 4));
   canvas.style.width = `${width}px`; canvas.style.height = `${height}px`;
   canvas.width = width * ratio; canvas.height = height * ratio;
   const pen = canvas.getContext("2d"), style = getComputedStyle(document.documentElement);
   const colour = Object.fromEntries(COLOURS.map((it) => [it, style.getPropertyValue(`--${it}`).trim()]));
   pen.scale(ratio, ratio);
-  pen.font = '11px "DejaVu Sans", Verdana, sans-serif';
+  pen.font = NAMES;
   const firstRow = Math.max(0, Math.floor(place.scrollTop / ROW));
   const shift = HEAD - (place.scrollTop - firstRow * ROW);
   time.rows.slice(firstRow, firstRow + Math.ceil(height / ROW) + 1).forEach((row, at) => drawRow(pen, colour, row, shift + at * ROW, width));
@@ -334,12 +346,12 @@ function drawTime() {
 
 function drawRow(pen, colour, row, y, width) {
   if (row.name === chosen || isNear(row.name)) { pen.fillStyle = colour.markpale; pen.fillRect(0, y, width, ROW); }
-  const pixels = width - LEFT - 12, step = time.count / pixels;
+  const pixels = width - time.left - 12, step = time.count / pixels;
   // a mark for each cycle, or where they are narrower than a pixel for each pixel
   for (let at = 0; at < time.count; at += Math.max(1, step)) {
-    const now = Math.floor(time.first + at), x = LEFT + Math.max(0, Math.round((step > 1 ? at : now - time.first) / step));
+    const now = Math.floor(time.first + at), x = time.left + Math.max(0, Math.round((step > 1 ? at : now - time.first) / step));
     if (now > D.cycles) break;
-    const wide = Math.max(1, LEFT + Math.round((now + 1 - time.first) / step) - x);
+    const wide = Math.max(1, time.left + Math.round((now + 1 - time.first) / step) - x);
     if (row.task) {
       pen.fillStyle = colour[kindOf(row.task, codeOf(row.task, now))];
       pen.fillRect(x, y + 4, wide, ROW - 7);
@@ -351,8 +363,8 @@ function drawRow(pen, colour, row, y, width) {
     }
   }
   pen.fillStyle = colour.ink;
-  pen.fillText(cutText(pen, row.name, LEFT - 20), 8, y + 13);
-  if (!row.task) { pen.fillStyle = colour.line; pen.fillRect(LEFT, y + ROW - 2, pixels, 1); }
+  pen.fillText(cutText(pen, row.name, time.left - 20), 8, y + 13);
+  if (!row.task) { pen.fillStyle = colour.line; pen.fillRect(time.left, y + ROW - 2, pixels, 1); }
 }
 
 function cutText(pen, words, width) {
@@ -363,9 +375,9 @@ function cutText(pen, words, width) {
 
 function drawAxis(pen, colour, width, height) {
   pen.fillStyle = colour.card; pen.fillRect(0, 0, width, HEAD - 2);
-  const rough = time.count * 90 / (width - LEFT), power = 10 ** Math.floor(Math.log10(rough)), step = Math.max(1, [1, 2, 5, 10].map((it) => it * power).find((it) => it >= rough));
+  const rough = time.count * 90 / (width - time.left), power = 10 ** Math.floor(Math.log10(rough)), step = Math.max(1, [1, 2, 5, 10].map((it) => it * power).find((it) => it >= rough));
   for (let cycle = Math.ceil(time.first / step) * step; cycle <= time.first + time.count; cycle += step) {
-    const x = LEFT + (cycle - time.first) * (width - LEFT - 12) / time.count;
+    const x = time.left + (cycle - time.first) * (width - time.left - 12) / time.count;
     pen.fillStyle = colour.line; pen.fillRect(x, HEAD - 6, 1, height);
     if (x < width - 40) { pen.fillStyle = colour.quiet; pen.fillText(String(cycle), x + 3, 13); }
   }
@@ -442,73 +454,78 @@ function usesTable() {
   return make("div", {}, make("p", { class: "note" }, "What one instance of each task uses, by the program's estimate."), table(["task", "instances", "LUT", "FF", "BRAM", "DSP", "URAM"], [...rows, ["all", String(D.tasks.length), ...at.map((it) => String(sum(it)))]], [1, ...at]));
 }
 
+// the gaps between slots, in which the bundles of streams are drawn
+const ACROSS = 100, DOWN = 58;
+
 function showPlan() {
   const place = byId("floor");
   if (!D.plan) { place.append(usesTable(), make("p", { class: "note" }, "No device was given: tools/look.py .. --device DEV shows the plan.")); return; }
   const { rows, cols } = D.plan, inside = new Map();
   for (const [name, [row, col]] of Object.entries(D.plan.tasks)) inside.set(`${row} ${col}`, [...(inside.get(`${row} ${col}`) || []), name]);
-  const most = Math.max(1, ...[...inside.values()].map((it) => it.length));
-  const columns = most > 60 ? 16 : most > 12 ? 4 : 2, isSmall = most > 60;
-  const chip = isSmall ? { width: 14, height: 10 } : { width: columns === 4 ? 96 : 140, height: 20 };
-  const bars = D.plan.resources.filter((name, at) => D.plan.slots.some((it) => it.has[at] > 0)).length;
-  const slotWidth = Math.max(260, columns * (chip.width + 8) + 16), top = 22 + 16 * bars, gap = 46;
+  const isSmall = Math.max(...[...inside.values()].map((it) => it.length)) > 60;
+  const slotWidth = Math.max(320, Math.min(900, Math.floor((place.clientWidth + ACROSS) / cols) - ACROSS - 2)), columns = Math.floor((slotWidth - 12) / (isSmall ? 22 : 158));
+  const chip = { width: (slotWidth - 12) / columns - 8, height: isSmall ? 10 : 20 };
+  const top = 22 + 16 * D.plan.resources.filter((name, at) => D.plan.slots.some((it) => it.has[at] > 0)).length;
   // a row of slots is as high as its fullest slot needs
   const fullest = Array.from({ length: rows }, (_, row) => Math.max(0, ...Array.from({ length: cols }, (_, col) => (inside.get(`${row} ${col}`) || []).length)));
-  const heights = fullest.map((it) => top + 8 + Math.ceil(it / columns) * (chip.height + 8)), tops = heights.map((_, row) => gap + heights.slice(0, row).reduce((sum, it) => sum + it + gap, 0));
-  const svg = draw("svg", { width: cols * (slotWidth + gap) + gap, height: heights.reduce((sum, it) => sum + it + gap, gap) });
-  svg.append(draw("defs", {}, draw("marker", { id: "end-plan", markerUnits: "userSpaceOnUse", markerWidth: 9, markerHeight: 8, refX: 8, refY: 4, orient: "auto" }, draw("path", { d: "M0 0 L9 4 L0 8 Z", fill: "var(--edge)" }))));
-  const centres = new Map(), boxes = draw("g", {}), wires = draw("g", {});
-  for (const slot of D.plan.slots) drawSlot(boxes, centres, slot, inside.get(slot.place.join(" ")) || [], { columns, chip, slotWidth, heights, tops, gap, isSmall, top });
-  for (const [name, [, latency, balance]] of Object.entries(D.plan.streams)) {
-    const stream = streams.get(name), one = stream && centres.get(stream.writer), other = stream && centres.get(stream.reader);
-    if (one && other) wires.append(planWire(name, one, other, latency + balance));
-  }
-  svg.append(boxes, wires);
-  place.append(balanceWords(), svg, usesTable());
-  listeners.push(() => { for (const group of [boxes, wires]) for (const it of group.querySelectorAll("[data-name]")) { it.classList.toggle("chosen", it.dataset.name === chosen); it.classList.toggle("near", isNear(it.dataset.name)); } });
+  const heights = fullest.map((it) => it ? top + 8 + Math.ceil(it / columns) * (chip.height + 8) : 26), tops = heights.map((_, row) => 24 + heights.slice(0, row).reduce((sum, it) => sum + it + DOWN, 0));
+  const svg = draw("svg", { width: cols * (slotWidth + ACROSS) - ACROSS + 2, height: tops[rows - 1] + heights[rows - 1] + 2 });
+  svg.append(draw("defs", {}, draw("marker", { id: "end-plan", markerUnits: "userSpaceOnUse", markerWidth: 9, markerHeight: 8, refX: 8, refY: 4, orient: "auto" }, draw("path", { d: "M0 0 L9 4 L0 8 Z", fill: "var(--write)" }))));
+  const size = { columns, chip, slotWidth, heights, tops, isSmall, top };
+  svg.append(...D.plan.slots.map((it) => slotShape(it, inside.get(it.place.join(" ")) || [], size)), ...D.plan.bundles.map((it) => bundleShape(it, size)));
+  place.append(planWords(), make("p", { class: "note" }, "An arrow is all streams from one slot to the next one: a stream goes along its writer's column, then along its reader's row. The mark on a bar is the most that a plan may use."), svg, make("div", { class: "tables" }, balanceTable(), usesTable()));
+  listeners.push(() => { for (const it of svg.querySelectorAll("[data-name]")) { it.classList.toggle("chosen", it.dataset.name === chosen); it.classList.toggle("near", isNear(it.dataset.name)); } });
 }
 
-function drawSlot(boxes, centres, slot, names, size) {
-  const x = size.gap + slot.place[1] * (size.slotWidth + size.gap), y = size.tops[slot.place[0]];
-  const group = draw("g", { class: "slot" }, draw("rect", { x, y, width: size.slotWidth, height: size.heights[slot.place[0]], rx: 6 }));
-  group.append(label(x + 2, y - 8, `slot ${slot.place.join(" ")}${slot.forbidden ? ", forbidden" : ""}`, { "font-weight": "bold" }));
+const cornerOf = ([row, col], size) => [1 + col * (size.slotWidth + ACROSS), size.tops[row]];
+
+function slotShape(slot, names, size) {
+  const [x, y] = cornerOf(slot.place, size), says = slot.forbidden ? ", forbidden" : names.length ? "" : ", empty";
+  const group = draw("g", { class: "slot" }, draw("rect", { x, y, width: size.slotWidth, height: size.heights[slot.place[0]], rx: 6 }), label(x + 2, y - 8, `slot ${slot.place.join(" ")}${says}`, { "font-weight": "bold" }));
   let top = y - 4;
-  D.plan.resources.forEach((name, at) => {
+  if (names.length) D.plan.resources.forEach((name, at) => {
     if (!slot.has[at]) return;
     top += 16;
-    const part = slot.uses[at] / slot.has[at], wide = size.slotWidth - 130;
-    group.append(label(x + 10, top + 9, name, { "font-size": 10, class: "quiet" }), draw("rect", { x: x + 52, y: top, width: wide, height: 9, style: "fill:var(--ended);stroke:none" }));
+    const part = slot.uses[at] / slot.has[at], wide = size.slotWidth - 112;
+    group.append(label(x + 10, top + 9, name, { "font-size": 10, class: "quiet" }), draw("rect", { x: x + 52, y: top, width: wide, height: 9, style: "fill:var(--line);stroke:none" }));
     group.append(draw("rect", { x: x + 52, y: top, width: wide * Math.min(part, 1), height: 9, style: `fill:var(${100 * part > D.plan.percent ? "--bad" : "--tick"});stroke:none` }));
     group.append(draw("line", { x1: x + 52 + wide * D.plan.percent / 100, x2: x + 52 + wide * D.plan.percent / 100, y1: top - 2, y2: top + 11, style: "stroke:var(--write)" }));
     group.append(label(x + 60 + wide, top + 9, `${(100 * part).toFixed(1)}%`, { "font-size": 10 }));
   });
   names.forEach((name, at) => {
     const left = x + 10 + (at % size.columns) * (size.chip.width + 8), top = y + size.top + Math.floor(at / size.columns) * (size.chip.height + 8);
-    centres.set(name, [left + size.chip.width / 2, top, top + size.chip.height]);
     const made = draw("g", { class: "task chip", "data-name": name }, draw("rect", { x: left, y: top, width: size.chip.width, height: size.chip.height, rx: 3, style: "fill:var(--card)" }), draw("title", {}, name));
     const words = cutName(name, Math.floor((size.chip.width - 8) / 6.6));
     if (!size.isSmall) made.append(label(left + size.chip.width / 2, top + 14, words, { "text-anchor": "middle", "font-size": 10 }));
     made.addEventListener("click", () => choose(name));
     group.append(made);
   });
-  boxes.append(group);
-}
-
-function planWire(name, [x, above, below], [toX, toAbove, toBelow], registers) {
-  // from the lower edge of the upper one to the upper edge of the lower one; side by side from lower edge to lower edge
-  const bend = above === toAbove ? 26 : 0, y = toAbove < above ? above : below, toY = above < toAbove ? toAbove : toBelow;
-  const way = `M${x} ${y} C${x} ${(y + toY) / 2 + bend} ${toX} ${(y + toY) / 2 + bend} ${toX} ${toY}`;
-  const group = draw("g", { class: `wire${registers ? " late" : ""}`, "data-name": name }, draw("path", { d: way, class: "grip" }), draw("path", { d: way, class: "line", "marker-end": "url(#end-plan)" }), draw("title", {}, `${name}${registers ? `: ${registers} registers` : ""}`));
-  group.addEventListener("click", () => choose(name));
   return group;
 }
 
-function balanceWords() {
-  const { cost, registers, dual, streams: planned } = D.plan;
-  const crossing = Object.entries(planned).filter(([, it]) => it[1] + it[2] > 0);
+function bundleShape([place, other, bits, count], size) {
+  const [x, y] = cornerOf(place, size), [toX, toY] = cornerOf(other, size), words = [count === 1 ? "1 stream" : `${count} streams`, `${bits} bits`];
+  const group = draw("g", { class: "wire late" }), arrow = (way) => draw("path", { class: "line", d: way, "marker-end": "url(#end-plan)" });
+  if (place[0] === other[0]) {
+    const [from, to] = x < toX ? [x + size.slotWidth + 4, toX - 4] : [x - 4, toX + size.slotWidth + 4], middle = y + size.heights[place[0]] / 2 + (x < toX ? -24 : 24);
+    group.append(arrow(`M${from} ${middle} H${to}`), ...words.map((it, at) => label((from + to) / 2, middle + [-6, 14][at], it, { "font-size": 10, "text-anchor": "middle" })));
+  } else {
+    const isDown = y < toY, border = (isDown ? y + size.heights[place[0]] : toY + size.heights[other[0]]), middle = x + size.slotWidth * (isDown ? 0.45 : 0.72);
+    group.append(arrow(isDown ? `M${middle} ${border + 4} V${border + DOWN - 4}` : `M${middle} ${border + DOWN - 4} V${border + 4}`), ...words.map((it, at) => label(middle + 8, border + [26, 40][at], it, { "font-size": 10 })));
+  }
+  return group;
+}
+
+function planWords() {
+  const { cost, registers, dual } = D.plan;
   const proof = registers === dual ? `The flow has the value ${dual}, as many as the registers that the balance adds, so no even balance takes fewer.` : `The flow has the value ${dual}, and the balance adds ${registers} registers.`;
+  return make("p", {}, `Cost ${cost}: bits times borders crossed. ${proof}`);
+}
+
+function balanceTable() {
+  const crossing = Object.entries(D.plan.streams).filter(([, it]) => it[1] + it[2] > 0);
   const rows = crossing.slice(0, 60).map(([name, [width, latency, balance, flow]]) => [link(name), String(width), String(latency), String(balance), String(width * balance), String(flow)]);
-  return make("div", {}, make("p", {}, `Cost ${cost}: bits times borders crossed. ${proof}`), rows.length ? table(["stream with registers", "bits", "at borders", "for balance", "bits times balance", "flow"], rows, [1, 2, 3, 4, 5]) : make("p", { class: "note" }, "No stream crosses a border."));
+  return rows.length ? table(["stream with registers", "bits", "at borders", "for balance", "bits times balance", "flow"], rows, [1, 2, 3, 4, 5]) : make("p", { class: "note" }, "No stream crosses a border.");
 }
 
 // ---- the report
@@ -517,7 +534,7 @@ function showReport() {
   const place = byId("told");
   if (!D.run) { place.append(make("p", { class: "note" }, "There is no report.")); return; }
   const rows = D.run.rows.map(([what, name, kind, count, values, note]) => [what === "stream" && streams.has(name) ? link(name) : `${what} ${name}`, kind, String(count), make("div", { class: "values" }, values, note ? make("span", { class: "note" }, ` (${note})`) : "")]);
-  place.append(table(["", "kind", "values", ""], rows, [2]), make("p", {}, D.run.end), ...D.run.messages.map((it) => make("p", { class: "warn" }, it)));
+  place.append(...D.run.messages.map((it) => make("p", { class: "warn" }, it)), make("p", {}, D.run.end), make("div", { class: "scroll padded" }, table(["", "kind", "values", ""], rows, [2])));
 }
 
 // ---- keys

@@ -5,8 +5,9 @@ use Rattle.std.specs.List.{flat_map}
 use Rattle.std.proofs.lemmas.List.{take_all}
 use Rattle.tapa_files.proofs.Known.{part_of_next}
 use Rattle.run_data.specs.Lines.{joined, lines_in}
-use Rattle.run_data.proofs.Joining.{on_err, lines_next}
+use Rattle.run_data.proofs.Joining.{lines_next}
 use Rattle.command_answers.proofs.Joined.{joined_is}
+use Rattle.tapa_base.proofs.Got.{on_err}
 use Rattle.command_answers.proofs.report.put_lines.Goals as goal
 
 pub returns-in_err-put_all-clause-part : goal.returns-in_err-put_all-clause-part

@@ -1,12 +1,12 @@
 use Rattle.std.proofs.Common.{◌≡◌, ◌∙◌, ℕ, ◌<◌, List, length, true, slice_get, slice_index_or, Some, sym, ap, subst, arith}
 use Rattle.net_core.specs.declared.body.Pause.{Pause}
-use Rattle.net_core.proofs.Moves.{has_item}
 use Rattle.net_case.specs.declared.lot.Lot.{Lot}
 use Rattle.net_case.specs.Batch.{Ran}
 use Rattle.coro_threads.specs.Out.{AreOut}
 use Rattle.coro_threads.proofs.Lots.{all_ready, ran_same, ran_some}
 use Rattle.coro_threads.proofs.Outs.{out_later}
 use Rattle.coro_threads.proofs.Slices.{whole}
+use Rattle.tapa_base.proofs.Got.{some_at as has_item}
 use Rattle.coro_threads.proofs.round.run_ready.Goals as goal
 
 pub run_all-requires-clause-ready : goal.run_all-requires-clause-ready

@@ -4,7 +4,7 @@ use Rattle.std.proofs.lemmas.List.{get_or_append_left}
 use Rattle.sim_tape.specs.Operators.{cells_of}
 use Rattle.cycle_sim.specs.Firsts.{width_lists}
 use Rattle.cycle_sim.proofs.Starting.{lists_behind}
-use Rattle.cycle_sim.proofs.Writing.{cells_long}
+use Rattle.sim_pass.proofs.Reading.{cells_long}
 use Rattle.cycle_sim.proofs.first.first_cells.Goals as goal
 
 pub returns-clause-outside : goal.returns-clause-outside

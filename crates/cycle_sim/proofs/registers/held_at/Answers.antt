@@ -2,9 +2,9 @@ use Rattle.std.proofs.Common.{Some, refl, sym, ap, ◌∙◌}
 use Rattle.std.proofs.lemmas.Option.{same_Some}
 use Rattle.vlog_tree.specs.declared.table.Declaration.{Declaration}
 use Rattle.vlog_tree.specs.Table.{net_kind_is_register}
-use Rattle.vlog_run_laws.proofs.runs.Sound.{true_not_false}
 use Rattle.cycle_sim.proofs.Filling.{register_is}
-use Rattle.cycle_sim.proofs.Supplying.{clash}
+use Rattle.tapa_base.proofs.Tests.{true_not_false}
+use Rattle.tapa_base.proofs.Got.{clash}
 use Rattle.cycle_sim.proofs.registers.held_at.Goals as goal
 
 pub returns-in_default-clause-some : goal.returns-in_default-clause-some

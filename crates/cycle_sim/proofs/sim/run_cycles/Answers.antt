@@ -1,14 +1,14 @@
 use Rattle.std.proofs.Common.{◌≡◌, ◌+◌, List, [], length, sym, ap, subst, ◌∙◌, arith}
-use Rattle.std.specs.Prelude.{Result, Ok, Err, OnErr}
 use Rattle.std.specs.Vec.{with_items}
 use Rattle.std.proofs.lemmas.List.{with_items_is}
 use Rattle.tapa_base.specs.declared.token.Token.{Token}
 use Rattle.vlog_tree.specs.Environment.{tokens}
-use Rattle.vlog_run_laws.proofs.runs.Sound.{true_not_false}
 use Rattle.vlog_design.specs.Environments.{lists_of}
 use Rattle.cycle_sim.specs.Simulators.{sim_of}
 use Rattle.cycle_sim.specs.Sims.{IsNext, IsLater, AreTokensAdded, IsRunTo}
 use Rattle.cycle_sim.proofs.Adding.{tokens_next, later_next, later_none, run_on}
+use Rattle.tapa_base.proofs.Tests.{true_not_false}
+use Rattle.tapa_base.proofs.Got.{on_err}
 use Rattle.cycle_sim.proofs.sim.run_cycles.Goals as goal
 
 pub returns-then-done-clause-tokens : goal.returns-then-done-clause-tokens
@@ -53,11 +53,6 @@ returns-then-done-clause-later c =
     let run : IsRunTo first now old = c.loop-cycle.invariant.1 in
     let cycle : next.told.cycle ≡ c.loop-cycle.cycle + 1 = step.cycle ∙ ap (λ n. n + 1) c.loop-cycle.invariant.0 in
     subst (λ n. IsLater first next n) cycle (later_next first now next old run step)
-
--- what holds anyhow holds after an error
-on_err : {T E P : Type 0} (r : Result T E) → P → OnErr r P
-on_err (Ok x) p = tt
-on_err (Err e) p = p
 
 pub returns-in_err-tokens-clause-short : goal.returns-in_err-tokens-clause-short
 returns-in_err-tokens-clause-short c = on_err c.from_residual.result (0, omega arith, later_none (sim_of c.args.sim.now) c.requires)

@@ -1,9 +1,10 @@
 use Rattle.std.proofs.Common.{◌≡◌, Some, refl, sym, ap, ◌∙◌}
 use Rattle.std.specs.Prelude.{slice_get}
 use Rattle.vlog_tree.specs.Table.{declared, net_kind_is_input}
-use Rattle.vlog_run_laws.proofs.runs.Sound.{input_is, true_not_false}
+use Rattle.vlog_run_laws.proofs.runs.Sound.{input_is}
 use Rattle.cycle_sim.proofs.Naming.{top_number, declared_kind}
 use Rattle.cycle_sim.proofs.Supplying.{none_of, some_clash, given_something}
+use Rattle.tapa_base.proofs.Tests.{true_not_false}
 use Rattle.cycle_sim.proofs.supplies.input_at.Goals as goal
 
 pub returns-then-not-is_input-clause-all : goal.returns-then-not-is_input-clause-all

@@ -8,7 +8,8 @@ use Rattle.tapa_syntax.specs.Typed.{right_kind}
 use Rattle.hw_lines.specs.Fixed.{fixed}
 use Rattle.hw_lines.specs.Wires.{read_count, compiled}
 use Rattle.hw_expressions.specs.declared.wires.Wired.{Wired}
-use Rattle.hw_expressions.proofs.Grown.{constant_grows, compound, is_none_of, same_start}
+use Rattle.hw_expressions.proofs.Grown.{constant_grows, compound, same_start}
+use Rattle.tapa_base.proofs.Got.{is_none_of}
 use Rattle.hw_expressions.proofs.wires.+compile.Goals as goal
 
 pub returns-in-Some : goal.returns-in-Some

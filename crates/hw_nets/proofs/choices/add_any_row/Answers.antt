@@ -1,7 +1,7 @@
 use Rattle.std.proofs.Common.{ℕ, ◌+◌, ◌<◌, length, drop, sym, ap, ◌∙◌, arith}
 use Rattle.hw_build.specs.Elements.{Wire, with, with_all}
 use Rattle.hw_build.specs.Trees.{numbered}
-use Rattle.hw_build.specs.Choices.{row, any_driver}
+use Rattle.hw_build.specs.Choices.{row_of, any_driver}
 use Rattle.hw_nets.specs.Entries.{entry_form, entry_forms}
 use Rattle.hw_nets.proofs.Rows.{row_next, row_end}
 use Rattle.hw_nets.proofs.choices.add_any_row.Goals as goal
@@ -15,7 +15,7 @@ loop-j-preserved c =
     let entries = c.args.entries.now in
     let below : j < length entries = omega arith in
     let grown = c.in_ok-add_any_net.ensures ∙ ap (λ i. with c.loop-j.draft (Wire width (numbered front i) (any_driver front i (entry_form x)))) c.in_ok-narrow.ensures in
-    ap (λ m. with_all m (row width front (any_driver front) (j + 1) (entry_forms (drop (j + 1) entries)))) grown ∙ sym (row_next width front (any_driver front) entries j x c.loop-j.draft below c.index-entries-j.is)
+    ap (λ m. with_all m (row_of width front (any_driver front) (j + 1) (entry_forms (drop (j + 1) entries)))) grown ∙ sym (row_next width front (any_driver front) entries j x c.loop-j.draft below c.index-entries-j.is)
     ∙ c.loop-j.invariant
 
 pub returns : goal.returns

@@ -1,6 +1,5 @@
 use Rattle.std.proofs.Common.{◌+◌, ◌-◌, ◌∷◌, drop, ℕ, sym, ap, refl, ◌∙◌, subst, arith}
-use Rattle.std.specs.Prelude.{◌≢◌}
-use Rattle.std.specs.Prelude.{Vec}
+use Rattle.std.specs.Prelude.{◌≢◌, Vec}
 use Rattle.std.specs.declared.alloc.Global.{Global}
 use Rattle.std.proofs.lemmas.Result.{IfOk-weaker, IfErr-weaker, err_from_is_err_and}
 use Rattle.std.proofs.lemmas.List.{drop_more}

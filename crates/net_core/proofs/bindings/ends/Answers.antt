@@ -10,16 +10,10 @@ index-leaf-requires c =
     let len = c.args.program.now.bodies.ok.0 in
     omega arith
 
-pub returns-clause-ends : goal.returns-clause-ends
-returns-clause-ends c =
+pub returns : goal.returns
+returns c =
     let at = slice_get_read c.args.program.now.instances.items _ c.args.i c.index.result.now refl c.requires.instance c.index.ensures in
     let b = c.requires.connected.built c.args.i c.index.result.now at in
     let leaf = slice_get_read c.args.program.now.bodies.items _ c.index.result.now.body c.index-leaf.result.now refl b.body c.index-leaf.ensures in
-    c.as_slice.ensures.value ∙ b.ends c.index-leaf.result.now leaf
-
-pub returns-clause-as_many : goal.returns-clause-as_many
-returns-clause-as_many c =
-    let at = slice_get_read c.args.program.now.instances.items _ c.args.i c.index.result.now refl c.requires.instance c.index.ensures in
-    let b = c.requires.connected.built c.args.i c.index.result.now at in
-    let leaf = slice_get_read c.args.program.now.bodies.items _ c.index.result.now.body c.index-leaf.result.now refl b.body c.index-leaf.ensures in
-    ap length (c.as_slice.ensures.value ∙ b.ends c.index-leaf.result.now leaf) ∙ b.as_many ∙ ap arity_in (sym at)
+    let ends = c.as_slice.ensures.value ∙ b.ends c.index-leaf.result.now leaf in
+    record { ends = ends; as_many = ap length ends ∙ b.as_many ∙ ap arity_in (sym at) }

@@ -9,7 +9,7 @@ use Rattle.net_core.specs.declared.net_state.NetState.{NetState}
 use Rattle.net_core.specs.Bindings.{IsConnected, IsWriter, producer_of}
 use Rattle.net_core.specs.Load.{IsIn, AreBelow, AreListed}
 use Rattle.net_core.specs.Ties.{AreAllTies}
-use Rattle.net_core.specs.Settle.{IsAtRest, AreJoinedEnded, IsSomeJoinedLeft}
+use Rattle.net_core.specs.Settle.{IsAtRest}
 use Rattle.net_core.proofs.Settled.{limit_ends, done_ends, told_joined}
 use Rattle.net_core.proofs.drive.settle_on.Goals as goal
 

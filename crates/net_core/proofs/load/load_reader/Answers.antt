@@ -8,85 +8,64 @@ use Rattle.net_core.specs.Ports.{carried_of}
 use Rattle.net_core.specs.Load.{list_at}
 use Rattle.net_core.proofs.Loaded.{list_read}
 use Rattle.net_core.proofs.Queued.{offered_whole}
+use Rattle.net_core.proofs.load.load_reader.Goals.{After-index-from}
 use Rattle.net_core.proofs.load.load_reader.Goals as goal
+
+-- what the port's stream has, and how much of it the port was given
+module _ (c : After-index-from) where
+  list : c.carried-total.result.now ≡ list_at c.args.program.now c.args.all.now.items c.args.writers.now.items (stream_at c.args.program.now c.args.i c.args.p)
+  list =
+      let r = c.requires in
+      let lp = r.ports.ports_len in
+      let lj = r.tie.producer_in in
+      let ej = slice_get_read c.args.all.now.items _ c.args.tie.now.producer c.index.result.now refl (omega arith) c.index.ensures in
+      list_read c.args.program.now c.args.all.now.items c.args.writers.now.items _ _ _ c.args.tie.now.position c.index.result.now c.carried-total.result.now r.tie.stream r.tie.producer r.written ej c.carried-total.ensures.tokens
+
+  from : c.index-from.result.now ≡ slice_index c.args.offered.now.items (stream_at c.args.program.now c.args.i c.args.p)
+  from =
+      let lo = c.requires.ports.offered_len in
+      let ls = c.requires.tie.stream_in in
+      sym (get_or_from_slice_get c.args.offered.now.items _ c.index-from.result.now 0 (slice_get_read c.args.offered.now.items _ c.args.tie.now.stream c.index-from.result.now refl (omega arith) c.index-from.ensures))
+      ∙ ap (slice_index c.args.offered.now.items) c.requires.tie.stream
+
+  whole : slice_index (set c.args.offered.now.items c.args.tie.now.stream (length c.carried-total.result.now)) (stream_at c.args.program.now c.args.i c.args.p) ≡ length (list_at c.args.program.now c.args.all.now.items c.args.writers.now.items (stream_at c.args.program.now c.args.i c.args.p))
+  whole =
+      let lo = c.requires.ports.offered_len in
+      let ls = c.requires.tie.stream_in in
+      ap (slice_index (set c.args.offered.now.items c.args.tie.now.stream (length c.carried-total.result.now))) (sym c.requires.tie.stream)
+      ∙ get_or-set_same c.args.offered.now.items c.args.tie.now.stream (length c.carried-total.result.now) 0 (omega arith) ∙ ap length list
 
 pub returns-in_ok-offer_more-clause-offers : goal.returns-in_ok-offer_more-clause-offers
 returns-in_ok-offer_more-clause-offers c =
+    let k = (goal.at.returns-in_ok-offer_more-clause-offers c).After-index-from in
     let r = c.requires in
     let P = c.args.program.now in
     let all = c.args.all.now.items in
     let writers = c.args.writers.now.items in
-    let offered = c.args.offered.now.items in
-    let s = c.args.tie.now.stream in
-    let j = c.args.tie.now.producer in
     let S = stream_at P c.args.i c.args.p in
-    let q = c.args.tie.now.position in
-    let lp = r.ports.ports_len in
-    let lw = r.ports.writers_len in
-    let lo = r.ports.offered_len in
+    let carried : carried_of all c.args.tie.now.producer c.args.tie.now.position ≡ list_at P all writers S = ap (λ z. carried_of all z c.args.tie.now.position) r.tie.producer ∙ ap (carried_of all _) (sym r.written) ∙ ap (list_at P all writers) r.tie.stream in
+    let f = from k in
+    let w = whole k in
     let ls = r.tie.stream_in in
-    let lj = r.tie.producer_in in
-    let es : s ≡ S = r.tie.stream in
-    let ej = slice_get_read all _ j c.index.result.now refl (omega arith) c.index.ensures in
-    let qw : slice_index writers s ≡ q = r.written in
-    let list : c.carried-total.result.now ≡ list_at P all writers S = list_read P all writers s S j q c.index.result.now c.carried-total.result.now es r.tie.producer qw ej c.carried-total.ensures.tokens in
-    let carried : carried_of all j q ≡ list_at P all writers S = ap (λ z. carried_of all z q) r.tie.producer ∙ ap (carried_of all _) (sym qw) ∙ ap (list_at P all writers) es in
-    let from : c.index-from.result.now ≡ slice_index offered S = sym (get_or_from_slice_get offered s c.index-from.result.now 0 (slice_get_read offered _ s c.index-from.result.now refl (omega arith) c.index-from.ensures)) ∙ ap (slice_index offered) es in
-    let whole : slice_index (set offered s (length c.carried-total.result.now)) S ≡ length (list_at P all writers S) = ap (slice_index (set offered s (length c.carried-total.result.now))) (sym es) ∙ get_or-set_same offered s (length c.carried-total.result.now) 0 (omega arith) ∙ ap length list in
-    let lS = ap (λ z. z) es in
-    let queue = r.ports.queued in
-    let within = queue.offered_within S (omega arith) in
-    let taken = queue.taken_within S (omega arith) in
+    let lS = ap (λ z. z) r.tie.stream in
+    let within = r.ports.queued.offered_within S (omega arith) in
+    let taken = r.ports.queued.taken_within S (omega arith) in
     record {
-      waits = offered_whole (slice_index c.args.taken.now.items S) (slice_index offered S) _ c.index-from.result.now _ _ (list_at P all writers S) (carried_of all j q) c.in_ok-offer_more.ensures.waits (queue.waits c.args.i c.args.p r.instance r.reads) from carried taken within whole;
+      waits = offered_whole (slice_index c.args.taken.now.items S) (slice_index c.args.offered.now.items S) _ c.index-from.result.now _ _ (list_at P all writers S) (carried_of all c.args.tie.now.producer c.args.tie.now.position) c.in_ok-offer_more.ensures.waits (r.ports.queued.waits c.args.i c.args.p r.instance r.reads) f carried taken within w;
       within = omega arith;
       more = omega arith;
     }
 
 pub returns-in_ok-offer_more-clause-whole : goal.returns-in_ok-offer_more-clause-whole
-returns-in_ok-offer_more-clause-whole c =
-    let r = c.requires in
-    let P = c.args.program.now in
-    let all = c.args.all.now.items in
-    let writers = c.args.writers.now.items in
-    let offered = c.args.offered.now.items in
-    let s = c.args.tie.now.stream in
-    let j = c.args.tie.now.producer in
-    let S = stream_at P c.args.i c.args.p in
-    let q = c.args.tie.now.position in
-    let lp = r.ports.ports_len in
-    let lw = r.ports.writers_len in
-    let lo = r.ports.offered_len in
-    let ls = r.tie.stream_in in
-    let lj = r.tie.producer_in in
-    let es : s ≡ S = r.tie.stream in
-    let ej = slice_get_read all _ j c.index.result.now refl (omega arith) c.index.ensures in
-    let qw : slice_index writers s ≡ q = r.written in
-    let list : c.carried-total.result.now ≡ list_at P all writers S = list_read P all writers s S j q c.index.result.now c.carried-total.result.now es r.tie.producer qw ej c.carried-total.ensures.tokens in
-    ap (slice_index (set offered s (length c.carried-total.result.now))) (sym es) ∙ get_or-set_same offered s (length c.carried-total.result.now) 0 (omega arith) ∙ ap length list
+returns-in_ok-offer_more-clause-whole c = whole (goal.at.returns-in_ok-offer_more-clause-whole c).After-index-from
 
 pub returns-else-from-total-clause-whole : goal.returns-else-from-total-clause-whole
 returns-else-from-total-clause-whole c =
-    let r = c.requires in
-    let P = c.args.program.now in
-    let all = c.args.all.now.items in
-    let writers = c.args.writers.now.items in
-    let offered = c.args.offered.now.items in
-    let s = c.args.tie.now.stream in
-    let j = c.args.tie.now.producer in
-    let S = stream_at P c.args.i c.args.p in
-    let q = c.args.tie.now.position in
-    let lp = r.ports.ports_len in
-    let lw = r.ports.writers_len in
-    let lo = r.ports.offered_len in
-    let ls = r.tie.stream_in in
-    let lj = r.tie.producer_in in
-    let es : s ≡ S = r.tie.stream in
-    let ej = slice_get_read all _ j c.index.result.now refl (omega arith) c.index.ensures in
-    let qw : slice_index writers s ≡ q = r.written in
-    let list : c.carried-total.result.now ≡ list_at P all writers S = list_read P all writers s S j q c.index.result.now c.carried-total.result.now es r.tie.producer qw ej c.carried-total.ensures.tokens in
-    let from : c.index-from.result.now ≡ slice_index offered S = sym (get_or_from_slice_get offered s c.index-from.result.now 0 (slice_get_read offered _ s c.index-from.result.now refl (omega arith) c.index-from.ensures)) ∙ ap (slice_index offered) es in
-    let within = r.ports.queued.offered_within S (omega arith) in
-    let total = ap length list in
+    let k = (goal.at.returns-else-from-total-clause-whole c).After-index-from in
+    let f = from k in
+    let total = ap length (list k) in
+    let lS = ap (λ z. z) c.requires.tie.stream in
+    let ls = c.requires.tie.stream_in in
+    let within = c.requires.ports.queued.offered_within (stream_at c.args.program.now c.args.i c.args.p) (omega arith) in
     let more = c.if-from-total.false in
     omega arith

@@ -32,8 +32,8 @@ offer-requires-clause-kind c =
     (tokens_extended (is_ok c.extended-grown.result) (kind_at x p) c.lift-tokens.result.0.items c.extended-grown.new.tokens.items c.carried.result.now c.args.from c.extended-grown.ensures.items c.lift-tokens.ensures.kind
     (subst (λ k. AreTokensOf k c.carried.result.now) (ky ∙ c.requires.kind x ex) c.carried.ensures.kind)))
 
-pub returns-clause-reloaded : goal.returns-clause-reloaded
-returns-clause-reloaded c =
+pub returns : goal.returns
+returns c =
     let all = c.args.all.now.items in
     let i = c.args.i in
     let x = c.index_mut.result.now in
@@ -42,22 +42,13 @@ returns-clause-reloaded c =
     let li = c.requires.reader in
     let ex = slice_get_read all _ i x refl li c.index_mut.ensures.value in
     let e2 = slice_get_read (slice_set all i L) _ i c.index_mut-2.result.now refl (omega arith) c.index_mut-2.ensures.value in
-    reloaded_twice all (slice_set all i L) _ i c.args.p (reloaded all (slice_set all i L) i c.args.p x L ex refl c.lift-tokens.ensures.adjusted)
-    (reloaded (slice_set all i L) (slice_set (slice_set all i L) i c.offer.new.self) i c.args.p c.index_mut-2.result.now c.offer.new.self e2 refl c.offer.ensures.adjusted)
-
-pub returns-clause-waits : goal.returns-clause-waits
-returns-clause-waits c =
-    let all = c.args.all.now.items in
-    let i = c.args.i in
-    let x = c.index_mut.result.now in
-    let L = c.lift-tokens.new.self in
-    let len = length-set all i L in
-    let li = c.requires.reader in
-    let lj = c.requires.reader in
-    let ex = slice_get_read all _ i x refl li c.index_mut.ensures.value in
     let r = reloaded all (slice_set all i L) i c.args.p x L ex refl c.lift-tokens.ensures.adjusted in
     let ey = slice_get_read (slice_set all i L) _ c.args.i c.index.result.now refl (omega arith) c.index.ensures in
-    ap (λ o. waiting_by o c.args.p) (get_set_same (slice_set all i L) i c.offer.new.self (omega arith))
-    ∙ c.offer.ensures.waits
-    ∙ waits_extended (is_ok c.extended-grown.result) c.lift-tokens.result.0.items c.extended-grown.new.tokens.items c.carried.result.now _ _ c.lift-tokens.result.1 c.args.from c.extended-grown.ensures.items c.lift-tokens.ensures.within (c.lift-tokens.ensures.tokens ∙ sym (ap (λ o. waiting_by o c.args.p) ex))
-    (c.carried.ensures.tokens ∙ sym (ap (λ o. carried_by o c.args.q) ey) ∙ r.carries c.args.i c.args.q)
+    record {
+      reloaded = reloaded_twice all (slice_set all i L) _ i c.args.p r (reloaded (slice_set all i L) (slice_set (slice_set all i L) i c.offer.new.self) i c.args.p c.index_mut-2.result.now c.offer.new.self e2 refl c.offer.ensures.adjusted);
+      waits =
+          ap (λ o. waiting_by o c.args.p) (get_set_same (slice_set all i L) i c.offer.new.self (omega arith))
+          ∙ c.offer.ensures.waits
+          ∙ waits_extended (is_ok c.extended-grown.result) c.lift-tokens.result.0.items c.extended-grown.new.tokens.items c.carried.result.now _ _ c.lift-tokens.result.1 c.args.from c.extended-grown.ensures.items c.lift-tokens.ensures.within (c.lift-tokens.ensures.tokens ∙ sym (ap (λ o. waiting_by o c.args.p) ex))
+          (c.carried.ensures.tokens ∙ sym (ap (λ o. carried_by o c.args.q) ey) ∙ r.carries c.args.i c.args.q);
+    }

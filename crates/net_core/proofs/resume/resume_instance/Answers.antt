@@ -1,246 +1,128 @@
 -- The facts of a call, from the net's invariant to what it stands for after the call.
-use Rattle.std.proofs.Common.{◌≡◌, ℕ, ◌+◌, ◌-◌, ◌<◌, ◌≤◌, ◌^◌, length, Some, refl, sym, ap, ◌∙◌, subst, arith}
-use Rattle.std.specs.Prelude.{slice_set, slice_index, ◌==◌, if◌then◌else◌}
+use Rattle.std.proofs.Common.{◌≡◌, ◌+◌, ◌<◌, ◌^◌, length, Some, refl, sym, ap, ◌∙◌, subst, arith}
+use Rattle.std.specs.Prelude.{slice_set}
 use Rattle.std.specs.Arc.{arc_value}
-use Rattle.std.proofs.lemmas.List.{length-set}
 use Rattle.std.proofs.lemmas.Option.{slice_get_read, get_or_from_slice_get}
 use Rattle.tapa_syntax.specs.declared.program.Program.{Program}
-use Rattle.net_core.specs.Ports.{ends_by, ends_in, waiting, waiting_by, waiting_of}
-use Rattle.net_core.specs.Bindings.{arity, ends_at, stream_at, Reads}
-use Rattle.net_core.specs.Bounded.{instance_job, count_of}
-use Rattle.net_core.specs.Load.{HasPorts, AreLoaded}
+use Rattle.net_core.specs.Bindings.{arity}
+use Rattle.net_core.specs.Bounded.{count_of, IsNetAt}
+use Rattle.net_core.specs.Load.{HasPorts}
 use Rattle.net_core.specs.State.{count, HasResumed}
 use Rattle.net_core.specs.Ties.{AreTies}
 use Rattle.net_core.specs.declared.net_state.NetState.{NetState}
-use Rattle.net_core.proofs.Moves.{get_set_same}
-use Rattle.net_core.proofs.Resuming.{told_for, loaded_net, has_ports, can_resume, ends_are, agrees_at, enough, count_set, net_is, has_resumed}
+use Rattle.net_core.proofs.Resuming.{IsCalled, loaded_net, has_ports, can_resume, by_call, counted, ends_all, enough_back, net_is, has_resumed}
+use Rattle.net_core.proofs.resume.resume_instance.Given.{Over}
+use Rattle.net_core.proofs.resume.resume_instance.Goals.{After-deref-program, After-index_mut-2}
 use Rattle.net_core.proofs.resume.resume_instance.Goals as goal
 
+module _ (g : Over) (c : After-deref-program g) where
+  same : c.deref-program.result.now ≡ c.args.net.now.program
+  same = c.deref-program.ensures ∙ ap (λ (z : NetState). z.program) c.net.view_is
+
+  as_many : length c.args.ties.now.items ≡ arity c.deref-program.result.now c.args.i
+  as_many = subst (λ (p : Program). length c.args.ties.now.items ≡ arity p c.args.i) (sym same) c.requires.as_many
+
+  ties : AreTies c.deref-program.result.now c.args.i c.args.ties.now.items
+  ties = subst (λ (p : Program). AreTies p c.args.i c.args.ties.now.items) (sym same) c.requires.ties
+
+  net_at : IsNetAt g.B.Body.stands c.deref-program.result.now (arc_value c.net.inside.input) c.net.inside.bodies.items c.net.inside.ports.items c.net.inside.writers.items c.net.inside.offered.items c.net.inside.taken.items c.net.inside.fed_by_self.items c.net.inside.counts.items c.net.inside.pauses.items
+  net_at = subst (λ (p : Program). IsNetAt g.B.Body.stands p (arc_value c.net.inside.input) c.net.inside.bodies.items c.net.inside.ports.items c.net.inside.writers.items c.net.inside.offered.items c.net.inside.taken.items c.net.inside.fed_by_self.items c.net.inside.counts.items c.net.inside.pauses.items) (sym c.deref-program.ensures) c.net.invariant
+
+  fits : count_of c.net.inside.counts.items c.args.i + c.args.fuel < 2 ^ 64
+  fits = subst (λ (v : NetState). count v c.args.i + c.args.fuel < 2 ^ 64) (sym c.net.view_is) c.requires.fits
+
+-- the body is called with its loaded ports
+called : (g : Over) (c : After-index_mut-2 g) → IsCalled c.deref-program.result.now c.net.inside.bodies.items c.net.inside.ports.items c.net.inside.writers.items c.net.inside.offered.items c.net.inside.taken.items c.args.i c.load_ports.new.all.items c.load_ports.new.offered.items c.index_mut-2.result.now c.index_mut.result.now
+called g c =
+    let n = c.net.invariant in
+    let k = c.in_ok-load_ports.ensures in
+    let lb = n.bodies_len in
+    let lp = n.ports_len in
+    let lk = k.kept.len in
+    let e = ap (λ (p : Program). length p.instances.items) c.deref-program.ensures in
+    let inside : c.args.i < length (arc_value c.net.inside.program).instances.items = subst (λ (v : NetState). c.args.i < length v.program.instances.items) (sym c.net.view_is) c.requires.instance in
+    record {
+      inside = omega arith;
+      kept = k.kept;
+      ready = k.ports;
+      loaded = k.loaded;
+      ports_at = slice_get_read c.load_ports.new.all.items _ c.args.i c.index_mut-2.result.now refl (omega arith) c.index_mut-2.ensures.value;
+      body_at = slice_get_read c.net.inside.bodies.items _ c.args.i c.index_mut.result.now refl (omega arith) c.index_mut.ensures.value;
+    }
+
 pub load_ports-requires-clause-ports : goal.load_ports-requires-clause-ports
-load_ports-requires-clause-ports g c =
-    let I = c.net.inside in
-    subst (λ p. HasPorts p I.ports.items I.writers.items I.offered.items I.taken.items) (sym c.deref.ensures)
-    (has_ports g.B.Body.stands (arc_value I.program) (arc_value I.input) _ _ _ _ _ _ _ _ c.net.invariant)
+load_ports-requires-clause-ports g c = has_ports (net_at g (goal.at.load_ports-requires-clause-ports g c).After-deref-program)
 
 pub load_ports-requires-clause-as_many : goal.load_ports-requires-clause-as_many
-load_ports-requires-clause-as_many g c =
-    let same : c.deref.result.now ≡ c.args.net.now.program = c.deref.ensures ∙ ap (λ (z : NetState). z.program) c.net.view_is in
-    subst (λ (p : Program). length c.args.ties.now.items ≡ arity p c.args.i) (sym same) c.requires.as_many
+load_ports-requires-clause-as_many g c = as_many g (goal.at.load_ports-requires-clause-as_many g c).After-deref-program
 
 pub load_ports-requires-clause-ties : goal.load_ports-requires-clause-ties
-load_ports-requires-clause-ties g c =
-    let same : c.deref.result.now ≡ c.args.net.now.program = c.deref.ensures ∙ ap (λ (z : NetState). z.program) c.net.view_is in
-    subst (λ (p : Program). AreTies p c.args.i c.args.ties.now.items) (sym same) c.requires.ties
+load_ports-requires-clause-ties g c = ties g (goal.at.load_ports-requires-clause-ties g c).After-deref-program
 
 pub count_taken-requires-clause-as_many : goal.count_taken-requires-clause-as_many
-count_taken-requires-clause-as_many g c =
-    let same : c.deref-2.result.now ≡ c.args.net.now.program = c.deref-2.ensures ∙ ap (λ (z : NetState). z.program) c.net.view_is in
-    subst (λ (p : Program). length c.args.ties.now.items ≡ arity p c.args.i) (sym same) c.requires.as_many
+count_taken-requires-clause-as_many g c = as_many g (goal.at.count_taken-requires-clause-as_many g c).After-deref-program
 
 pub count_taken-requires-clause-ties : goal.count_taken-requires-clause-ties
-count_taken-requires-clause-ties g c =
-    let same : c.deref-2.result.now ≡ c.args.net.now.program = c.deref-2.ensures ∙ ap (λ (z : NetState). z.program) c.net.view_is in
-    subst (λ (p : Program). AreTies p c.args.i c.args.ties.now.items) (sym same) c.requires.ties
+count_taken-requires-clause-ties g c = ties g (goal.at.count_taken-requires-clause-ties g c).After-deref-program
 
 pub resume_body-pause-requires : goal.resume_body-pause-requires
 resume_body-pause-requires g c =
-    let I = c.net.inside in
-    let P = arc_value I.program in
-    let inp = arc_value I.input in
-    let n = c.net.invariant in
-    let k = c.in_ok-load_ports.ensures.kept in
-    let i = c.args.i in
-    let w = subst (λ (p : Program). AreLoaded p (arity p i) i I.ports.items I.writers.items I.taken.items c.load_ports.new.all.items c.load_ports.new.offered.items) c.deref.ensures c.in_ok-load_ports.ensures.loaded in
-    let hp = subst (λ (p : Program). HasPorts p c.load_ports.new.all.items I.writers.items c.load_ports.new.offered.items I.taken.items) c.deref.ensures c.in_ok-load_ports.ensures.ports in
-    let b = c.index_mut.result.now in
-    let x = c.index_mut-2.result.now in
-    let lb = n.bodies_len in
-    let lp = n.ports_len in
-    let lk = k.len in
-    let ins : i < length P.instances.items = subst (λ (v : NetState). i < length v.program.instances.items) (sym c.net.view_is) c.requires.instance in
-    let inb : i < length I.bodies.items = omega arith in
-    let inp' : i < length c.load_ports.new.all.items = omega arith in
-    let eb = slice_get_read I.bodies.items _ i b refl inb c.index_mut.ensures.value in
-    let ex = slice_get_read c.load_ports.new.all.items _ i x refl inp' c.index_mut-2.ensures.value in
-    let fits : count_of I.counts.items i + c.args.fuel < 2 ^ 64 = subst (λ (v : NetState). count v i + c.args.fuel < 2 ^ 64) (sym c.net.view_is) c.requires.fits in
-    can_resume g.B.Body.stands P inp I.bodies.items I.ports.items I.writers.items I.offered.items I.taken.items I.fed_by_self.items I.counts.items I.pauses.items n i ins c.load_ports.new.all.items c.load_ports.new.offered.items k hp w x ex b eb c.args.fuel fits
+    let k = goal.at.resume_body-pause-requires g c in
+    can_resume (net_at g k.After-deref-program) (called g k.After-index_mut-2) c.args.fuel (fits g k.After-deref-program)
 
 pub count_taken-requires-clause-ends : goal.count_taken-requires-clause-ends
 count_taken-requires-clause-ends g c =
-    let I = c.net.inside in
-    let P = arc_value I.program in
-    let inp = arc_value I.input in
-    let n = c.net.invariant in
-    let k = c.in_ok-load_ports.ensures.kept in
-    let i = c.args.i in
-    let w = subst (λ (p : Program). AreLoaded p (arity p i) i I.ports.items I.writers.items I.taken.items c.load_ports.new.all.items c.load_ports.new.offered.items) c.deref.ensures c.in_ok-load_ports.ensures.loaded in
-    let hp = subst (λ (p : Program). HasPorts p c.load_ports.new.all.items I.writers.items c.load_ports.new.offered.items I.taken.items) c.deref.ensures c.in_ok-load_ports.ensures.ports in
-    let b = c.index_mut.result.now in
-    let x = c.index_mut-2.result.now in
-    let lb = n.bodies_len in
-    let lp = n.ports_len in
-    let lk = k.len in
-    let ins : i < length P.instances.items = subst (λ (v : NetState). i < length v.program.instances.items) (sym c.net.view_is) c.requires.instance in
-    let inb : i < length I.bodies.items = omega arith in
-    let inp' : i < length c.load_ports.new.all.items = omega arith in
-    let eb = slice_get_read I.bodies.items _ i b refl inb c.index_mut.ensures.value in
-    let ex = slice_get_read c.load_ports.new.all.items _ i x refl inp' c.index_mut-2.ensures.value in
-    let st = n.standing i b eb in
-    let hh = c.resume_body-pause.ensures (instance_job P inp i) st.ticks st.stands (ends_are g.B.Body.stands P inp I.bodies.items I.ports.items I.writers.items I.offered.items I.taken.items I.fed_by_self.items I.counts.items I.pauses.items n i ins c.load_ports.new.all.items c.load_ports.new.offered.items k hp w x ex b eb) (agrees_at g.B.Body.stands P inp I.bodies.items I.ports.items I.writers.items I.offered.items I.taken.items I.fed_by_self.items I.counts.items I.pauses.items n i ins c.load_ports.new.all.items c.load_ports.new.offered.items k hp w x ex b eb) in
-    let h = hh.0 in
-    let y = c.resume_body-pause.new.ports in
-    let here = get_set_same c.load_ports.new.all.items i y inp' in
-    subst (λ (z : Program). ends_in (slice_set c.load_ports.new.all.items i y) i ≡ ends_at z i) (sym c.deref-2.ensures)
-    (ap ends_by here ∙ h.moved.ends ∙ ap ends_by (sym ex) ∙ k.ends i ∙ n.ends i ins)
+    let k = goal.at.count_taken-requires-clause-ends g c in
+    let n = net_at g k.After-deref-program in
+    let r = called g k.After-index_mut-2 in
+    ends_all n r (by_call n r c.resume_body-pause.ensures).0 c.args.i r.inside
 
 pub count_taken-requires-clause-enough : goal.count_taken-requires-clause-enough
 count_taken-requires-clause-enough g c =
-    let I = c.net.inside in
-    let P = arc_value I.program in
-    let inp = arc_value I.input in
-    let n = c.net.invariant in
-    let k = c.in_ok-load_ports.ensures.kept in
-    let i = c.args.i in
-    let w = subst (λ (p : Program). AreLoaded p (arity p i) i I.ports.items I.writers.items I.taken.items c.load_ports.new.all.items c.load_ports.new.offered.items) c.deref.ensures c.in_ok-load_ports.ensures.loaded in
-    let hp = subst (λ (p : Program). HasPorts p c.load_ports.new.all.items I.writers.items c.load_ports.new.offered.items I.taken.items) c.deref.ensures c.in_ok-load_ports.ensures.ports in
-    let b = c.index_mut.result.now in
-    let x = c.index_mut-2.result.now in
-    let lb = n.bodies_len in
-    let lp = n.ports_len in
-    let lk = k.len in
-    let ins : i < length P.instances.items = subst (λ (v : NetState). i < length v.program.instances.items) (sym c.net.view_is) c.requires.instance in
-    let inb : i < length I.bodies.items = omega arith in
-    let inp' : i < length c.load_ports.new.all.items = omega arith in
-    let eb = slice_get_read I.bodies.items _ i b refl inb c.index_mut.ensures.value in
-    let ex = slice_get_read c.load_ports.new.all.items _ i x refl inp' c.index_mut-2.ensures.value in
-    let st = n.standing i b eb in
-    let hh = c.resume_body-pause.ensures (instance_job P inp i) st.ticks st.stands (ends_are g.B.Body.stands P inp I.bodies.items I.ports.items I.writers.items I.offered.items I.taken.items I.fed_by_self.items I.counts.items I.pauses.items n i ins c.load_ports.new.all.items c.load_ports.new.offered.items k hp w x ex b eb) (agrees_at g.B.Body.stands P inp I.bodies.items I.ports.items I.writers.items I.offered.items I.taken.items I.fed_by_self.items I.counts.items I.pauses.items n i ins c.load_ports.new.all.items c.load_ports.new.offered.items k hp w x ex b eb) in
-    let h = hh.0 in
-    let y = c.resume_body-pause.new.ports in
-    let here = get_set_same c.load_ports.new.all.items i y inp' in
-    subst (λ (z : Program). (p : ℕ) → Reads z i p → length (waiting_of (slice_set c.load_ports.new.all.items i y) i p) ≤ slice_index c.load_ports.new.offered.items (stream_at z i p)) (sym c.deref-2.ensures)
-    (λ p d. let e = enough g.B.Body.stands P inp I.bodies.items I.ports.items I.writers.items I.offered.items I.taken.items I.fed_by_self.items I.counts.items I.pauses.items n i ins c.load_ports.new.all.items c.load_ports.new.offered.items k hp w x ex b eb c.resume_body-pause.new.body c.args.fuel c.resume_body-pause.result.0 y h p d in let q = ap (λ o. length (waiting_by o p)) here in omega arith)
+    let k = goal.at.count_taken-requires-clause-enough g c in
+    let n = net_at g k.After-deref-program in
+    let r = called g k.After-index_mut-2 in
+    enough_back n r (by_call n r c.resume_body-pause.ensures).0
 
 pub overflow_add-index_mut : goal.overflow_add-index_mut
 overflow_add-index_mut g c =
-    let I = c.net.inside in
-    let P = arc_value I.program in
-    let inp = arc_value I.input in
-    let n = c.net.invariant in
-    let k = c.in_ok-load_ports.ensures.kept in
-    let i = c.args.i in
-    let w = subst (λ (p : Program). AreLoaded p (arity p i) i I.ports.items I.writers.items I.taken.items c.load_ports.new.all.items c.load_ports.new.offered.items) c.deref.ensures c.in_ok-load_ports.ensures.loaded in
-    let hp = subst (λ (p : Program). HasPorts p c.load_ports.new.all.items I.writers.items c.load_ports.new.offered.items I.taken.items) c.deref.ensures c.in_ok-load_ports.ensures.ports in
-    let b = c.index_mut.result.now in
-    let x = c.index_mut-2.result.now in
-    let lb = n.bodies_len in
-    let lp = n.ports_len in
-    let lk = k.len in
-    let ins : i < length P.instances.items = subst (λ (v : NetState). i < length v.program.instances.items) (sym c.net.view_is) c.requires.instance in
-    let inb : i < length I.bodies.items = omega arith in
-    let inp' : i < length c.load_ports.new.all.items = omega arith in
-    let eb = slice_get_read I.bodies.items _ i b refl inb c.index_mut.ensures.value in
-    let ex = slice_get_read c.load_ports.new.all.items _ i x refl inp' c.index_mut-2.ensures.value in
-    let st = n.standing i b eb in
-    let hh = c.resume_body-pause.ensures (instance_job P inp i) st.ticks st.stands (ends_are g.B.Body.stands P inp I.bodies.items I.ports.items I.writers.items I.offered.items I.taken.items I.fed_by_self.items I.counts.items I.pauses.items n i ins c.load_ports.new.all.items c.load_ports.new.offered.items k hp w x ex b eb) (agrees_at g.B.Body.stands P inp I.bodies.items I.ports.items I.writers.items I.offered.items I.taken.items I.fed_by_self.items I.counts.items I.pauses.items n i ins c.load_ports.new.all.items c.load_ports.new.offered.items k hp w x ex b eb) in
-    let h = hh.0 in
-    let y = c.resume_body-pause.new.ports in
-    let here = get_set_same c.load_ports.new.all.items i y inp' in
-    let fits : count_of I.counts.items i + c.args.fuel < 2 ^ 64 = subst (λ (v : NetState). count v i + c.args.fuel < 2 ^ 64) (sym c.net.view_is) c.requires.fits in
+    let k = goal.at.overflow_add-index_mut g c in
+    let n = net_at g k.After-deref-program in
+    let r = called g k.After-index_mut-2 in
+    let h = by_call n r c.resume_body-pause.ensures in
+    let fits = fits g k.After-deref-program in
     let lc = n.counts_len in
-    let inc : i < length I.counts.items = omega arith in
-    let q = get_or_from_slice_get I.counts.items i c.index_mut-3.result.now 0 (slice_get_read I.counts.items _ i c.index_mut-3.result.now refl inc c.index_mut-3.ensures.value) in
-    let a = h.within in
-    let m = hh.1 in
+    let l = r.inside in
+    let q = get_or_from_slice_get c.net.inside.counts.items c.args.i c.index_mut-3.result.now 0 (slice_get_read c.net.inside.counts.items _ c.args.i c.index_mut-3.result.now refl (omega arith) c.index_mut-3.ensures.value) in
+    let a = h.0.within in
+    let m = h.1 in
     omega arith
 
 pub invariant_of-net-2 : goal.invariant_of-net-2
 invariant_of-net-2 g c =
-    let I = c.net.inside in
-    let P = arc_value I.program in
-    let inp = arc_value I.input in
-    let n = c.net.invariant in
-    let k = c.in_ok-load_ports.ensures.kept in
-    let i = c.args.i in
-    let w = subst (λ (p : Program). AreLoaded p (arity p i) i I.ports.items I.writers.items I.taken.items c.load_ports.new.all.items c.load_ports.new.offered.items) c.deref.ensures c.in_ok-load_ports.ensures.loaded in
-    let hp = subst (λ (p : Program). HasPorts p c.load_ports.new.all.items I.writers.items c.load_ports.new.offered.items I.taken.items) c.deref.ensures c.in_ok-load_ports.ensures.ports in
-    let b = c.index_mut.result.now in
-    let x = c.index_mut-2.result.now in
-    let lb = n.bodies_len in
-    let lp = n.ports_len in
-    let lk = k.len in
-    let ins : i < length P.instances.items = subst (λ (v : NetState). i < length v.program.instances.items) (sym c.net.view_is) c.requires.instance in
-    let inb : i < length I.bodies.items = omega arith in
-    let inp' : i < length c.load_ports.new.all.items = omega arith in
-    let eb = slice_get_read I.bodies.items _ i b refl inb c.index_mut.ensures.value in
-    let ex = slice_get_read c.load_ports.new.all.items _ i x refl inp' c.index_mut-2.ensures.value in
-    let st = n.standing i b eb in
-    let hh = c.resume_body-pause.ensures (instance_job P inp i) st.ticks st.stands (ends_are g.B.Body.stands P inp I.bodies.items I.ports.items I.writers.items I.offered.items I.taken.items I.fed_by_self.items I.counts.items I.pauses.items n i ins c.load_ports.new.all.items c.load_ports.new.offered.items k hp w x ex b eb) (agrees_at g.B.Body.stands P inp I.bodies.items I.ports.items I.writers.items I.offered.items I.taken.items I.fed_by_self.items I.counts.items I.pauses.items n i ins c.load_ports.new.all.items c.load_ports.new.offered.items k hp w x ex b eb) in
-    let h = hh.0 in
-    let y = c.resume_body-pause.new.ports in
-    let here = get_set_same c.load_ports.new.all.items i y inp' in
-    let lc = n.counts_len in
-    let inc : i < length I.counts.items = omega arith in
-    let q = get_or_from_slice_get I.counts.items i c.index_mut-3.result.now 0 (slice_get_read I.counts.items _ i c.index_mut-3.result.now refl inc c.index_mut-3.ensures.value) in
-    let m = hh.1 in
-    let new = c.index_mut-3.result.now + c.resume_body-pause.result.1 in
-    let ec : (j : ℕ) → count_of (slice_set I.counts.items i new) j ≡ (if j == i then count_of I.counts.items j + length h.made else count_of I.counts.items j) = count_set I.counts.items i new (length h.made) inc (omega arith) in
-    let tk : (p : ℕ) → Reads P i p → slice_index c.count_taken.new.taken.items (stream_at P i p) ≡ slice_index c.load_ports.new.offered.items (stream_at P i p) - length (waiting y p) =
-    subst (λ (z : Program). (p : ℕ) → Reads z i p → slice_index c.count_taken.new.taken.items (stream_at z i p) ≡ slice_index c.load_ports.new.offered.items (stream_at z i p) - length (waiting y p)) c.deref-2.ensures
-    (λ p d. c.count_taken.ensures.took p d ∙ ap (λ o. slice_index c.load_ports.new.offered.items (stream_at c.deref-2.result.now i p) - length (waiting_by o p)) here)
-    in
-    let to : (s : ℕ) → ((p : ℕ) → Reads P i p → stream_at P i p ≡ s → ⊥) → slice_index c.count_taken.new.taken.items s ≡ slice_index I.taken.items s =
-    subst (λ (z : Program). (s : ℕ) → ((p : ℕ) → Reads z i p → stream_at z i p ≡ s → ⊥) → slice_index c.count_taken.new.taken.items s ≡ slice_index I.taken.items s) c.deref-2.ensures c.count_taken.ensures.others
-    in
-    let fed_at = slice_get_read I.fed_by_self.items _ i c.index.result.now refl (let a = n.fed_len in omega arith) c.index.ensures in
-    let is_told = told_for P i (length h.made) c.resume_body-pause.result.1 c.index.result.now (n.fed i c.index.result.now fed_at) c.resume_body-pause.result.0 c.told.result m c.told.ensures in
-    net_is g.B.Body.stands P inp I.bodies.items I.ports.items I.writers.items I.offered.items I.taken.items I.fed_by_self.items I.counts.items I.pauses.items n i ins c.load_ports.new.all.items c.load_ports.new.offered.items k hp w x ex b eb c.resume_body-pause.new.body c.args.fuel c.resume_body-pause.result.0 y h c.count_taken.new.taken.items (slice_set I.counts.items i new) c.count_taken.ensures.len (length-set I.counts.items i _) ec tk to (slice_set I.pauses.items i (Some c.told.result)) (length-set I.pauses.items i _) c.told.result is_told refl
+    let k = goal.at.invariant_of-net-2 g c in
+    let n = net_at g k.After-deref-program in
+    let r = called g k.After-index_mut-2 in
+    let h = by_call n r c.resume_body-pause.ensures in
+    let t = counted n r h.1 c.index_mut-3.ensures.value c.index.ensures c.told.ensures c.count_taken.ensures.len c.count_taken.ensures.took c.count_taken.ensures.others in
+    let counts = slice_set c.net.inside.counts.items c.args.i (c.index_mut-3.result.now + c.resume_body-pause.result.1) in
+    let pauses = slice_set c.net.inside.pauses.items c.args.i (Some c.told.result) in
+    subst (λ (p : Program). IsNetAt g.B.Body.stands p (arc_value c.net.inside.input) (slice_set c.net.inside.bodies.items c.args.i c.resume_body-pause.new.body) (slice_set c.load_ports.new.all.items c.args.i c.resume_body-pause.new.ports) c.net.inside.writers.items c.load_ports.new.offered.items c.count_taken.new.taken.items c.net.inside.fed_by_self.items counts pauses) c.deref-program.ensures (net_is n r h.0 t)
 
 pub returns-clause-resumed : goal.returns-clause-resumed
 returns-clause-resumed g c =
-    let I = c.net.inside in
-    let P = arc_value I.program in
-    let inp = arc_value I.input in
-    let n = c.net.invariant in
-    let k = c.in_ok-load_ports.ensures.kept in
-    let i = c.args.i in
-    let w = subst (λ (p : Program). AreLoaded p (arity p i) i I.ports.items I.writers.items I.taken.items c.load_ports.new.all.items c.load_ports.new.offered.items) c.deref.ensures c.in_ok-load_ports.ensures.loaded in
-    let hp = subst (λ (p : Program). HasPorts p c.load_ports.new.all.items I.writers.items c.load_ports.new.offered.items I.taken.items) c.deref.ensures c.in_ok-load_ports.ensures.ports in
-    let b = c.index_mut.result.now in
-    let x = c.index_mut-2.result.now in
-    let lb = n.bodies_len in
-    let lp = n.ports_len in
-    let lk = k.len in
-    let ins : i < length P.instances.items = subst (λ (v : NetState). i < length v.program.instances.items) (sym c.net.view_is) c.requires.instance in
-    let inb : i < length I.bodies.items = omega arith in
-    let inp' : i < length c.load_ports.new.all.items = omega arith in
-    let eb = slice_get_read I.bodies.items _ i b refl inb c.index_mut.ensures.value in
-    let ex = slice_get_read c.load_ports.new.all.items _ i x refl inp' c.index_mut-2.ensures.value in
-    let st = n.standing i b eb in
-    let hh = c.resume_body-pause.ensures (instance_job P inp i) st.ticks st.stands (ends_are g.B.Body.stands P inp I.bodies.items I.ports.items I.writers.items I.offered.items I.taken.items I.fed_by_self.items I.counts.items I.pauses.items n i ins c.load_ports.new.all.items c.load_ports.new.offered.items k hp w x ex b eb) (agrees_at g.B.Body.stands P inp I.bodies.items I.ports.items I.writers.items I.offered.items I.taken.items I.fed_by_self.items I.counts.items I.pauses.items n i ins c.load_ports.new.all.items c.load_ports.new.offered.items k hp w x ex b eb) in
-    let h = hh.0 in
-    let y = c.resume_body-pause.new.ports in
-    let here = get_set_same c.load_ports.new.all.items i y inp' in
-    let lc = n.counts_len in
-    let inc : i < length I.counts.items = omega arith in
-    let q = get_or_from_slice_get I.counts.items i c.index_mut-3.result.now 0 (slice_get_read I.counts.items _ i c.index_mut-3.result.now refl inc c.index_mut-3.ensures.value) in
-    let m = hh.1 in
-    let new = c.index_mut-3.result.now + c.resume_body-pause.result.1 in
-    let ec : (j : ℕ) → count_of (slice_set I.counts.items i new) j ≡ (if j == i then count_of I.counts.items j + length h.made else count_of I.counts.items j) = count_set I.counts.items i new (length h.made) inc (omega arith) in
-    let tk : (p : ℕ) → Reads P i p → slice_index c.count_taken.new.taken.items (stream_at P i p) ≡ slice_index c.load_ports.new.offered.items (stream_at P i p) - length (waiting y p) =
-    subst (λ (z : Program). (p : ℕ) → Reads z i p → slice_index c.count_taken.new.taken.items (stream_at z i p) ≡ slice_index c.load_ports.new.offered.items (stream_at z i p) - length (waiting y p)) c.deref-2.ensures
-    (λ p d. c.count_taken.ensures.took p d ∙ ap (λ o. slice_index c.load_ports.new.offered.items (stream_at c.deref-2.result.now i p) - length (waiting_by o p)) here)
-    in
-    let to : (s : ℕ) → ((p : ℕ) → Reads P i p → stream_at P i p ≡ s → ⊥) → slice_index c.count_taken.new.taken.items s ≡ slice_index I.taken.items s =
-    subst (λ (z : Program). (s : ℕ) → ((p : ℕ) → Reads z i p → stream_at z i p ≡ s → ⊥) → slice_index c.count_taken.new.taken.items s ≡ slice_index I.taken.items s) c.deref-2.ensures c.count_taken.ensures.others
-    in
-    let fed_at = slice_get_read I.fed_by_self.items _ i c.index.result.now refl (let a = n.fed_len in omega arith) c.index.ensures in
-    let is_told = told_for P i (length h.made) c.resume_body-pause.result.1 c.index.result.now (n.fed i c.index.result.now fed_at) c.resume_body-pause.result.0 c.told.result m c.told.ensures in
-    subst (λ (v : NetState). HasResumed v (record { program = P; input = inp; counts = slice_set I.counts.items i new; pauses = slice_set I.pauses.items i (Some c.told.result) }) i c.args.fuel c.resume_body-pause.result.0 c.resume_body-pause.result.1) c.net.view_is
-    (has_resumed g.B.Body.stands P inp I.bodies.items I.ports.items I.writers.items I.offered.items I.taken.items I.fed_by_self.items I.counts.items I.pauses.items n i ins c.load_ports.new.all.items c.load_ports.new.offered.items k hp w x ex b eb c.resume_body-pause.new.body c.args.fuel c.resume_body-pause.result.0 y h c.count_taken.new.taken.items (slice_set I.counts.items i new) c.count_taken.ensures.len (length-set I.counts.items i _) ec tk to (slice_set I.pauses.items i (Some c.told.result)) (length-set I.pauses.items i _) c.told.result is_told refl c.resume_body-pause.result.1 m)
+    let k = goal.at.returns-clause-resumed g c in
+    let n = net_at g k.After-deref-program in
+    let r = called g k.After-index_mut-2 in
+    let h = by_call n r c.resume_body-pause.ensures in
+    let t = counted n r h.1 c.index_mut-3.ensures.value c.index.ensures c.told.ensures c.count_taken.ensures.len c.count_taken.ensures.took c.count_taken.ensures.others in
+    let counts = slice_set c.net.inside.counts.items c.args.i (c.index_mut-3.result.now + c.resume_body-pause.result.1) in
+    let pauses = slice_set c.net.inside.pauses.items c.args.i (Some c.told.result) in
+    subst (λ (v : NetState). HasResumed v (record { program = arc_value c.net.inside.program; input = arc_value c.net.inside.input; counts = counts; pauses = pauses }) c.args.i c.args.fuel c.resume_body-pause.result.0 c.resume_body-pause.result.1) c.net.view_is
+    (subst (λ (p : Program). HasResumed (record { program = p; input = arc_value c.net.inside.input; counts = c.net.inside.counts.items; pauses = c.net.inside.pauses.items }) (record { program = p; input = arc_value c.net.inside.input; counts = counts; pauses = pauses }) c.args.i c.args.fuel c.resume_body-pause.result.0 c.resume_body-pause.result.1) c.deref-program.ensures
+    (has_resumed n r h.0 t _ h.1))
 
 pub invariant_of-net : goal.invariant_of-net
 invariant_of-net g c =
-    let I = c.net.inside in
-    loaded_net g.B.Body.stands (arc_value I.program) (arc_value I.input) I.bodies.items I.ports.items I.writers.items I.offered.items I.taken.items I.fed_by_self.items I.counts.items I.pauses.items c.net.invariant c.load_ports.new.all.items c.load_ports.new.offered.items c.load_ports.ensures.kept
-    (subst (λ (p : Program). HasPorts p c.load_ports.new.all.items I.writers.items c.load_ports.new.offered.items I.taken.items) c.deref.ensures c.load_ports.ensures.ports)
+    loaded_net c.net.invariant c.load_ports.ensures.kept
+    (subst (λ (p : Program). HasPorts p c.load_ports.new.all.items c.net.inside.writers.items c.load_ports.new.offered.items c.net.inside.taken.items) c.deref-program.ensures c.load_ports.ensures.ports)

@@ -5,8 +5,8 @@ use Rattle.net_core.specs.declared.outcome.Outcome.{Outcome}
 use Rattle.net_core.specs.Settle.{EndsAs}
 use Rattle.run_program.proofs.Sending.{coro_send}
 use Rattle.run_data.specs.Lines.{lines_in}
-use Rattle.run_data.proofs.Joining.{on_err}
 use Rattle.run_program.proofs.Running.{done_report, stopped_report, limit_past}
+use Rattle.tapa_base.proofs.Got.{on_err}
 use Rattle.run_program.proofs.run.drive.Goals as goal
 
 pub run_by-net-requires-send-B : goal.run_by-net-requires-send-B

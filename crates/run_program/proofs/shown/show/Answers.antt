@@ -12,8 +12,9 @@ use Rattle.run_data.specs.Report.{last_line}
 use Rattle.run_data.specs.declared.lines.Last.{Last}
 use Rattle.run_program.specs.Run.{tokens_at, cells_shown, stream_lines, memory_lines, lines_at}
 use Rattle.net_core.specs.Bounded.{values_of}
-use Rattle.run_data.proofs.Joining.{on_err, map_on_err}
+use Rattle.run_data.proofs.Joining.{map_on_err}
 use Rattle.run_program.proofs.Running.{network_is}
+use Rattle.tapa_base.proofs.Got.{on_err}
 use Rattle.run_program.proofs.shown.show.Goals as goal
 
 map_on_ok : {T E P Q : Type 0} (r : Result T E) → (P → Q) → OnOk r P → OnOk r Q

@@ -5,8 +5,8 @@ use Rattle.net_core.specs.State.{count}
 use Rattle.run_data.specs.Report.{memory_line}
 use Rattle.run_program.specs.Run.{cells_shown, memory_lines}
 use Rattle.net_core.specs.Bounded.{values_of}
-use Rattle.run_data.proofs.Joining.{on_err}
 use Rattle.run_data.proofs.Showing.{first_so_far, first_next, first_more}
+use Rattle.tapa_base.proofs.Got.{on_err}
 use Rattle.run_program.proofs.shown.show_memories.Goals as goal
 
 -- the line that a turn writes is that of its memory

@@ -5,8 +5,8 @@ use Rattle.tapa_syntax.specs.declared.program.Stream.{Stream}
 use Rattle.net_core.specs.State.{network, count}
 use Rattle.run_data.specs.Report.{stream_line}
 use Rattle.run_program.specs.Run.{tokens_at, stream_lines}
-use Rattle.run_data.proofs.Joining.{on_err}
 use Rattle.run_data.proofs.Showing.{first_next, first_more}
+use Rattle.tapa_base.proofs.Got.{on_err}
 use Rattle.run_program.proofs.shown.show_streams.Goals as goal
 
 -- the line that a turn writes is that of its stream

@@ -3,12 +3,11 @@ use Rattle.std.specs.Prelude.{[], Vec, slice_index_or}
 use Rattle.std.specs.declared.alloc.Global.{Global}
 use Rattle.std.specs.Arc.{arc_value}
 use Rattle.std.proofs.lemmas.Option.{slice_get_read, slice_get_within}
-use Rattle.kahn_model.specs.Start.{bound_value}
+use Rattle.kahn_model.specs.Start.{bound_value, kinds_in}
 use Rattle.net_core.specs.Bounded.{instance_job}
 use Rattle.coro_machine.specs.declared.machine.Machine.{Machine}
 use Rattle.coro_machine.specs.Coro.{IsMachineOf}
 use Rattle.kahn_model.specs.Rows.{rows_of}
-use Rattle.kahn_model.specs.Start.{kinds_in}
 use Rattle.run_program.proofs.Starting.{job_is, leaf_fits, started}
 use Rattle.run_program.proofs.start.start_one.Goals as goal
 

@@ -15,10 +15,8 @@ use Rattle.run_data.specs.Lines.{lines_in}
 use Rattle.run_program.specs.Pauses.{pause_line, in_list, last_pause_lines}
 use Rattle.run_program.specs.Run.{AreWaitLines}
 use Rattle.run_program.proofs.Waiting.{waits_more, last_lines}
+use Rattle.tapa_base.proofs.Got.{the_same as some_is}
 use Rattle.run_program.proofs.waits.wait_lines.Goals as goal
-
-some_is : {A : Type 0} (a b : A) → Some a ≡ Some b → a ≡ b
-some_is a b e = cc
 
 -- what a pause tells does not change with the name of the positions
 told_same : (net : Network) (k : ℕ → ℕ) (i : ℕ) (f g : ℕ → ℕ) → ((p : ℕ) → f p ≡ g p) → (pause : Pause) → IsToldBy net k i f pause → IsToldBy net k i g pause

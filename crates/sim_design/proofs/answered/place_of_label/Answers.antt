@@ -3,9 +3,9 @@ use Rattle.std.specs.Prelude.{slice_get}
 use Rattle.std.proofs.lemmas.Bool.{cases_lt}
 use Rattle.std.proofs.lemmas.Option.{same_Some, slice_get_within}
 use Rattle.tapa_base.specs.declared.shape.Port.{Port}
-use Rattle.vlog_run_laws.proofs.runs.Sound.{true_not_false}
 use Rattle.std.specs.Cmp.Lexicographic.{bytes_decides}
 use Rattle.tapa_base.proofs.Lists.{got_index}
+use Rattle.tapa_base.proofs.Tests.{true_not_false}
 use Rattle.sim_design.proofs.answered.place_of_label.Goals as goal
 
 pub returns-then-eq-clause-at : goal.returns-then-eq-clause-at

@@ -2,10 +2,9 @@ use Rattle.std.proofs.Common.{◌≡◌, sym, subst, ap, ◌∙◌}
 use Rattle.std.specs.Prelude.{IfSome}
 use Rattle.vlog_tree.specs.Labels.{rdata_of}
 use Rattle.sim_tape.specs.Trees.{tree_of}
-use Rattle.sim_design.specs.States.{HasNumbersOf}
+use Rattle.sim_design.specs.States.{HasNumbersOf, PartsPlaced}
 use Rattle.sim_design.proofs.Owning.{is_answer, name_is, is_input_net, is_free, at_top}
 use Rattle.sim_design.proofs.Answering.{asked_placed}
-use Rattle.sim_design.specs.States.{PartsPlaced}
 use Rattle.sim_flat.specs.declared.tables.Source.TheVariants as source
 use Rattle.vlog_tree.specs.Table.{declared, net_kind_of}
 use Rattle.vlog_tree.specs.Flattened.{FlatNet}

@@ -1,7 +1,7 @@
 use Rattle.std.proofs.Common.{◌≡◌, ◌+◌, ◌-◌, arith, sym, ◌∙◌}
 use Rattle.sim_design.proofs.Owning.{at_spot, is_read_net, can_be_read}
-use Rattle.vlog_run_laws.proofs.runs.Sound.{true_not_false}
 use Rattle.sim_design.proofs.Joining.{if_some}
+use Rattle.tapa_base.proofs.Tests.{true_not_false}
 use Rattle.sim_design.proofs.net.place_net.Goals as goal
 
 pub returns-clause-told : goal.returns-clause-told

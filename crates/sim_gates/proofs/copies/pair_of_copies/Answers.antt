@@ -2,8 +2,7 @@ use Rattle.std.proofs.Common.{◌≤◌, Option, sym, ap, subst, ◌∙◌, arit
 use Rattle.std.specs.Prelude.{IsSome, ◌&&◌, nat_le}
 use Rattle.sim_tape.specs.declared.gates.Pair.{Pair}
 use Rattle.sim_tape.proofs.Growing.{pair_on, solved_on}
-use Rattle.sim_gates.proofs.AtomSlots.{some_is}
-use Rattle.sim_gates.proofs.AtomSlots.{atom_range}
+use Rattle.sim_gates.proofs.AtomSlots.{some_is, atom_range}
 use Rattle.sim_gates.proofs.Operands.{copy_fits, narrow_is}
 use Rattle.sim_gates.proofs.Copying.{copies_driven, ones_fit}
 use Rattle.sim_gates.proofs.copies.pair_of_copies.Goals as goal

@@ -1,7 +1,7 @@
 use Rattle.std.proofs.Common.{◌≡◌, ◌+◌, ◌*◌, ◌^◌, ◌<◌, sym, ap, ◌∙◌, arith}
 use Rattle.sim_tape.specs.Tape.{number_at, pair_value}
-use Rattle.sim_gates.proofs.ReadParts.{join_fits}
 use Rattle.sim_gates.proofs.Pairs.{low_is, none_above, fits_word, both_fit_word}
+use Rattle.tapa_base.proofs.Tests.{join_fits}
 use Rattle.sim_gates.proofs.joins.put_below.Goals as goal
 
 pub returns-then-above_bits-eq0-clause-says : goal.returns-then-above_bits-eq0-clause-says

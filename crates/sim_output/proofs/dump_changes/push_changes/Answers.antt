@@ -3,8 +3,6 @@ use Rattle.std.specs.Prelude.{◌⊎◌, ◌==◌, not}
 use Rattle.std.proofs.lemmas.Bool.{cases_eq}
 use Rattle.std.proofs.lemmas.List.{get_or-set_same, get_or-set_other, get_or_default, length-set}
 use Rattle.std.proofs.Math.Seq.{take-length}
-use Rattle.vlog_tree.specs.Form.{ModuleTree}
-use Rattle.vlog_design.specs.Designs.{TopOf}
 use Rattle.vcd_text.specs.Nets.{Net}
 use Rattle.vcd_text.specs.Dump.{change_line}
 use Rattle.cycle_sim.specs.Simulators.{sim_of}

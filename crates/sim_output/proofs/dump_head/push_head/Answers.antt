@@ -1,9 +1,7 @@
 use Rattle.std.proofs.Common.{◌≡◌, ◌++◌, List, ℕ, sym, ap, ◌∙◌}
 use Rattle.std.specs.Prelude.{codes, map}
-use Rattle.std.specs.List.{filter}
 use Rattle.vlog_tree.specs.declared.table.Declaration.{Declaration}
 use Rattle.vlog_tree.specs.Form.{ModuleTree}
-use Rattle.cycle_sim.specs.ShownNets.{is_shown}
 use Rattle.vcd_text.specs.Dump.{var_line, lines_from, head_text}
 use Rattle.sim_output.specs.Dumped.{net_of, nets_of, widths_of}
 use Rattle.sim_output.proofs.Heading.{nets_among, five_behind}

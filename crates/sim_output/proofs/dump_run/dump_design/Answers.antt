@@ -1,11 +1,11 @@
 use Rattle.std.proofs.Common.{◌≡◌, inr, sym, subst}
 use Rattle.vlog_design.specs.Environments.{environment_of}
 use Rattle.cycle_sim.specs.Simulators.{sim_of}
-use Rattle.run_data.proofs.Joining.{on_err}
 use Rattle.sim_output.specs.declared.run.DesignEnd.{DesignEnd}
 use Rattle.sim_output.specs.Ending.{EndsSo}
 use Rattle.sim_output.specs.Dumped.{IsDumped}
 use Rattle.sim_output.proofs.Designs.{ended_so, has_front}
+use Rattle.tapa_base.proofs.Got.{on_err}
 use Rattle.sim_output.proofs.dump_run.dump_design.Goals as goal
 
 pub returns-in_err-done_at-clause-part : goal.returns-in_err-done_at-clause-part

@@ -4,10 +4,7 @@ use Rattle.tapa_files.specs.Outside.{AppendsPart}
 use Rattle.tapa_files.proofs.Known.{appends_none, part_so_far}
 use Rattle.vlog_tree.specs.Form.{ModuleTree}
 use Rattle.vlog_tree.specs.Refused.{IsDesign}
-use Rattle.vlog_tree.specs.Environment.{RaisesDone}
-use Rattle.vlog_run_laws.proofs.runs.Sound.{true_not_false}
 use Rattle.vlog_design.specs.Designs.{DesignTree, TopOf}
-use Rattle.run_data.proofs.Joining.{on_err}
 use Rattle.cycle_sim.specs.Simulators.{sim_of}
 use Rattle.cycle_sim.specs.Sims.{InRuns, IsLater, IsDoneAt, last_cycle}
 use Rattle.cycle_sim.proofs.Adding.{later_none}
@@ -15,6 +12,8 @@ use Rattle.vcd_text.specs.Dump.{head_text}
 use Rattle.sim_output.specs.Dumped.{nets_of, dump_of}
 use Rattle.sim_output.proofs.Going.{later_step}
 use Rattle.sim_output.proofs.Writing.{AreWidths, AreGoing, IsWrittenTo, first_written, part_to, next_written, piece_written, all_written, turned, kept_later, fewer, none_yet, still_going, done_here, none_done, rose_since}
+use Rattle.tapa_base.proofs.Tests.{true_not_false}
+use Rattle.tapa_base.proofs.Got.{on_err}
 use Rattle.sim_output.proofs.dump_write.write_vcd.Goals as goal
 
 pub loop-cycle-init : goal.loop-cycle-init

@@ -3,10 +3,11 @@ use Rattle.std.specs.Prelude.{slice_index_or}
 use Rattle.std.proofs.lemmas.List.{append-nil}
 use Rattle.tapa_files.proofs.Known.{part_of_next, appends_none, appends_both}
 use Rattle.run_data.specs.Report.{last_line}
-use Rattle.run_data.proofs.Joining.{on_err, map_on_err}
+use Rattle.run_data.proofs.Joining.{map_on_err}
 use Rattle.vlog_design.specs.Environments.{lists_of}
 use Rattle.cycle_sim.specs.Simulators.{sim_of}
 use Rattle.sim_output.specs.Reports.{stream_lines, memory_lines}
+use Rattle.tapa_base.proofs.Got.{on_err}
 use Rattle.sim_output.proofs.shown.show.Goals as goal
 
 pub returns-in_err-show_streams-clause-part : goal.returns-in_err-show_streams-clause-part

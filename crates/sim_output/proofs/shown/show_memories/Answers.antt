@@ -2,10 +2,10 @@ use Rattle.std.proofs.Common.{◌≡◌, ◌<◌, ℕ, List, length, take, get_o
 use Rattle.tapa_base.specs.declared.shape.Port.{Port}
 use Rattle.tapa_files.proofs.Known.{part_so_far, part_of_next, appends_both}
 use Rattle.run_data.specs.Report.{memory_line}
-use Rattle.run_data.proofs.Joining.{on_err}
 use Rattle.run_data.proofs.Showing.{first_so_far, first_next, first_more}
 use Rattle.cycle_sim.specs.Simulators.{sim_of}
 use Rattle.sim_output.specs.Reports.{memory_lines}
+use Rattle.tapa_base.proofs.Got.{on_err}
 use Rattle.sim_output.proofs.shown.show_memories.Goals as goal
 
 -- the line that a turn writes is that of its memory

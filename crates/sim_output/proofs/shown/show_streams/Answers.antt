@@ -4,10 +4,10 @@ use Rattle.tapa_base.specs.declared.shape.Port.{Port}
 use Rattle.tapa_base.specs.declared.token.Token.{Token}
 use Rattle.tapa_files.proofs.Known.{part_of_next, appends_both}
 use Rattle.run_data.specs.Report.{stream_line}
-use Rattle.run_data.proofs.Joining.{on_err}
 use Rattle.run_data.proofs.Showing.{first_next, first_more}
 use Rattle.vlog_design.specs.Environments.{lists_of}
 use Rattle.sim_output.specs.Reports.{stream_lines}
+use Rattle.tapa_base.proofs.Got.{on_err}
 use Rattle.sim_output.proofs.shown.show_streams.Goals as goal
 
 -- the line that a turn writes is that of its stream

@@ -3,7 +3,7 @@ use Rattle.stream_arrays.specs.Answers.{IsArrayCause}
 use Rattle.stream_arrays.specs.Reading.{known, adding}
 use Rattle.stream_arrays.specs.Written as spec
 use Rattle.stream_arrays.proofs.Arguments.{argument_fault, last_argument, next_argument}
-use Rattle.stream_arrays.proofs.Turns.{one_more}
+use Rattle.tapa_parse_expression.proofs.Turns.{one_more}
 use Rattle.stream_arrays.proofs.counted.push_arguments.Goals as goal
 
 pub loop-turn-init : goal.loop-turn-init

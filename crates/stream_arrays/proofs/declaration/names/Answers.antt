@@ -1,7 +1,7 @@
 use Rattle.std.proofs.Common.{rules, arith}
 use Rattle.std.proofs.lemmas.Grind.{common_steps}
+use Rattle.tapa_parse_expression.proofs.Turns.{one_more}
 use Rattle.stream_arrays.specs.Forms as spec
-use Rattle.stream_arrays.proofs.Turns.{one_more}
 use Rattle.stream_arrays.proofs.declaration.names.Goals as goal
 
 pub returns-in_default : goal.returns-in_default

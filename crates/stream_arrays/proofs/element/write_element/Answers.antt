@@ -1,10 +1,9 @@
-use Rattle.std.proofs.Common.{take, refl, ap, sym, ◌∙◌}
+use Rattle.std.proofs.Common.{take, refl, ap, sym, ◌∙◌, Ok}
 use Rattle.std.specs.List.{filter}
 use Rattle.std.specs.Prelude.{slice_range}
 use Rattle.stream_arrays.specs.Words.{element_words, is_line_feed, line_feeds, start_of, end_of}
 use Rattle.stream_arrays.specs.Reading.{known}
 use Rattle.stream_arrays.specs.Written as spec
-use Rattle.std.proofs.Common.{Ok}
 use Rattle.stream_arrays.specs.Writing.{writing, said, put}
 use Rattle.stream_arrays.proofs.Writers.{fits}
 use Rattle.stream_arrays.proofs.Steps.{form_written}

@@ -4,8 +4,8 @@ use Rattle.stream_arrays.specs.Reading.{known}
 use Rattle.stream_arrays.specs.Written as spec
 use Rattle.stream_arrays.specs.Writing.{Writing, writing}
 use Rattle.stream_arrays.proofs.Steps.{other_done}
-use Rattle.stream_arrays.proofs.Turns.{nil_of}
 use Rattle.stream_arrays.proofs.Writers.{fits}
+use Rattle.tapa_base.proofs.Got.{empty_of as nil_of}
 use Rattle.stream_arrays.proofs.step.write_other.Goals as goal
 
 pub returns-in_default-clause-steps : goal.returns-in_default-clause-steps

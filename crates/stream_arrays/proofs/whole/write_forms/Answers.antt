@@ -6,7 +6,9 @@ use Rattle.stream_arrays.specs.Reading.{known}
 use Rattle.stream_arrays.specs.Words.{end_of}
 use Rattle.stream_arrays.specs.Written as spec
 use Rattle.stream_arrays.specs.Writing.{Writing, writing, more, put}
-use Rattle.stream_arrays.proofs.Turns.{one_more, no_more, nil_of, split_of, gap_before, ending, form_done, form_fault, all_done}
+use Rattle.stream_arrays.proofs.Turns.{split_of, gap_before, ending, form_done, form_fault, all_done}
+use Rattle.tapa_base.proofs.Got.{empty_of as nil_of}
+use Rattle.tapa_parse_expression.proofs.Turns.{no_more, one_more}
 use Rattle.stream_arrays.proofs.whole.write_forms.Goals as goal
 
 pub write_form-requires-clause-closing : goal.write_form-requires-clause-closing

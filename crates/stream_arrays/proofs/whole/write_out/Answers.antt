@@ -1,7 +1,8 @@
 use Rattle.std.proofs.Common.{◌≡◌, true, Ok, ap, sym, ◌∙◌}
 use Rattle.std.specs.Prelude.{◌&&◌}
 use Rattle.stream_arrays.specs.Plain.{is_plain, is_in_order}
-use Rattle.stream_arrays.proofs.Copies.{and_left, and_right, plain_text}
+use Rattle.stream_arrays.proofs.Copies.{plain_text}
+use Rattle.tapa_base.proofs.Tests.{and_left, and_right}
 use Rattle.stream_arrays.proofs.whole.write_out.Goals as goal
 
 pub returns-then-has_no_form-clause-written : goal.returns-then-has_no_form-clause-written

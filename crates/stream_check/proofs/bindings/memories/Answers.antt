@@ -5,8 +5,9 @@ use Rattle.tapa_syntax.specs.Flat.{flat_instance}
 use Rattle.check_scope.specs.declared.users.Users.TheVariants.{Nobody}
 use Rattle.stream_check.specs.Programs as program
 use Rattle.check_scope.specs.Users.{users_of}
-use Rattle.check_scope.proofs.Order.{begins, refuses}
+use Rattle.check_scope.proofs.Order.{refuses}
 use Rattle.stream_check.proofs.Bound.{few_memories, none_left}
+use Rattle.tapa_base.proofs.Got.{next_of as begins}
 use Rattle.stream_check.proofs.bindings.memories.Goals as goal
 
 pub returns-in_err-memory : goal.returns-in_err-memory

@@ -5,7 +5,8 @@ use Rattle.check_upper.specs.Views.{task_view}
 use Rattle.check_scope.specs.declared.users.Users.TheVariants.{Nobody}
 use Rattle.stream_check.specs.Programs as program
 use Rattle.check_scope.specs.Users.{users_of}
-use Rattle.check_scope.proofs.Order.{begins, refuses}
+use Rattle.check_scope.proofs.Order.{refuses}
+use Rattle.tapa_base.proofs.Got.{next_of as begins}
 use Rattle.stream_check.proofs.bindings.streams.Goals as goal
 
 pub returns-in_err-stream : goal.returns-in_err-stream

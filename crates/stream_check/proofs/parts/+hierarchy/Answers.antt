@@ -7,7 +7,7 @@ use Rattle.stream_check.specs.Parts as spec
 use Rattle.stream_check.specs.Views.{flat_of, flat_faults, with_parts}
 use Rattle.stream_check.proofs.Levels.{above}
 use Rattle.stream_check.proofs.Limits.{adds_on, faults_go, parts_go, parts_stop}
-use Rattle.check_scope.proofs.Order.{begins}
+use Rattle.tapa_base.proofs.Got.{next_of as begins}
 use Rattle.stream_check.proofs.parts.+hierarchy.Goals as goal
 
 pub chain-loop-position-preserved : goal.chain-loop-position-preserved

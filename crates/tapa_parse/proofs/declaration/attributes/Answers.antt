@@ -5,7 +5,7 @@ use Rattle.tapa_syntax.specs.declared.terminal.Terminal.TheVariants as terminal
 use Rattle.tapa_parse_expression.specs.Readers.{sees, repeat_from}
 use Rattle.tapa_parse_expression.specs.Reading as spec
 use Rattle.tapa_parse_expression.proofs.Turns.{one_more}
-use Rattle.tapa_parse_expression.proofs.Rows.{map-push}
+use Rattle.tapa_base.proofs.Got.{map-push}
 use Rattle.tapa_parse.proofs.declaration.attributes.Goals as goal
 
 pub loop-turn-preserved : goal.loop-turn-preserved

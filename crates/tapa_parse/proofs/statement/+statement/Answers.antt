@@ -7,8 +7,8 @@ use Rattle.tapa_parse_expression.specs.Readers.{sees, repeat_from}
 use Rattle.tapa_parse_expression.specs.Reading as spec
 use Rattle.tapa_parse_expression.specs.Reading.{braces}
 use Rattle.tapa_parse_expression.proofs.Turns.{one_more}
-use Rattle.tapa_parse_expression.proofs.Rows.{map-push}
 use Rattle.tapa_parse.proofs.Rows.{statement-Block}
+use Rattle.tapa_base.proofs.Got.{map-push}
 use Rattle.tapa_parse.proofs.statement.+statement.Goals as goal
 
 pub braces-returns : goal.braces-returns

@@ -5,7 +5,7 @@ use Rattle.tapa_syntax.specs.Trees as view
 use Rattle.tapa_parse_expression.specs.Readers.{is_left, repeat_from}
 use Rattle.tapa_parse.specs.Reading as spec
 use Rattle.tapa_parse_expression.proofs.Turns.{one_more}
-use Rattle.tapa_parse_expression.proofs.Rows.{map-push}
+use Rattle.tapa_base.proofs.Got.{map-push}
 use Rattle.tapa_parse.proofs.task.items.Goals as goal
 
 pub loop-turn-preserved : goal.loop-turn-preserved

@@ -1,9 +1,10 @@
-use Rattle.std.proofs.Common.{◌≡◌, ◌+◌, ◌%◌, ◌∙◌, suc, length, ap, sym, subst, arith}
+use Rattle.std.proofs.Common.{◌≡◌, ◌+◌, ◌%◌, ◌∙◌, length, ap, sym, subst, arith}
 use Rattle.tapa_base.specs.Gaps.{Bytes}
 use Rattle.vcd_text.specs.Along.{Stops}
 use Rattle.vcd_text.specs.Dump.{identifier}
-use Rattle.vcd_text.proofs.Common.{then_ok, then_err}
+use Rattle.vcd_text.proofs.Common.{then_err, before_byte}
 use Rattle.vcd_text.proofs.Identifiers.{identifier_none, identifier_stop, identifier_next, found_last, found_more}
+use Rattle.tapa_base.proofs.Got.{map_if_ok as then_ok}
 use Rattle.vcd_text.proofs.identifier.+identifier_at.Goals as goal
 
 pub returns-in_default-clause-stop : goal.returns-in_default-clause-stop
@@ -25,10 +26,5 @@ returns-else-number-lt94-clause-found t c = then_ok _ _ c.identifier_at.result
 
 pub returns-else-number-lt94-clause-stop : goal.returns-else-number-lt94-clause-stop
 returns-else-number-lt94-clause-stop t c = then_err _ _ c.identifier_at.result
-    (λ left p. (
-      suc p.0,
-      omega (arith, p.1, ap (λ (l : Bytes). length l) c.in-Some.ensures),
-      subst (λ (z : Bytes). Stops (λ w. w ≡ identifier c.args.number) z (suc p.0)) (sym c.in-Some.ensures)
-          (identifier_next c.args.number c.in-Some.byte c.in-Some.rest.now p.0 c.if-number-lt94.false (sym c.from.ensures ∙ c.if-from-number.false) p.2),
-    ))
-    c.identifier_at.ensures.stop
+    (λ left p. before_byte (λ w. w ≡ identifier c.args.number) _ c.in-Some.byte c.in-Some.rest.now c.args.text.now left c.in-Some.ensures
+    (λ n s. identifier_next c.args.number c.in-Some.byte c.in-Some.rest.now n c.if-number-lt94.false (sym c.from.ensures ∙ c.if-from-number.false) s) p) c.identifier_at.ensures.stop

@@ -1,7 +1,7 @@
-use Rattle.std.proofs.Common.{◌∷◌, ℕ, suc, length, ap, sym, subst, ◌∙◌, arith}
+use Rattle.std.proofs.Common.{◌∷◌, ℕ, length, ap, sym, subst, ◌∙◌, arith}
 use Rattle.tapa_base.specs.Gaps.{Bytes}
 use Rattle.vcd_text.specs.Along.{Stops}
-use Rattle.vcd_text.proofs.Common.{then_err}
+use Rattle.vcd_text.proofs.Common.{then_err, before_byte}
 use Rattle.vcd_text.proofs.Numbers.{IsWord, word_none, word_stop, word_next}
 use Rattle.vcd_text.proofs.number.word.Goals as goal
 
@@ -15,10 +15,5 @@ returns-then-byte-ne98-clause-stop c =
 
 pub returns-clause-stop : goal.returns-clause-stop
 returns-clause-stop c = then_err _ _ c.digits.result
-    (λ left p. (
-      suc p.0,
-      omega (arith, p.1, ap (λ (l : Bytes). length l) c.in-Some.ensures),
-      subst (λ (z : Bytes). Stops (IsWord c.args.bits c.args.before) z (suc p.0)) (sym (c.in-Some.ensures ∙ ap (λ (k : ℕ). k ∷ c.in-Some.rest.now) c.if-byte-ne98.false))
-          (word_next c.args.bits c.args.before c.in-Some.rest.now p.0 p.2),
-    ))
-    c.digits.ensures.stop
+    (λ left p. before_byte (IsWord c.args.bits c.args.before) _ 98 c.in-Some.rest.now c.args.text.now left (c.in-Some.ensures ∙ ap (λ (k : ℕ). k ∷ c.in-Some.rest.now) c.if-byte-ne98.false)
+    (word_next c.args.bits c.args.before c.in-Some.rest.now) p) c.digits.ensures.stop

@@ -6,7 +6,6 @@ use Rattle.vcd_text.proofs.push.push_var.Goals as goal
 
 pub returns : goal.returns
 returns c =
-    let t0 : List ℕ = c.args.text.now.items in
     let width : c.push_decimal.new.text.items ≡ c.push_type.new.text.items ++ decimal c.args.bits = c.in_ok-push_decimal.ensures ∙ ap (λ (n : ℕ). c.push_type.new.text.items ++ decimal n) c.from.ensures in
     let a8 : List ℕ = codes " $end\n" in
     let a7 : List ℕ = c.args.name.now ++ codes " $end\n" in
@@ -15,7 +14,6 @@ returns c =
     let a4 : List ℕ = 32 ∷ (identifier c.args.number ++ 32 ∷ (c.args.name.now ++ codes " $end\n")) in
     let a3 : List ℕ = decimal c.args.bits ++ 32 ∷ (identifier c.args.number ++ 32 ∷ (c.args.name.now ++ codes " $end\n")) in
     let a2 : List ℕ = net_type c.args.is_reg ++ (decimal c.args.bits ++ 32 ∷ (identifier c.args.number ++ 32 ∷ (c.args.name.now ++ codes " $end\n"))) in
-    let t8 : List ℕ = c.extend_from_slice-3.new.self.items in
     both_behind c.args.text.now.items c.extend_from_slice.new.self.items c.extend_from_slice-3.new.self.items (codes "$var ") a2 c.in_ok-extend_from_slice.ensures.items
     (both_behind c.extend_from_slice.new.self.items c.push_type.new.text.items c.extend_from_slice-3.new.self.items (net_type c.args.is_reg) a3 c.in_ok-push_type.ensures
     (both_behind c.push_type.new.text.items c.push_decimal.new.text.items c.extend_from_slice-3.new.self.items (decimal c.args.bits) a4 width

@@ -3,8 +3,9 @@ use Rattle.std.specs.Prelude.{None, slice_get}
 use Rattle.tapa_base.specs.declared.shape.Port.{Port}
 use Rattle.vcd_text.specs.Rest.{IsRead, HaveValues, Left, LeftOfHead, Serves, answer_of}
 use Rattle.vcd_text.specs.declared.halt.Halt.TheVariants.{Stopped}
-use Rattle.vcd_text.proofs.Common.{exit_err, then_ok, then_err}
+use Rattle.vcd_text.proofs.Common.{exit_err, then_err}
 use Rattle.vcd_text.proofs.Tops.{top_stop, serves_top, serves_then, stops_then}
+use Rattle.tapa_base.proofs.Got.{map_if_ok as then_ok}
 use Rattle.vcd_text.proofs.read.read_dump.Goals as goal
 
 pub returns-in_err-head-clause-stop : goal.returns-in_err-head-clause-stop

@@ -16,15 +16,8 @@ use Rattle.vlog_comb_loops.specs.Summaries.{is_named, module_edges, IsPair, IsSo
 use Rattle.vlog_comb_loops.proofs.Asking.{used_asked}
 use Rattle.vlog_comb_loops.proofs.Resting.{sums_set, sound_of}
 use Rattle.vlog_comb_loops.proofs.Rooms.{room_less, missing_less, candidate_has}
+use Rattle.tapa_base.proofs.Tests.{not_no as not_false, not_so as not_true}
 use Rattle.vlog_comb_loops.proofs.sums.renew.Goals as goal
-
-not_true : (b : Bool) → not b ≡ true → b ≡ false
-not_true true e = cc
-not_true false e = refl
-
-not_false : (b : Bool) → not b ≡ false → b ≡ true
-not_false true e = refl
-not_false false e = cc
 
 more_of : (ms : List ModuleTree) (old new : List Edges) (b : Bool) → (b ≡ false → new ≡ old) → (b ≡ true → room ms new < room ms old) → room ms new ≤ room ms old
 more_of ms old new true f g = let l = g refl in omega (arith, l)

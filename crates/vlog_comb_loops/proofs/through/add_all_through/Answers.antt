@@ -3,7 +3,8 @@ use Rattle.std.specs.List.{flat_map}
 use Rattle.vlog_tree.specs.declared.tree.Item.{Item}
 use Rattle.vlog_tree.specs.Loops.{item_instances}
 use Rattle.vlog_comb_loops.specs.Summaries.{through_edges}
-use Rattle.vlog_net_graph.proofs.Growing.{so_far_start, so_far_step, so_far_end, flat_map-append}
+use Rattle.vlog_net_graph.proofs.Growing.{so_far_start, so_far_step, so_far_end}
+use Rattle.std.proofs.lemmas.Grind.{flat_map-append}
 use Rattle.vlog_comb_loops.proofs.through.add_all_through.Goals as goal
 
 pub loop-item-init : goal.loop-item-init

@@ -5,7 +5,8 @@ use Rattle.vlog_tree.specs.Table.{Name}
 use Rattle.vlog_tree.specs.V6.{item_children, module_children}
 use Rattle.vlog_tree.specs.Loops.{own_containment}
 use Rattle.vlog_net_graph.specs.Growth.{Adds}
-use Rattle.vlog_net_graph.proofs.Growing.{so_far_step, so_far_end, map-append}
+use Rattle.vlog_net_graph.proofs.Growing.{so_far_step, so_far_end}
+use Rattle.tapa_base.proofs.Got.{map_append as map-append}
 use Rattle.vlog_net_graph.proofs.containment.add_children.Goals as goal
 
 pub loop-item-preserved : goal.loop-item-preserved

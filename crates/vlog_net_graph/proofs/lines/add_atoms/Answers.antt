@@ -4,7 +4,8 @@ use Rattle.vlog_tree.specs.declared.tree.Atom.{Atom}
 use Rattle.vlog_tree.specs.Loops.{atom_nets}
 use Rattle.vlog_tree.specs.Table.{Name}
 use Rattle.vlog_net_graph.specs.Merged.{under}
-use Rattle.vlog_net_graph.proofs.Growing.{so_far_start, so_far_step, so_far_end, map-append}
+use Rattle.vlog_net_graph.proofs.Growing.{so_far_start, so_far_step, so_far_end}
+use Rattle.tapa_base.proofs.Got.{map_append as map-append}
 use Rattle.vlog_net_graph.proofs.lines.add_atoms.Goals as goal
 
 pub loop-a-init : goal.loop-a-init

@@ -3,7 +3,8 @@ use Rattle.std.specs.List.{flat_map}
 use Rattle.vlog_tree.specs.declared.tree.Item.{Item}
 use Rattle.vlog_tree.specs.Loops.{line_edges}
 use Rattle.vlog_net_graph.specs.Merged.{under}
-use Rattle.vlog_net_graph.proofs.Growing.{so_far_start, so_far_step, so_far_end, map-append}
+use Rattle.vlog_net_graph.proofs.Growing.{so_far_start, so_far_step, so_far_end}
+use Rattle.tapa_base.proofs.Got.{map_append as map-append}
 use Rattle.vlog_net_graph.proofs.lines.add_lines.Goals as goal
 
 pub loop-item-init : goal.loop-item-init

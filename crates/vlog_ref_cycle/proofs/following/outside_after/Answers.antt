@@ -1,11 +1,10 @@
-use Rattle.std.proofs.Common.{◌≡◌, Option, [], subst}
+use Rattle.std.proofs.Common.{◌≡◌, Option, [], subst, ℕ, rules}
 use Rattle.std.specs.Option.{IfSome}
 use Rattle.std.specs.Prelude.{Vec}
 use Rattle.std.specs.declared.alloc.Global.{Global}
 use Rattle.vlog_ref_cycle.specs.Moments.{InEachRun}
 use Rattle.vlog_ref_cycle.specs.Next.{stored_cells}
 use Rattle.vlog_ref_cycle.proofs.following.outside_after.Goals as goal
-use Rattle.std.proofs.Common.{ℕ, rules}
 
 pub returns-in_ok-ready-in-Some-clause-value : goal.returns-in_ok-ready-in-Some-clause-value
 returns-in_ok-ready-in-Some-clause-value c =

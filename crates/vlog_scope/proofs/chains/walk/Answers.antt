@@ -5,6 +5,7 @@ use Rattle.vlog_tree.specs.declared.table.Declaration.{Declaration}
 use Rattle.vlog_tree.specs.Table.{unknown}
 use Rattle.vlog_scope.specs.Chains.{chain_of, name_at}
 use Rattle.vlog_scope.proofs.Chaining.{from_place, some_at, to_next}
+use Rattle.tapa_base.proofs.Tests.{true_not_false}
 use Rattle.vlog_scope.proofs.chains.walk.Goals as goal
 
 pub returns-then-eq-clause-found : goal.returns-then-eq-clause-found
@@ -14,9 +15,6 @@ returns-then-eq-clause-found c =
     sym (ap (λ (d : Declaration). d.name) (get_or_default ds c.loop-at.at c.index-declarations-at.result unknown c.loop-at-test.true))
     ∙ sym c.bytes.ensures.value ∙ (bytes_decides c.bytes.result.now c.args.name.now).0 (sym c.eq.ensures ∙ c.if-eq.true) in
     c.loop-at.invariant.same ∙ some_at ds c.args.name.now c.loop-at.at c.loop-at-test.true at
-
-true_not_false : true ≡ false → ⊥
-true_not_false e = cc
 
 pub loop-at-preserved : goal.loop-at-preserved
 loop-at-preserved c =

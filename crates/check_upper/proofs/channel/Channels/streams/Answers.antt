@@ -3,7 +3,8 @@ use Rattle.std.proofs.lemmas.Result.{err_from_is_err_and}
 use Rattle.tapa_syntax.specs.Trees as tree
 use Rattle.check_upper.specs.Signatures.{channels_of}
 use Rattle.check_upper.specs.Uppers as upper
-use Rattle.check_scope.proofs.Order.{begins, refuses}
+use Rattle.check_scope.proofs.Order.{refuses}
+use Rattle.tapa_base.proofs.Got.{next_of as begins}
 use Rattle.check_upper.proofs.channel.Channels.streams.Goals as goal
 
 pub returns-in_err-stream : goal.returns-in_err-stream

@@ -1,5 +1,5 @@
 use Rattle.hw_task_laws.proofs.wires.Fixes.{fixed_value, numbers_fixed}
-use Rattle.hw_task_laws.proofs.wires.Computed.{shows_value}
+use Rattle.hw_task_laws.proofs.wires.Computed.{computed as shows_value}
 use Rattle.hw_task_laws.proofs.laws.wires.law_expressions.Goals as goal
 
 pub returns : goal.returns

@@ -12,4 +12,4 @@ part-requires-clause-home g c =
 pub invariant_of-result : goal.invariant_of-result
 invariant_of-result g c =
     let home = subst AreAllHome (sym c.self.view_is) c.requires in
-    net_again g.B.Body.stands _ _ _ _ _ _ _ _ _ _ _ _ _ c.self.invariant.0 (λ i l. home_of c.self.inside.homes.items i l (home i)) _ _ c.part.ensures
+    net_again c.self.invariant.0 (λ i l. home_of c.self.inside.homes.items i l (home i)) _ _ c.part.ensures

@@ -1,6 +1,5 @@
 use Rattle.std.proofs.Common.{◌≡◌, length, true, ap, sym, subst, ◌∙◌}
 use Rattle.std.specs.Prelude.{MatchBool}
-use Rattle.std.specs.Arc.{arc_value}
 use Rattle.tapa_syntax.specs.declared.program.Program.{Program}
 use Rattle.kahn_model.specs.Outcome.{HaveJoinedEnded, HasJoinedLeft}
 use Rattle.net_core.specs.Settle.{AreJoinedEnded, IsSomeJoinedLeft, AreJoinedTold}
@@ -12,16 +11,12 @@ use Rattle.net_case.proofs.case.Case.is_done.Goals as goal
 pub have_joined_ended-requires : goal.have_joined_ended-requires
 have_joined_ended-requires g c = c.self.invariant.0.pauses_len ∙ ap (λ (p : Program). length p.instances.items) (sym c.deref.ensures)
 
-pub returns-clause-ended : goal.returns-clause-ended
-returns-clause-ended g c =
+pub returns : goal.returns
+returns g c =
     let I = c.self.inside in
     let r = c.have_joined_ended.result in
     let e = subst (λ (p : Program). MatchBool r (AreJoinedEnded p I.pauses.items) (IsSomeJoinedLeft p I.pauses.items)) c.deref.ensures c.have_joined_ended.ensures in
-    subst (λ (v : CaseState). MatchBool r (HaveJoinedEnded (network v) (count v)) (HasJoinedLeft (network v) (count v))) c.self.view_is (done_by g.B.Body.stands (arc_value I.program) (arc_value I.input) I.budget I.homes.items I.queues.items I.taken.items I.offered.items I.counts.items I.pauses.items I.listed.items I.joined I.writers.items I.fed_by_self.items c.self.invariant.0 r e)
-
-pub returns-clause-told : goal.returns-clause-told
-returns-clause-told g c =
-    let I = c.self.inside in
-    let r = c.have_joined_ended.result in
-    let e = subst (λ (p : Program). MatchBool r (AreJoinedEnded p I.pauses.items) (IsSomeJoinedLeft p I.pauses.items)) c.deref.ensures c.have_joined_ended.ensures in
-    subst (λ (v : CaseState). r ≡ true → AreJoinedTold (net_of v)) c.self.view_is (told_by g.B.Body.stands (arc_value I.program) (arc_value I.input) I.budget I.homes.items I.queues.items I.taken.items I.offered.items I.counts.items I.pauses.items I.listed.items I.joined I.writers.items I.fed_by_self.items c.self.invariant.0 r e)
+    record {
+      ended = subst (λ (v : CaseState). MatchBool r (HaveJoinedEnded (network v) (count v)) (HasJoinedLeft (network v) (count v))) c.self.view_is (done_by c.self.invariant.0 r e);
+      told = subst (λ (v : CaseState). r ≡ true → AreJoinedTold (net_of v)) c.self.view_is (told_by c.self.invariant.0 r e);
+    }

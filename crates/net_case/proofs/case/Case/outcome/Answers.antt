@@ -12,25 +12,21 @@ use Rattle.net_case.specs.Over.{ClaimAnswers}
 use Rattle.net_case.proofs.Finish.{answers, settles}
 use Rattle.net_case.proofs.case.Case.outcome.Goals as goal
 
-pub returns-clause-answer : goal.returns-clause-answer
-returns-clause-answer g c =
-    let I = c.self.inside in
-    let r = c.is_done-done.result in
-    let home = subst AreAllHome (sym c.self.view_is) c.requires.home in
-    let finished = subst IsFinished (sym c.self.view_is) c.requires.finished in
-    let d = subst (λ (v : CaseState). MatchBool r (HaveJoinedEnded (network v) (count v)) (HasJoinedLeft (network v) (count v))) (sym c.self.view_is) c.is_done-done.ensures.ended in
-    subst (λ (v : CaseState). ClaimAnswers (network v) v.budget (count v) c.ending.result) c.self.view_is
-    (subst (λ (o : Outcome). ClaimAnswers (network_on (arc_value I.program) (arc_value I.input)) I.budget (count_of I.counts.items) o) (sym c.ending.ensures)
-    (answers g.B.Body.stands (arc_value I.program) (arc_value I.input) I.budget I.homes.items I.queues.items I.taken.items I.offered.items I.counts.items I.pauses.items I.listed.items I.joined I.writers.items I.fed_by_self.items c.self.invariant.0 home finished r c.goes_on-on.result d c.goes_on-on.ensures))
-
-pub returns-clause-settled : goal.returns-clause-settled
-returns-clause-settled g c =
+pub returns : goal.returns
+returns g c =
     let I = c.self.inside in
     let r = c.is_done-done.result in
     let home = subst AreAllHome (sym c.self.view_is) c.requires.home in
     let finished = subst IsFinished (sym c.self.view_is) c.requires.finished in
     let d = subst (λ (v : CaseState). MatchBool r (HaveJoinedEnded (network v) (count v)) (HasJoinedLeft (network v) (count v))) (sym c.self.view_is) c.is_done-done.ensures.ended in
     let t = subst (λ (v : CaseState). r ≡ true → AreJoinedTold (net_of v)) (sym c.self.view_is) c.is_done-done.ensures.told in
-    subst (λ (v : CaseState). IsSettled (net_of v) c.ending.result) c.self.view_is
-    (subst (λ (o : Outcome). IsSettled (record { program = arc_value I.program; input = arc_value I.input; counts = I.counts.items; pauses = I.pauses.items }) o) (sym c.ending.ensures)
-    (settles g.B.Body.stands (arc_value I.program) (arc_value I.input) I.budget I.homes.items I.queues.items I.taken.items I.offered.items I.counts.items I.pauses.items I.listed.items I.joined I.writers.items I.fed_by_self.items c.self.invariant.0 home finished r c.goes_on-on.result t d c.goes_on-on.ensures))
+    record {
+      answer =
+          subst (λ (v : CaseState). ClaimAnswers (network v) v.budget (count v) c.ending.result) c.self.view_is
+          (subst (λ (o : Outcome). ClaimAnswers (network_on (arc_value I.program) (arc_value I.input)) I.budget (count_of I.counts.items) o) (sym c.ending.ensures)
+          (answers c.self.invariant.0 home finished r c.goes_on-on.result d c.goes_on-on.ensures));
+      settled =
+          subst (λ (v : CaseState). IsSettled (net_of v) c.ending.result) c.self.view_is
+          (subst (λ (o : Outcome). IsSettled (record { program = arc_value I.program; input = arc_value I.input; counts = I.counts.items; pauses = I.pauses.items }) o) (sym c.ending.ensures)
+          (settles c.self.invariant.0 home finished r c.goes_on-on.result t d c.goes_on-on.ensures));
+    }

@@ -1,5 +1,4 @@
 use Rattle.std.proofs.Common.{◌≡◌, ◌+◌, ◌<◌, length, ap, sym, subst, arith}
-use Rattle.std.specs.Arc.{arc_value}
 use Rattle.net_case.specs.declared.case_state.CaseState.{CaseState}
 use Rattle.net_case.specs.State.{IsAtHome}
 use Rattle.net_case.specs.Claims.{IsSameCase, KeepsRest, Rests, RestsIn}
@@ -36,7 +35,7 @@ loop-i-preserved g c =
           let p = c.self.invariant.0.homes_len in
           let q = c.self.invariant.0.counts_len in
           omega arith in
-          let here = subst (λ (v : CaseState). IsAtHome v i → Rests v i) c.self.view_is (unlisted g.B.Body.stands (arc_value I.program) (arc_value I.input) I.budget I.homes.items I.queues.items I.taken.items I.offered.items I.counts.items I.pauses.items I.listed.items I.joined I.writers.items I.fed_by_self.items c.self.invariant.0 i c.index.result.now c.index.ensures w.if-index.false inside) in
+          let here = subst (λ (v : CaseState). IsAtHome v i → Rests v i) c.self.view_is (unlisted c.self.invariant.0 i c.index.result.now c.index.ensures w.if-index.false inside) in
           let rests = rests_on was was c.args.from i (same_case was) (λ j r. r) before.rests here in
           let back = sym w.self-is in
           record {

@@ -4,7 +4,8 @@ use Rattle.tapa_syntax.specs.Trees as view
 use Rattle.tapa_parse_expression.specs.Reading as spec
 use Rattle.tapa_parse_expression.specs.Reading.{chain, more_arguments, named}
 use Rattle.tapa_parse_expression.proofs.Turns.{one_more}
-use Rattle.tapa_parse_expression.proofs.Rows.{map-push, expression-Call}
+use Rattle.tapa_parse_expression.proofs.Rows.{expression-Call}
+use Rattle.tapa_base.proofs.Got.{map-push}
 use Rattle.tapa_parse_expression.proofs.parser.Parser.+expression.Goals as goal
 
 pub chain-loop-turn-preserved : goal.chain-loop-turn-preserved

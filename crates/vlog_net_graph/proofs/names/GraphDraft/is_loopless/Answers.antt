@@ -8,6 +8,7 @@ use Rattle.number_graph.specs.Orders.{IsAnswer}
 use Rattle.number_graph.proofs.Visits.{no_cycle}
 use Rattle.vlog_net_graph.specs.Names.{IsNumbered}
 use Rattle.vlog_net_graph.proofs.Numbered.{some_loop, returned}
+use Rattle.number_graph.proofs.Marking.{differ}
 use Rattle.vlog_net_graph.proofs.names.GraphDraft.is_loopless.Goals as goal
 
 pub returns-in-PartsFirst : goal.returns-in-PartsFirst
@@ -18,9 +19,6 @@ returns-in-PartsFirst c = λ edges draft.
     let order : IsOrder graph c.in-PartsFirst.field-0.items = subst (λ (x : Order). IsAnswer graph x) c.in-PartsFirst.is c.in_ok-order.ensures in
     let none : (x : List ℕ) → Reaches edges x x → ⊥ = λ x r. let b = returned edges (value_in s.numbers) (Steps graph) _ g x r in no_cycle graph c.in-PartsFirst.field-0.items order b.0 b.2 in
     (λ _. none, λ _. refl)
-
-differ : false ≡ true → ⊥
-differ e = cc
 
 pub returns : goal.returns
 returns c = λ edges draft.

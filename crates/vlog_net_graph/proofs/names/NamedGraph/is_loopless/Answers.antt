@@ -10,9 +10,7 @@ use Rattle.number_graph.proofs.Visits.{no_cycle}
 use Rattle.vlog_net_graph.proofs.Numbered.{some_loop, returned}
 use Rattle.vlog_net_graph.proofs.names.NamedGraph.is_loopless.Goals as goal
 use Rattle.vlog_net_graph.proofs.names.NamedGraph.is_loopless.Goals.{in-PartsFirst, in-Cycle}
-
-differ : false ≡ true → ⊥
-differ e = cc
+use Rattle.number_graph.proofs.Marking.{differ}
 
 pub returns : goal.returns
 returns c = λ edges g.

@@ -5,6 +5,7 @@ use Rattle.tapa_base.specs.Lists.{Chain}
 use Rattle.vlog_scope.specs.NameTable.{value_in}
 use Rattle.number_graph.specs.Graphs.{Steps}
 use Rattle.vlog_net_graph.proofs.Numbered.{reached_by_none, returns_both}
+use Rattle.number_graph.proofs.Marking.{differ}
 use Rattle.vlog_net_graph.proofs.names.NamedGraph.returns.Goals as goal
 
 pub returns-in_ok-found-in-Some : goal.returns-in_ok-found-in-Some
@@ -15,9 +16,6 @@ returns-in_ok-found-in-Some c = λ edges g.
     let both : Chain (Steps s.graph) n n ↔ Reaches edges c.args.name.now c.args.name.now = returns_both edges (value_in s.numbers) (Steps s.graph) (length s.graph) g c.args.name.now n at in
     let e = c.in_ok-found-in-Some.ensures in
     (λ h. both.0 (e.0 h), λ r. e.1 (both.1 r))
-
-differ : false ≡ true → ⊥
-differ e = cc
 
 pub returns-in-None : goal.returns-in-None
 returns-in-None c = λ edges g.

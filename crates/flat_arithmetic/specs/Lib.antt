@@ -1,0 +1,4 @@
+pub mod Compute
+pub mod Simple
+pub mod Sizes
+pub mod Signs
