@@ -11,7 +11,7 @@ use Rattle.run_data.specs.Lines.{lines_in}
 use Rattle.net_core.specs.Bounded.{Values, values_of}
 use Rattle.net_core.specs.declared.input.Input.{Input}
 use Rattle.run_program.specs.Ending.{EndsSo, HasFront, HasPart}
-use Rattle.run_program.specs.Laws.{RunMeaning, Done, Stopped, Limit, Runs}
+use Rattle.run_program.specs.Laws.{RunMeaning, Done, Stopped, Limit, RunsAs}
 use Rattle.run_program.specs.declared.run.RunEnd.TheVariants as run_end
 use Rattle.command_answers.specs.Answer.{Writes}
 use Rattle.command_answers.specs.Ends as ends
@@ -68,7 +68,7 @@ module _ (source top : List ℕ) (named : Option (List ℕ)) (limit : ℕ) (befo
       abbrev GivesThese : List ℕ → Values → Type 0
       GivesThese bytes these = GivesValues program bytes these
 
-      comes : (how : RunMeaning) → Runs program values limit how → ComesTo held (MeansRun top limit) before after (answer_of limit how)
+      comes : (how : RunMeaning) → RunsAs program values limit how → ComesTo held (MeansRun top limit) before after (answer_of limit how)
       comes how runs =
           further_comes held (MeansRun top limit) role.Source role.Data apart before mid after asks asks_also Gives program took GivesThese values (answer_of limit how)
           (took_also mid after role.Data (data_held named) (IsDataFault (IsShapeOf program)) (IsDataFault (IsShapeOf program)) GivesInput GivesThese input values (λ bytes g. g) took_input)
@@ -85,7 +85,7 @@ module _ (source top : List ℕ) (named : Option (List ℕ)) (limit : ℕ) (befo
       past e = record { ends = inr (comes Limit e.0, e.1); reads = asked }
 
       -- a report, with the refusal after it
-      told : (report : List ℕ) → Runs program values limit (Done report) ⊎ ((lines : List (List ℕ)) × Runs program values limit (Stopped report lines))
+      told : (report : List ℕ) → RunsAs program values limit (Done report) ⊎ ((lines : List (List ℕ)) × RunsAs program values limit (Stopped report lines))
           → (why : Option refusal.Refusal) × ComesTo held (MeansRun top limit) before after (Writes report why)
       told report (inl runs) = (None, comes (Done report) runs)
       told report (inr (lines, runs)) = (Some (refusal.Stopped lines), comes (Stopped report lines) runs)

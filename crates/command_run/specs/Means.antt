@@ -3,7 +3,7 @@ use Rattle.std.specs.Prelude.{◌≡◌, ℕ, List, Option, Some, None}
 use Rattle.tapa_syntax.specs.declared.program.Program.{Program}
 use Rattle.tapa_syntax.specs.Shapes.{IsShapeOf}
 use Rattle.net_core.specs.Bounded.{Values}
-use Rattle.run_program.specs.Laws.{RunMeaning, Done, Stopped, Limit, Runs}
+use Rattle.run_program.specs.Laws.{RunMeaning, Done, Stopped, Limit, RunsAs}
 use Rattle.command_answers.specs.Answer.{Answer, Writes, Refuses}
 use Rattle.command_answers.specs.Ends.{Meaning}
 use Rattle.command_answers.specs.Files.{Held, Named, Absent, data_held}
@@ -26,7 +26,7 @@ answer_of limit Limit = Refuses (refusal.Ticks limit)
 
 -- the program runs on its values in a way, which is answered
 abbrev pub ComesToRun : ℕ → Program → Values → Answer → Type 0
-ComesToRun limit program values answer = (how : RunMeaning) × Runs program values limit how × (answer ≡ answer_of limit how)
+ComesToRun limit program values answer = (how : RunMeaning) × RunsAs program values limit how × (answer ≡ answer_of limit how)
 
 -- read the source, read the data, run, report
 abbrev pub MeansRun : List ℕ → ℕ → Meaning

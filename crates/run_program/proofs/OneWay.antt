@@ -27,7 +27,7 @@ use Rattle.kahn_model.proofs.WellFormed.{program_network}
 use Rattle.run_data.specs.Report.{last_line}
 use Rattle.run_data.specs.declared.lines.Last.{Last}
 use Rattle.run_data.specs.declared.lines.Last.TheVariants as last_line_of
-use Rattle.run_program.specs.Laws.{RunMeaning, Done, Stopped, Limit, Runs}
+use Rattle.run_program.specs.Laws.{RunMeaning, Done, Stopped, Limit, RunsAs}
 use Rattle.net_core.specs.Bindings.{detached_at}
 use Rattle.run_program.specs.Run.{network, ticks_of, tokens_at, hides_stores, cells_shown, stream_lines, memory_lines, lines_at, report_of, label_of, read_line, write_line, bad_line, IsWaitLine, AreWaitLines, DoneRun, StoppedRun, LimitRun}
 use Rattle.net_core.specs.Bounded.{Values}
@@ -130,7 +130,7 @@ module _ (p q : Program) (same : flat_program p ≡ flat_program q) (values : Va
       ap (λ (l : List ℕ). l ++ last_line (last (ticks_of p values k))) (lines k (last (ticks_of p values k)))
       ∙ ap (λ (net : Network). report_of q values k (last (joined_ticks net k))) networks
 
-  pub runs_alike : (limit : ℕ) (m : RunMeaning) → Runs p values limit m → Runs q values limit m
+  pub runs_alike : (limit : ℕ) (m : RunMeaning) → RunsAs p values limit m → RunsAs q values limit m
   runs_alike limit (Done report) h = record {
     count = h.count;
     done = subst (λ (net : Network). IsDone net limit h.count) networks h.done;
@@ -278,7 +278,7 @@ module _ (p : Program) (w : IsWellFormed p) (values : Values) (limit : ℕ) wher
   past_stops : (report : List ℕ) (lines : List (List ℕ)) → LimitRun p values limit → StoppedRun p values limit report lines → ⊥
   past_stops report lines past stops = past_stopped (one_count way.past way.stopped past.0 stops.count past.1 stops.stopped).0
 
-  pub one_way : (m n : RunMeaning) → Runs p values limit m → Runs p values limit n → m ≡ n
+  pub one_way : (m n : RunMeaning) → RunsAs p values limit m → RunsAs p values limit n → m ≡ n
   one_way (Done report) (Done other) a b = ap Done (one_report report other a b)
   one_way (Done report) (Stopped other lines) a b = absurd (ends_stops report other lines a b)
   one_way (Done report) Limit a b = absurd (past_ends report b a)
@@ -291,7 +291,7 @@ module _ (p : Program) (w : IsWellFormed p) (values : Values) (limit : ℕ) wher
   one_way Limit (Stopped other rows) a b = absurd (past_stops other rows a b)
   one_way Limit Limit a b = refl
 
-  pub some_way : (m : RunMeaning) × Runs p values limit m
+  pub some_way : (m : RunMeaning) × RunsAs p values limit m
   some_way =
       ⊎_elim
       (λ (e : EndsWithin (network p values) limit). (Done _, done_run p values w (network p values) refl e.0 (ticks_of p values e.0) limit refl e.1))

@@ -13,18 +13,18 @@ pub data RunMeaning : Type 0 where
   Stopped : (report : List ℕ) (lines : List (List ℕ)) → RunMeaning
   Limit : RunMeaning
 
-abbrev pub Runs : Program → Values → ℕ → RunMeaning → Type 0
-Runs program values limit (Done report) = DoneRun program values limit report
-Runs program values limit (Stopped report lines) = StoppedRun program values limit report lines
-Runs program values limit Limit = LimitRun program values limit
+abbrev pub RunsAs : Program → Values → ℕ → RunMeaning → Type 0
+RunsAs program values limit (Done report) = DoneRun program values limit report
+RunsAs program values limit (Stopped report lines) = StoppedRun program values limit report lines
+RunsAs program values limit Limit = LimitRun program values limit
 
 -- of two programs that are one as plain data, one runs as the other does
 abbrev pub ProgramsRunAlike : Type 0
-ProgramsRunAlike = (p q : Program) → flat_program p ≡ flat_program q → (values : Values) (limit : ℕ) (m : RunMeaning) → Runs p values limit m → Runs q values limit m
+ProgramsRunAlike = (p q : Program) → flat_program p ≡ flat_program q → (values : Values) (limit : ℕ) (m : RunMeaning) → RunsAs p values limit m → RunsAs q values limit m
 
 -- a well-formed program runs in some way on all values, and in one way alone
 abbrev pub ProgramsRunSomehow : Type 0
-ProgramsRunSomehow = (program : Program) → IsWellFormed program → (values : Values) (limit : ℕ) → (m : RunMeaning) × Runs program values limit m
+ProgramsRunSomehow = (program : Program) → IsWellFormed program → (values : Values) (limit : ℕ) → (m : RunMeaning) × RunsAs program values limit m
 
 abbrev pub ProgramsRunOneWay : Type 0
-ProgramsRunOneWay = (program : Program) → IsWellFormed program → (values : Values) (limit : ℕ) (m n : RunMeaning) → Runs program values limit m → Runs program values limit n → m ≡ n
+ProgramsRunOneWay = (program : Program) → IsWellFormed program → (values : Values) (limit : ℕ) (m n : RunMeaning) → RunsAs program values limit m → RunsAs program values limit n → m ≡ n

@@ -22,7 +22,7 @@ use Rattle.hw_network_laws.specs.network.Channel.{KeepsContract}
 use Rattle.hw_network_laws.specs.network.Clocked.{IsPartOf, IsClocked}
 use Rattle.hw_network_laws.specs.modules.Channels.{TakesOffers}
 use Rattle.hw_network_laws.specs.modules.Tasks.{part_in, IsInstanceOf}
-use Rattle.hw_network_laws.specs.modules.Designs.{IsDesignOf, AreMachines, clock_of}
+use Rattle.hw_network_laws.specs.modules.Designs.{IsDesignOf, AreMachines, clock_at_modules}
 use Rattle.hw_network_laws.proofs.modules.Channels.{meets, takes_offers, none_put, still_meets}
 use Rattle.hw_network_laws.proofs.modules.Tasks.{instance_is}
 use Rattle.tapa_base.proofs.Got.{some_at as there_at}
@@ -119,7 +119,7 @@ module _ (program : Program) (w : IsWellFormed program) (scalars : List ℕ) (me
       absurd (omega arith)
   takes_inside s n None is l = (d.still s is).take n
 
-  pub clocked : IsClocked (network_of program scalars memories) (clock_of latency runs) parts S h
+  pub clocked : IsClocked (network_of program scalars memories) (clock_at_modules latency runs) parts S h
   clocked =
       let z = size_is program scalars memories in
       record {

@@ -54,8 +54,8 @@ pub record AreMachines (program : Program) (machines : ℕ → Option Fsm) (runs
       → slice_get program.bodies.items x.body ≡ Some leaf → machines i ≡ Some machine → h i ≡ history_at (shape_for leaf machine) (runs i) (cells i)
 
 -- the latencies of the channels, and where the memories answer at the modules
-abbrev pub clock_of : (ℕ → ℕ) → (ℕ → ℕ → Cycle) → Clock
-clock_of latency runs = record { latency = latency; answers = λ i. answers_at (runs i) }
+abbrev pub clock_at_modules : (ℕ → ℕ) → (ℕ → ℕ → Cycle) → Clock
+clock_at_modules latency runs = record { latency = latency; answers = λ i. answers_at (runs i) }
 
 abbrev pub DesignsAreClocked : Type 0
 DesignsAreClocked =
@@ -63,4 +63,4 @@ DesignsAreClocked =
     → (scalars : List ℕ) (memories : List (List ℕ)) (latency : ℕ → ℕ) (machines : ℕ → Option Fsm) (runs : ℕ → ℕ → Cycle) (cells : ℕ → ℕ → List (List ℕ))
     (channels : ℕ → ChannelPorts) (S : Streams) → IsDesignOf program scalars memories latency machines runs cells channels S
     → (parts : ℕ → Part) (h : ℕ → History) → AreMachines program machines runs cells parts h
-    → IsClocked (network_of program scalars memories) (clock_of latency runs) parts S h
+    → IsClocked (network_of program scalars memories) (clock_at_modules latency runs) parts S h

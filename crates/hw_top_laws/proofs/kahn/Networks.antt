@@ -17,7 +17,7 @@ use Rattle.hw_lines.specs.Machine.{RunsMachine}
 use Rattle.hw_lines.specs.Runs.{answers_at, history_at}
 use Rattle.hw_lines.specs.Signals.{Streams, History, Part}
 use Rattle.hw_network_laws.specs.network.Clocked.{IsClocked}
-use Rattle.hw_network_laws.specs.modules.Designs.{IsDesignOf, AreMachines, clock_of}
+use Rattle.hw_network_laws.specs.modules.Designs.{IsDesignOf, AreMachines, clock_at_modules}
 use Rattle.hw_network_laws.specs.modules.Tasks.{shape_for, part_in}
 use Rattle.hw_network_laws.proofs.modules.Designs.{clocked}
 use Rattle.hw_top_lines.specs.Designs.{AreShort}
@@ -81,7 +81,7 @@ module _ (program : Program) (w : IsWellFormed program) (added : List ℕ) (shor
     history = λ i x leaf machine at body is. ap (history_of i) at ∙ ap (λ o. history_by i o (machines i)) body ∙ ap (history_by i (Some leaf)) is;
   }
 
-  by_modules : IsClocked net (clock_of (slice_index added) (instance_run program nets)) parts T histories
+  by_modules : IsClocked net (clock_at_modules (slice_index added) (instance_run program nets)) parts T histories
   by_modules =
       clocked program w env.scalars env.memories (slice_index added) machines (instance_run program nets) (instance_rows program env nets) (channel_run program nets) T design parts histories are_machines
 

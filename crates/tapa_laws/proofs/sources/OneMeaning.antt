@@ -8,7 +8,7 @@ use Rattle.tapa_syntax.specs.Trees.{ItemTree, file_of}
 use Rattle.tapa_syntax.specs.WellFormed.{IsWellFormed}
 use Rattle.stream_check.specs.Programs.{program_of}
 use Rattle.stream_check.proofs.WellPrograms.{legal_program_well}
-use Rattle.run_program.specs.Laws.{RunMeaning, Runs}
+use Rattle.run_program.specs.Laws.{RunMeaning, RunsAs}
 use Rattle.run_program.proofs.OneWay.{runs_alike, one_way, some_way}
 use Rattle.net_core.specs.Bounded.{Values}
 use Rattle.command_answers.specs.Answer.{Answer, IsTaken}
@@ -53,9 +53,9 @@ module _ (text top : List ℕ) where
   legal p place code h refused = means_nothing text top place code refused p h
 
 -- the runs of two programs that are one as plain data, on their values, are one
-one_run : (p q : Program) → flat_program p ≡ flat_program q → IsWellFormed q → (bytes : List ℕ) (limit : ℕ) (v w : Values) (how other : RunMeaning) → GivesValues p bytes v → GivesValues q bytes w → Runs p v limit how → Runs q w limit other → how ≡ other
+one_run : (p q : Program) → flat_program p ≡ flat_program q → IsWellFormed q → (bytes : List ℕ) (limit : ℕ) (v w : Values) (how other : RunMeaning) → GivesValues p bytes v → GivesValues q bytes w → RunsAs p v limit how → RunsAs q w limit other → how ≡ other
 one_run p q same fine bytes limit v w how other h g a b =
-    let at_w : Runs p w limit how = subst (λ (u : Values). Runs p u limit how) (one_input p q same bytes v w h g) a in
+    let at_w : RunsAs p w limit how = subst (λ (u : Values). RunsAs p u limit how) (one_input p q same bytes v w h g) a in
     one_way q fine w limit how other (runs_alike p q same w limit how at_w) b
 
 -- ---- steps that read a source and its data
@@ -78,7 +78,7 @@ module _ (p q : Program) (same : flat_program p ≡ flat_program q) (bytes : Lis
 
 module _ (top : List ℕ) (limit : ℕ) (gives : File → Given) where
   run_once : (p q : Program) → flat_program p ≡ flat_program q → IsWellFormed q → (bytes : List ℕ) (v w : Values) (a b : Answer) → GivesValues p bytes v → GivesValues q bytes w
-      → (how : RunMeaning) × Runs p v limit how × (a ≡ answer_of limit how) → (how : RunMeaning) × Runs q w limit how × (b ≡ answer_of limit how) → a ≡ b
+      → (how : RunMeaning) × RunsAs p v limit how × (a ≡ answer_of limit how) → (how : RunMeaning) × RunsAs q w limit how × (b ≡ answer_of limit how) → a ≡ b
   run_once p q same fine bytes v w a b h g (how, r, e) (other, s, f) = e ∙ ap (answer_of limit) (one_run p q same fine bytes limit v w how other h g r s) ∙ sym f
 
   pub means_one : (a b : Answer) → MeansRun top limit gives a → MeansRun top limit gives b → a ≡ b
