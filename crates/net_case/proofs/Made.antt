@@ -20,6 +20,7 @@ use Rattle.net_core.specs.State.{IsNew, AreAnswered}
 use Rattle.net_core.specs.Waits.{HoldsPause}
 use Rattle.net_core.specs.declared.input.Input.{Input}
 use Rattle.net_core.specs.declared.ports.Ports.{Ports}
+use Rattle.net_core.specs.declared.streams.Streams.{Streams}
 use Rattle.net_core.specs.Job.{Job}
 use Rattle.net_core.specs.Ports.{ends_by, carried_by, waiting_by}
 use Rattle.net_core.specs.Bounded.{network_on, count_of, IsNetAt}
@@ -36,34 +37,36 @@ use Rattle.net_case.proofs.Few.{room_few}
 use Rattle.tapa_base.proofs.Got.{some_at as has_item}
 
 -- the net with its ports reserved
-pub reserved_net : {B : Type 0} (Stands : B → Job → List Tick → Type 0) (program : Program) (input : Input) (bodies : List B) (ports ports' : List Ports) (writers offered taken_list : List ℕ) (fed : List Bool) (counts : List ℕ) (pauses : List (Option Pause)) → length ports' ≡ length ports → ((i : ℕ) (x y : Ports) → slice_get ports i ≡ Some x → slice_get ports' i ≡ Some y → HaveSameTokens x y) → IsNetAt Stands program input bodies ports writers offered taken_list fed counts pauses → IsNetAt Stands program input bodies ports' writers offered taken_list fed counts pauses
-reserved_net Stands program input bodies ports ports' writers offered taken_list fed counts pauses len kept n = record {
+pub reserved_net : {B : Type 0} (Stands : B → Job → List Tick → Type 0) (program : Program) (input : Input) (bodies : List B) (t : Streams) (ports : Vec Ports Global) (fed : List Bool) (counts : List ℕ) (pauses : List (Option Pause)) → length ports.items ≡ length t.ports.items → ((i : ℕ) (x y : Ports) → slice_get t.ports.items i ≡ Some x → slice_get ports.items i ≡ Some y → HaveSameTokens x y) → IsNetAt Stands program input bodies t fed counts pauses → IsNetAt Stands program input bodies (record t { ports = ports }) fed counts pauses
+reserved_net Stands program input bodies t ports fed counts pauses len kept n = record {
   given = n.given;
   bound = n.bound;
   answered = n.answered;
   reachable = n.reachable;
   bodies_len = n.bodies_len;
-  ports_len = len ∙ n.ports_len;
-  offered_len = n.offered_len;
-  taken_len = n.taken_len;
+  tables = record {
+    ports_len = len ∙ n.ports_len;
+    offered_len = n.offered_len;
+    taken_len = n.taken_len;
+    ends = λ i l. let x = at i l in ap ends_by x.3 ∙ (kept i x.0 x.1 x.2 x.3).ends ∙ ap ends_by (sym x.2) ∙ n.ends i l;
+  };
   queued = record {
     waits = λ i p l r. let x = at i l in ap (λ o. waiting_by o p) x.3 ∙ (kept i x.0 x.1 x.2 x.3).waits_same p ∙ ap (λ o. waiting_by o p) (sym x.2) ∙ n.queued.waits i p l r;
     offered_within = n.queued.offered_within;
     taken_within = n.queued.taken_within;
   };
   standing = n.standing;
-  ends = λ i l. let x = at i l in ap ends_by x.3 ∙ (kept i x.0 x.1 x.2 x.3).ends ∙ ap ends_by (sym x.2) ∙ n.ends i l;
   carries = λ i p l w. let x = at i l in ap (λ o. carried_by o p) x.3 ∙ (kept i x.0 x.1 x.2 x.3).carries p ∙ ap (λ o. carried_by o p) (sym x.2) ∙ n.carries i p l w;
   took = n.took;
 }
   where
-    at : (i : ℕ) → i < length program.instances.items → (x : Ports) × (y : Ports) × (slice_get ports i ≡ Some x) × (slice_get ports' i ≡ Some y)
+    at : (i : ℕ) → i < length program.instances.items → (x : Ports) × (y : Ports) × (slice_get t.ports.items i ≡ Some x) × (slice_get ports.items i ≡ Some y)
     at i l =
-        let a = has_item ports i (let e = n.ports_len in omega arith) in
-        let b = has_item ports' i (let e = n.ports_len in omega arith) in
+        let a = has_item t.ports.items i (let e = n.ports_len in omega arith) in
+        let b = has_item ports.items i (let e = n.ports_len in omega arith) in
         (a.0, b.0, a.1, b.1)
 
-module _ {B : Type 0} (Stands : B → Job → List Tick → Type 0) (program : Program) (input : Input) (bodies : List B) (ports : List Ports) (writers offered taken_list : List ℕ) (fed : List Bool) (counts : List ℕ) (pauses : List (Option Pause)) (n : IsNetAt Stands program input bodies ports writers offered taken_list fed counts pauses) (budget : ℕ) (few : budget ≤ 1000000000000) (capped : IsCapped (network_on program input) budget (count_of counts)) where
+module _ {B : Type 0} (Stands : B → Job → List Tick → Type 0) (program : Program) (input : Input) (bodies : List B) (streams : Streams) (fed : List Bool) (counts : List ℕ) (pauses : List (Option Pause)) (n : IsNetAt Stands program input bodies streams fed counts pauses) (budget : ℕ) (few : budget ≤ 1000000000000) (capped : IsCapped (network_on program input) budget (count_of counts)) where
   abbrev N : Network
   N = network_on program input
 
@@ -93,19 +96,19 @@ module _ {B : Type 0} (Stands : B → Job → List Tick → Type 0) (program : P
       ⊎_elim (λ (new : IsNew net). unended_new new i h) (λ (all : AreAnswered net). unended_answered all i l d h) told
 
   -- what waits at a stream is no more than its depth
-  few_wait : (s : ℕ) → s < length program.streams.items → length (written N k s) ≤ slice_index taken_list s + depth_of program s
+  few_wait : (s : ℕ) → s < length program.streams.items → length (written N k s) ≤ slice_index streams.taken.items s + depth_of program s
   few_wait s l =
       let r = room_few N n.network.is_network s k n.reachable in
       let t = n.took s l in
       let d = n.network.depth s in
       omega arith
 
-  pub can_fill : CanFill program ports writers taken_list
+  pub can_fill : CanFill program streams
   can_fill = record {
     ports_len = n.ports_len;
     writers_len = n.writers_len;
     taken_len = n.taken_len;
-    port = λ s x l at. let w = n.writer_is s l in port_in program n.connected ports n.ends (producer_of program s) (slice_index writers s) (producer_in program n.connected s l) w.0.0 x at;
+    port = λ s x l at. let w = n.writer_is s l in port_in program n.connected streams.ports.items n.ends (producer_of program s) (slice_index streams.writers.items s) (producer_in program n.connected s l) w.0.0 x at;
     taken_within = λ s l.
         let a = n.queued.taken_within s l in
         let b = n.queued.offered_within s l in
@@ -114,8 +117,8 @@ module _ {B : Type 0} (Stands : B → Job → List Tick → Type 0) (program : P
     few = λ s l. let e = ap length (list_is n s l) in let f = few_wait s l in omega arith;
   }
 
-  module _ (reserved : AreReserved program ports) (homes0 : List (Option (Process B))) (limits : List (Vec ℕ Global)) (queues0 : List Queue) (listed : List Bool) (spare : IsSpare program homes0 limits queues0 listed) (queues : List Queue) (filled : AreFilled program ports writers taken_list queues) (homes : List (Option (Process B))) (homes_len : length homes ≡ length homes0) (brought : AreBroughtHome 0 limits bodies ports homes) where
-    home_at : (i : ℕ) (x : Process B) → slice_get homes i ≡ Some (Some x) → IsHome Stands program input counts taken_list offered i x.body x.ports x.limits.items
+  module _ (reserved : AreReserved program streams.ports.items) (homes0 : List (Option (Process B))) (limits : List (Vec ℕ Global)) (queues0 : List Queue) (listed : List Bool) (spare : IsSpare program homes0 limits queues0 listed) (queues : List Queue) (filled : AreFilled program streams queues) (homes : List (Option (Process B))) (homes_len : length homes ≡ length homes0) (brought : AreBroughtHome 0 limits bodies streams.ports.items homes) where
+    home_at : (i : ℕ) (x : Process B) → slice_get homes i ≡ Some (Some x) → IsHome Stands program input counts streams.taken.items streams.offered.items i x.body x.ports x.limits.items
     home_at i x e =
         let w = slice_get_within homes i (Some x) e in
         let l : i < length program.instances.items = let a = spare.homes_len in omega arith in
@@ -129,19 +132,19 @@ module _ {B : Type 0} (Stands : B → Job → List Tick → Type 0) (program : P
           spaces = λ p r. reserved i x.ports port p r;
         }
 
-    stream_of : (s : ℕ) (q : Queue) → slice_get queues s ≡ Some q → IsStreamAt program N k s q (slice_index taken_list s) (slice_index offered s)
+    stream_of : (s : ℕ) (q : Queue) → slice_get queues s ≡ Some q → IsStreamAt program N k s q (slice_index streams.taken.items s) (slice_index streams.offered.items s)
     stream_of s q e =
         let w = slice_get_within queues s q e in
         let l : s < length program.streams.items = let a = filled.len in omega arith in
         record {
           took_is = n.took s l;
-          rest = filled.waits_are s q e ∙ ap (drop (slice_index taken_list s)) (list_is n s l);
+          rest = filled.waits_are s q e ∙ ap (drop (slice_index streams.taken.items s)) (list_is n s l);
           within = n.queued.taken_within s l;
           given = n.queued.offered_within s l;
           space_is = filled.spaces s q e;
         }
 
-    pub case_of : (joined : ℕ) → joined ≡ joined_ticks N k → IsNew net ⊎ AreAnswered net → IsCaseAt Stands program input budget homes queues taken_list offered counts pauses listed joined writers fed
+    pub case_of : (joined : ℕ) → joined ≡ joined_ticks N k → IsNew net ⊎ AreAnswered net → IsCaseAt Stands program input budget homes queues streams.taken.items streams.offered.items counts pauses listed joined streams.writers.items fed
     case_of joined joined_is told = record {
       at = record { given = n.given; reachable = n.reachable; capped = capped; few = few; queues_len = filled.len; taken_len = n.taken_len; offered_len = n.offered_len; streams = stream_of };
       bound = n.bound;

@@ -3,6 +3,7 @@ use Rattle.std.specs.Prelude.{◌≡◌, ℕ, ◌+◌, ◌*◌, ◌<◌, ◌≤�
 use Rattle.std.specs.declared.alloc.Global.{Global}
 use Rattle.tapa_syntax.specs.declared.program.Program.{Program}
 use Rattle.net_core.specs.declared.ports.Ports.{Ports}
+use Rattle.net_core.specs.declared.streams.Streams.{Streams}
 use Rattle.net_core.specs.Ports.{waiting, carried, space_at, port_count, ends_of}
 use Rattle.net_core.specs.Load.{list_at, queue_at}
 use Rattle.net_core.specs.Bindings.{arity, stream_at, depth_of, producer_of, Reads}
@@ -17,18 +18,18 @@ pub record AreEmptyQueues (program : Program) (n : ℕ) (queues : List Queue) : 
   pub spaces : (s : ℕ) (q : Queue) → slice_get queues s ≡ Some q → 2 * depth_of program s ≤ space q
 
 -- what was written to each stream is at its producer's port, and no more of it than the depth was not taken
-pub record CanFill (program : Program) (all : List Ports) (writers taken_list : List ℕ) : Type 0 where
-  pub ports_len : length all ≡ length program.instances.items
-  pub writers_len : length writers ≡ length program.streams.items
-  pub taken_len : length taken_list ≡ length program.streams.items
-  pub port : (s : ℕ) (x : Ports) → s < length program.streams.items → slice_get all (producer_of program s) ≡ Some x → slice_index writers s < port_count x
-  pub taken_within : (s : ℕ) → s < length program.streams.items → slice_index taken_list s ≤ length (list_at program all writers s)
-  pub few : (s : ℕ) → s < length program.streams.items → length (list_at program all writers s) ≤ slice_index taken_list s + depth_of program s
+pub record CanFill (program : Program) (t : Streams) : Type 0 where
+  pub ports_len : length t.ports.items ≡ length program.instances.items
+  pub writers_len : length t.writers.items ≡ length program.streams.items
+  pub taken_len : length t.taken.items ≡ length program.streams.items
+  pub port : (s : ℕ) (x : Ports) → s < length program.streams.items → slice_get t.ports.items (producer_of program s) ≡ Some x → slice_index t.writers.items s < port_count x
+  pub taken_within : (s : ℕ) → s < length program.streams.items → slice_index t.taken.items s ≤ length (list_at program t s)
+  pub few : (s : ℕ) → s < length program.streams.items → length (list_at program t s) ≤ slice_index t.taken.items s + depth_of program s
 
 -- what was written to each stream and not taken waits in its queue, which has space for twice the depth
-pub record AreFilled (program : Program) (all : List Ports) (writers taken_list : List ℕ) (queues : List Queue) : Type 0 where
+pub record AreFilled (program : Program) (t : Streams) (queues : List Queue) : Type 0 where
   pub len : length queues ≡ length program.streams.items
-  pub waits_are : (s : ℕ) (q : Queue) → slice_get queues s ≡ Some q → waits q ≡ queue_at program all writers taken_list s
+  pub waits_are : (s : ℕ) (q : Queue) → slice_get queues s ≡ Some q → waits q ≡ queue_at program t s
   pub spaces : (s : ℕ) (q : Queue) → slice_get queues s ≡ Some q → 2 * depth_of program s ≤ space q
 
 -- a limit for each port of the first n instances

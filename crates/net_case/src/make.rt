@@ -14,7 +14,7 @@ use crate::batch::Process;
 use crate::case::Case;
 use crate::pace::Pace;
 use crate::queue::Queue;
-use net_core::{Body, Net, Ports, arity, depth, producer, stream_at};
+use net_core::{Body, Net, Ports, Streams, arity, depth, producer, stream_at};
 use std::alloc::Global;
 use tapa_base::OutOfMemory;
 use tapa_syntax::Program;
@@ -173,38 +173,34 @@ fn bring_home<B: Body + Drop>(
 fn fill_at(
     program: &Program,
     queue: &mut Queue,
-    all: &Vec<Ports>,
-    writers: &Vec<usize>,
-    taken: &Vec<usize>,
+    streams: &Streams,
     s: usize,
 )
     requires connected { IsConnected program.now }
     requires stream { s < length program.now.streams.items }
-    requires can { CanFill program.now all.now.items writers.now.items taken.now.items }
+    requires can { CanFill program.now streams.now }
     requires empty { waits queue.old ≡ [] }
     requires space { 2 * depth_of program.now s ≤ space queue.old }
-    ensures waits { waits queue.new ≡ queue_at program.now all.now.items writers.now.items taken.now.items s }
+    ensures waits { waits queue.new ≡ queue_at program.now streams.now s }
     ensures space { space queue.old ≤ space queue.new }
 {
-    let written = all[producer(program, s)].carried(writers[s]);
-    queue.join(&written[taken[s]..]);
+    let written = streams.ports[producer(program, s)].carried(streams.writers[s]);
+    queue.join(&written[streams.taken[s]..]);
 }
 
 // What was written to each stream and not taken waits in its queue.
 fn fill(
     program: &Program,
     queues: &mut Vec<Queue>,
-    all: &Vec<Ports>,
-    writers: &Vec<usize>,
-    taken: &Vec<usize>,
+    streams: &Streams,
 )
     requires connected { IsConnected program.now }
     requires empty { AreEmptyQueues program.now (length program.now.streams.items) queues.old.items }
-    requires can { CanFill program.now all.now.items writers.now.items taken.now.items }
-    ensures { AreFilled program.now all.now.items writers.now.items taken.now.items queues.new.items }
+    requires can { CanFill program.now streams.now }
+    ensures { AreFilled program.now streams.now queues.new.items }
 {
     for s in 0..queues.len() {
-        fill_at(program, &mut queues[s], all, writers, taken, s);
+        fill_at(program, &mut queues[s], streams, s);
     }
 }
 
@@ -224,22 +220,16 @@ impl<B: Body + Drop> Case<B> {
         ensures fault { IfErr result (λ f. f.net ≡ net) }
     {
         let mut net = net;
-        let mut spare: Spare<B> = match reserve(alloc, &net.program, &mut net.ports) {
+        let mut spare: Spare<B> = match reserve(alloc, &net.program, &mut net.streams.ports) {
             Ok(spare) => spare,
             Err(_) => return Err(CaseFault { net }),
         };
-        fill(
-            &net.program,
-            &mut spare.queues,
-            &net.ports,
-            &net.writers,
-            &net.taken,
-        );
+        fill(&net.program, &mut spare.queues, &net.streams);
         bring_home(
             &mut spare.homes,
             &mut spare.limits,
             &mut net.bodies,
-            &mut net.ports,
+            &mut net.streams.ports,
         );
         Ok(Case {
             program: net.program,
@@ -247,18 +237,18 @@ impl<B: Body + Drop> Case<B> {
             budget,
             homes: spare.homes,
             queues: spare.queues,
-            taken: net.taken,
-            offered: net.offered,
+            taken: net.streams.taken,
+            offered: net.streams.offered,
             counts: net.counts,
             pauses: net.pauses,
             listed: spare.listed,
             cursor: 0,
             joined,
             pace: Pace::new(),
-            writers: net.writers,
+            writers: net.streams.writers,
             fed_by_self: net.fed_by_self,
             bodies: net.bodies,
-            ports: net.ports,
+            ports: net.streams.ports,
         })
     }
 

@@ -6,7 +6,7 @@ ghost use Rattle.net_case.specs.State.{AreAllHome, net_of};
 
 use crate::batch::Process;
 use crate::case::Case;
-use net_core::{Body, Net, Ports};
+use net_core::{Body, Net, Ports, Streams};
 
 // The bodies and ports of all instances, in their order.
 fn part<B: Body + Drop>(
@@ -59,10 +59,12 @@ impl<B: Body + Drop> Case<B> {
             program,
             input,
             bodies,
-            ports,
-            writers,
-            offered,
-            taken,
+            streams: Streams {
+                ports,
+                writers,
+                offered,
+                taken,
+            },
             fed_by_self,
             counts,
             pauses,

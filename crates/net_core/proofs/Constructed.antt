@@ -14,15 +14,14 @@ use Rattle.kahn_model.specs.Network.{Network}
 use Rattle.kahn_model.specs.Counts.{total, written, taken, zeros, IsReachable}
 use Rattle.kahn_model.specs.Outcome.{joined_part, joined_ticks}
 use Rattle.kahn_model.proofs.Joined.{total_same}
-use Rattle.net_core.specs.declared.ports.Ports.{Ports}
+use Rattle.net_core.specs.declared.streams.Streams.{Streams}
 use Rattle.net_core.specs.declared.body.Pause.{Pause}
 use Rattle.net_core.specs.declared.input.Input.{Input}
 use Rattle.net_core.specs.Job.{Job}
-use Rattle.net_core.specs.Ports.{ends_in, carried_of, waiting_of}
-use Rattle.tapa_syntax.specs.WellFormed.{IsWellFormed}
-use Rattle.kahn_model.specs.Fits.{FitsInput}
-use Rattle.net_core.specs.Bindings.{IsConnected, ends_at, stream_at, producer_of, IsWriter, TellsFedBySelf}
-use Rattle.net_core.specs.Bounded.{scalars_of, memories_of, network_on, instance_job, IsNetworkOf, count_of, IsNetAt}
+use Rattle.net_core.specs.Ports.{carried_of, waiting_of}
+use Rattle.net_core.specs.Bindings.{stream_at, producer_of, IsWriter, TellsFedBySelf}
+use Rattle.net_core.specs.Bounded.{network_on, instance_job, count_of, IsGiven, AreBound, IsNetAt}
+use Rattle.net_core.specs.Load.{HasTables}
 use Rattle.net_core.proofs.Moves.{replicated}
 
 -- what holds at each index of a list and of one more element
@@ -79,22 +78,19 @@ writer_push program xs zs y e h g s l = subst (λ v. IsWriter program s (produce
     go (x ∷ xs) P h g zero l = h zero (omega arith)
     go (x ∷ xs) P h g (suc s) l = go xs (λ n. P (suc n)) (λ n k. h (suc n) (omega arith)) g s (omega arith)
 
-pub first_net : {B : Type 0} (Stands : B → Job → List Tick → Type 0) (program : Program) (input : Input) → IsConnected program → IsNetworkOf program input → IsWellFormed program → FitsInput program (scalars_of input) (memories_of input) → (bodies : List B) (ports : List Ports) (writers offered taken_list : List ℕ) (fed : List Bool) (counts : List ℕ) (pauses : List (Option Pause)) → length bodies ≡ length program.instances.items → length ports ≡ length program.instances.items → length counts ≡ length program.instances.items → length pauses ≡ length program.instances.items → length writers ≡ length program.streams.items → length offered ≡ length program.streams.items → length taken_list ≡ length program.streams.items → ((i : ℕ) (b : B) → slice_get bodies i ≡ Some b → Stands b (instance_job program input i) []) → ((i : ℕ) → i < length program.instances.items → ends_in ports i ≡ ends_at program i) → ((i p : ℕ) → carried_of ports i p ≡ []) → ((s : ℕ) → s < length program.streams.items → IsWriter program s (producer_of program s) (slice_index writers s)) → ((s : ℕ) → slice_index taken_list s ≡ 0) → ((s : ℕ) → slice_index offered s ≡ 0) → ((i p : ℕ) → waiting_of ports i p ≡ []) → length fed ≡ length program.instances.items → ((i : ℕ) (b : Bool) → slice_get fed i ≡ Some b → TellsFedBySelf program i b) → ((i : ℕ) (x : Pause) → slice_get pauses i ≡ Some (Some x) → ⊥) → zeros ≡ count_of counts → IsNetAt Stands program input bodies ports writers offered taken_list fed counts pauses
-first_net Stands program input connected network well fits bodies ports writers offered taken_list fed counts pauses lb lp lc lu lw lo lt first ends none wr tz oz wz lf ft unpaused z = record {
-  given = record { connected = connected; network = network; well_formed = well; fits = fits };
-  bound = record { writers_len = lw; writer_is = wr; fed_len = lf; fed = ft };
+pub first_net : {B : Type 0} (Stands : B → Job → List Tick → Type 0) (program : Program) (input : Input) → IsGiven program input → (bodies : List B) (t : Streams) (fed : List Bool) (counts : List ℕ) (pauses : List (Option Pause)) → length bodies ≡ length program.instances.items → HasTables program t → AreBound program t.writers.items fed → length counts ≡ length program.instances.items → length pauses ≡ length program.instances.items → ((i : ℕ) (b : B) → slice_get bodies i ≡ Some b → Stands b (instance_job program input i) []) → ((i p : ℕ) → carried_of t.ports.items i p ≡ []) → ((i p : ℕ) → waiting_of t.ports.items i p ≡ []) → ((s : ℕ) → slice_index t.taken.items s ≡ 0) → ((s : ℕ) → slice_index t.offered.items s ≡ 0) → ((i : ℕ) (x : Pause) → slice_get pauses i ≡ Some (Some x) → ⊥) → zeros ≡ count_of counts → IsNetAt Stands program input bodies t fed counts pauses
+first_net Stands program input given bodies t fed counts pauses lb tables bound lc lu first none wz tz oz unpaused z = record {
+  given = given;
+  bound = bound;
   answered = record { counts_len = lc; pauses_len = lu; paused = λ i x e. absurd (unpaused i x e); unresumed = λ i e. sym (ap (λ m. m i) z) };
   reachable = subst (IsReachable (network_on program input)) z (record { steps = []; allowed = tt; is_after = λ i. refl });
   bodies_len = lb;
-  ports_len = lp;
-  offered_len = lo;
-  taken_len = lt;
+  tables = tables;
   standing = λ i b e. record { ticks = []; stands = first i b e; count = ap (λ m. m i) z; tests = 0; runs = tt };
-  ends = ends;
   carries = λ i p l d. none i p ∙ ap (λ m. written (network_on program input) m (stream_at program i p)) z;
   took = λ s l. tz s ∙ ap (λ m. length (taken (network_on program input) m s)) z;
   queued = record {
-    waits = λ i p l d. wz i p ∙ sym (ap (λ n. drop n (take (slice_index offered (stream_at program i p)) (written (network_on program input) (count_of counts) (stream_at program i p)))) (tz (stream_at program i p)) ∙ ap (λ n. take n (written (network_on program input) (count_of counts) (stream_at program i p))) (oz (stream_at program i p)));
+    waits = λ i p l d. wz i p ∙ sym (ap (λ n. drop n (take (slice_index t.offered.items (stream_at program i p)) (written (network_on program input) (count_of counts) (stream_at program i p)))) (tz (stream_at program i p)) ∙ ap (λ n. take n (written (network_on program input) (count_of counts) (stream_at program i p))) (oz (stream_at program i p)));
     offered_within = λ s l. let e = oz s in omega arith;
     taken_within = λ s l. let e = tz s in omega arith;
   };

@@ -4,16 +4,17 @@ use Rattle.std.specs.Prelude.{replicate, slice_get, slice_index, slice_set}
 use Rattle.std.proofs.lemmas.Bool.{cases_eq}
 use Rattle.tapa_syntax.specs.declared.program.Program.{Program}
 use Rattle.net_core.specs.declared.ports.Ports.{Ports}
+use Rattle.net_core.specs.declared.streams.Streams.{Streams}
 use Rattle.tapa_base.specs.declared.token.Token.{Token}
 use Rattle.kahn_model.specs.Fits.{stream_kind}
 use Rattle.net_core.specs.Kinds.{kind_in}
-use Rattle.net_core.specs.Ports.{carried, kind_at, port_count, ends_by, carried_by, IsReloaded, ends_in, carried_of, waiting_of, room_of}
+use Rattle.net_core.specs.Ports.{carried, kind_at, port_count, ends_by, carried_by, ends_in, carried_of, waiting_of}
 use Rattle.net_core.specs.Bindings.{IsConnected, IsWriter, arity, ends_at, arity_in, stream_at, stream_in, Reads, Writes, producer_of, consumer_of, depth_of}
 use Rattle.net_core.proofs.Cases.{up_to}
 use Rattle.net_core.proofs.Moves.{get_set_other, replicated, port_count_is}
 use Rattle.net_core.specs.declared.ties.Tie.{Tie}
 use Rattle.net_core.specs.Ties.{IsTie}
-use Rattle.net_core.specs.Load.{IsIn, AreBelow, AreListed, AreKept, AreLoaded, IsLoaded, AreWoken, list_at, queue_at}
+use Rattle.net_core.specs.Load.{IsIn, AreBelow, AreListed, HasTables, AreKept, Reloads, ChangesTaken, AreLoaded, IsLoaded, AreWoken, list_at}
 use Rattle.tapa_base.proofs.Got.{some_at as has_item, last_at as get_last, got_left as get_append}
 
 pub in_streams : (program : Program) → IsConnected program → (i p : ℕ) → i < length program.instances.items → p < arity program i → stream_at program i p < length program.streams.items
@@ -36,17 +37,17 @@ consumer_in program connected s l =
     subst (λ n. n < length program.instances.items) (sym k.consumer) k.consumer_in
 
 -- what a reading port is loaded from
-pub list_read : (program : Program) (all : List Ports) (writers : List ℕ) (s s' j q : ℕ) (x : Ports) (list : List Token) → s ≡ s' → j ≡ producer_of program s → slice_index writers s ≡ q → slice_get all j ≡ Some x → list ≡ carried x q → list ≡ list_at program all writers s'
-list_read program all writers s s' j q x list es ej qw at e =
-    e ∙ ap (λ o. carried_by o q) (sym at) ∙ ap (λ z. carried_of all z q) ej ∙ ap (carried_of all (producer_of program s)) (sym qw) ∙ ap (list_at program all writers) es
+pub list_read : (program : Program) (t : Streams) (s s' j q : ℕ) (x : Ports) (list : List Token) → s ≡ s' → j ≡ producer_of program s → slice_index t.writers.items s ≡ q → slice_get t.ports.items j ≡ Some x → list ≡ carried x q → list ≡ list_at program t s'
+list_read program t s s' j q x list es ej qw at e =
+    e ∙ ap (λ o. carried_by o q) (sym at) ∙ ap (λ z. carried_of t.ports.items z q) ej ∙ ap (carried_of t.ports.items (producer_of program s)) (sym qw) ∙ ap (list_at program t) es
 
 kind_of_end : (program : Program) → IsConnected program → (i p : ℕ) (all : List Ports) (x : Ports) → p < arity program i → slice_get all i ≡ Some x → ends_in all i ≡ ends_at program i → kind_at x p ≡ stream_kind program (stream_at program i p)
 kind_of_end program connected i p all x l e h = ap (λ ends. kind_in ends p) (ap ends_by (sym e) ∙ h) ∙ connected.kinds i p l
 
 -- the two ends of a stream have its kind
-pub same_kind : (program : Program) → IsConnected program → (all : List Ports) (writers : List ℕ) (i p s j q : ℕ) (x y : Ports) → ((i : ℕ) → i < length program.instances.items → ends_in all i ≡ ends_at program i) → i < length program.instances.items → Reads program i p → s ≡ stream_at program i p → j ≡ producer_of program s → j < length program.instances.items → slice_index writers s ≡ q → IsWriter program s (producer_of program s) (slice_index writers s) → slice_get all i ≡ Some x → slice_get all j ≡ Some y → kind_at y q ≡ kind_at x p
-same_kind program connected all writers i p s j q x y ends inside d es ej lj qw w ex ey =
-    let w' : IsWriter program s j q = subst (λ z. IsWriter program s z q) (sym ej) (subst (IsWriter program s (producer_of program s)) qw w) in
+pub same_kind : (program : Program) → IsConnected program → (all : List Ports) (i p s j q : ℕ) (x y : Ports) → ((i : ℕ) → i < length program.instances.items → ends_in all i ≡ ends_at program i) → i < length program.instances.items → Reads program i p → s ≡ stream_at program i p → j ≡ producer_of program s → j < length program.instances.items → IsWriter program s (producer_of program s) q → slice_get all i ≡ Some x → slice_get all j ≡ Some y → kind_at y q ≡ kind_at x p
+same_kind program connected all i p s j q x y ends inside d es ej lj w ex ey =
+    let w' : IsWriter program s j q = subst (λ z. IsWriter program s z q) (sym ej) w in
     kind_of_end program connected j q all y w'.0.0 ey (ends j lj) ∙ ap (stream_kind program) (w'.1 ∙ es) ∙ sym (kind_of_end program connected i p all x d.0 ex (ends i inside))
 
 -- the port is there
@@ -63,45 +64,62 @@ port_in program connected all ends i p inside l x ex =
 pub read_or_write : (program : Program) (i p : ℕ) → Reads program i p → Writes program i p → ⊥
 read_or_write program i p r w = let a = r.1 in let b = w.1 in cc
 
-pub kept_none : (a : List Ports) (o : List ℕ) → AreKept a o a o
-kept_none a o = record { len = refl; ends = λ j. refl; carries = λ j q. refl; offered_len = refl }
+pub kept_none : (a : Streams) → AreKept a a
+kept_none a = record { len = refl; ends = λ j. refl; carries = λ j q. refl; offered_len = refl; writers = refl; taken = refl }
 
-pub kept_more : (a b c : List Ports) (o o' o'' : List ℕ) (i p : ℕ) → AreKept a o b o' → IsReloaded b i p c → length o'' ≡ length o' → AreKept a o c o''
-kept_more a b c o o' o'' i p h r e = record {
-  len = r.len ∙ h.len;
-  ends = λ j. r.ends j ∙ h.ends j;
-  carries = λ j q. r.carries j q ∙ h.carries j q;
-  offered_len = e ∙ h.offered_len;
+pub kept_more : (program : Program) (a b c : Streams) (i p : ℕ) → AreKept a b → Reloads program i p b c → AreKept a c
+kept_more program a b c i p h r = record {
+  len = r.ports.len ∙ h.len;
+  ends = λ j. r.ports.ends j ∙ h.ends j;
+  carries = λ j q. r.ports.carries j q ∙ h.carries j q;
+  offered_len = r.offered_len ∙ h.offered_len;
+  writers = r.writers ∙ h.writers;
+  taken = r.taken ∙ h.taken;
 }
 
-pub loaded_none : (program : Program) (i : ℕ) (a b : List Ports) (w t o : List ℕ) → AreLoaded program 0 i a w t b o
-loaded_none program i a b w t o = record {
-  waits = λ p l d. absurd (omega arith);
-  offers = λ p l d. absurd (omega arith);
-  rooms = λ p l d. absurd (omega arith);
+pub loaded_none : (program : Program) (i : ℕ) (a b : Streams) → AreLoaded program 0 i a b
+loaded_none program i a b p l = absurd (omega arith)
+
+-- what is written on a stream is the same after loading
+pub list_kept : (program : Program) (a b : Streams) → AreKept a b → (s : ℕ) → list_at program b s ≡ list_at program a s
+list_kept program a b k s = k.carries (producer_of program s) (slice_index b.writers.items s) ∙ ap (λ w. carried_of a.ports.items (producer_of program s) (slice_index w s)) k.writers
+
+pub loaded_more : (program : Program) → IsConnected program → (i p : ℕ) → i < length program.instances.items → (a b c : Streams) → AreKept a b → AreLoaded program p i a b → Reloads program i p b c → IsLoaded program i p b c → AreLoaded program (p + 1) i a c
+loaded_more program connected i p inside a b c k h r f q l =
+    let s = stream_at program i p in
+    up_to (λ x. IsLoaded program i x a c) p q l
+    (λ e. record {
+      waits = λ d. r.ports.waits q (λ x. omega arith) ∙ (h q e).waits d;
+      offers = λ d. r.others (stream_at program i q) (λ d' x. let y = connected.reads_one i q p d d' x in omega arith) ∙ (h q e).offers d;
+      room = λ d. r.ports.rooms q (λ x. omega arith) ∙ (h q e).room d;
+    })
+    (record {
+      waits = λ d. f.waits d ∙ ap (drop (slice_index b.taken.items s)) (list_kept program a b k s) ∙ ap (λ t. drop (slice_index t s) (list_at program a s)) k.taken;
+      offers = λ d. f.offers d ∙ ap length (list_kept program a b k s);
+      room = λ d.
+          f.room d ∙ ap (λ l. depth_of program s - (length l - slice_index b.taken.items s)) (k.carries i p)
+          ∙ ap (λ t. depth_of program s - (length (carried_of a.ports.items i p) - slice_index t s)) k.taken;
+    })
+
+-- the tables are there when other tokens are taken
+pub tables_same : (program : Program) (a b : Streams) → HasTables program a → ChangesTaken a b → HasTables program b
+tables_same program a b h same = record {
+  ports_len = ap length same.ports ∙ h.ports_len;
+  offered_len = ap length same.offered ∙ h.offered_len;
+  taken_len = same.taken_len ∙ h.taken_len;
+  ends = λ i l. ap (λ ps. ends_in ps i) same.ports ∙ h.ends i l;
 }
 
-pub loaded_more : (program : Program) → IsConnected program → (i p : ℕ) → i < length program.instances.items → (a b c : List Ports) (w t o o' o'' : List ℕ) → AreKept a o b o' → AreLoaded program p i a w t b o' → IsReloaded b i p c → IsLoaded program i p b w t o' c o'' → AreLoaded program (p + 1) i a w t c o''
-loaded_more program connected i p inside a b c w t o o' o'' k h r f = record {
-  waits = λ q l d.
-      up_to (λ x. Reads program i x → waiting_of c i x ≡ queue_at program a w t (stream_at program i x)) p q l
-      (λ e d'. r.waits q (λ x. omega arith) ∙ h.waits q e d')
-      (λ d'. f.waits d' ∙ ap (drop (slice_index t (stream_at program i p))) (k.carries (producer_of program (stream_at program i p)) (slice_index w (stream_at program i p)))) d;
-  offers = λ q l d.
-      up_to (λ x. Reads program i x → slice_index o'' (stream_at program i x) ≡ length (list_at program a w (stream_at program i x))) p q l
-      (λ e dq. f.others (stream_at program i q) (λ d' x. let y = connected.reads_one i q p dq d' x in omega arith) ∙ h.offers q e dq)
-      (λ d'. f.offers d' ∙ ap length (k.carries (producer_of program (stream_at program i p)) (slice_index w (stream_at program i p)))) d;
-  rooms = λ q l d.
-      up_to (λ x. Writes program i x → room_of c i x ≡ depth_of program (stream_at program i x) - (length (carried_of a i x) - slice_index t (stream_at program i x))) p q l
-      (λ e d'. r.rooms q (λ x. omega arith) ∙ h.rooms q e d')
-      (λ d'. f.room d' ∙ ap (λ l. depth_of program (stream_at program i p) - (length l - slice_index t (stream_at program i p))) (k.carries i p)) d;
-}
+-- what a port was offered and has not taken, where only others took
+pub left_same : (a b : Streams) → ChangesTaken a b → (i p s : ℕ) → slice_index b.offered.items s - length (waiting_of b.ports.items i p) ≡ slice_index a.offered.items s - length (waiting_of a.ports.items i p)
+left_same a b same i p s = ap (λ o. slice_index o s - length (waiting_of b.ports.items i p)) same.offered ∙ ap (λ ps. slice_index a.offered.items s - length (waiting_of ps i p)) same.ports
 
 -- what is collected at one more port
-pub took_more : (program : Program) → IsConnected program → (i p : ℕ) → i < length program.instances.items → (all : List Ports) (o t t' t'' : List ℕ) → ((q : ℕ) → q < p → Reads program i q → slice_index t' (stream_at program i q) ≡ slice_index o (stream_at program i q) - length (waiting_of all i q)) → (Reads program i p → slice_index t'' (stream_at program i p) ≡ slice_index o (stream_at program i p) - length (waiting_of all i p)) → ((s : ℕ) → (Reads program i p → s ≡ stream_at program i p → ⊥) → slice_index t'' s ≡ slice_index t' s) → (q : ℕ) → q < p + 1 → Reads program i q → slice_index t'' (stream_at program i q) ≡ slice_index o (stream_at program i q) - length (waiting_of all i q)
-took_more program connected i p inside all o t t' t'' h f g q l d =
-    up_to (λ x. Reads program i x → slice_index t'' (stream_at program i x) ≡ slice_index o (stream_at program i x) - length (waiting_of all i x)) p q l
-    (λ e dq. g (stream_at program i q) (λ d' x. let y = connected.reads_one i q p dq d' x in omega arith) ∙ h q e dq) f d
+pub took_more : (program : Program) → IsConnected program → (i p : ℕ) → (a b c : Streams) → ChangesTaken a b → ((q : ℕ) → q < p → Reads program i q → slice_index b.taken.items (stream_at program i q) ≡ slice_index a.offered.items (stream_at program i q) - length (waiting_of a.ports.items i q)) → (Reads program i p → slice_index c.taken.items (stream_at program i p) ≡ slice_index b.offered.items (stream_at program i p) - length (waiting_of b.ports.items i p)) → ((s : ℕ) → (Reads program i p → s ≡ stream_at program i p → ⊥) → slice_index c.taken.items s ≡ slice_index b.taken.items s) → (q : ℕ) → q < p + 1 → Reads program i q → slice_index c.taken.items (stream_at program i q) ≡ slice_index a.offered.items (stream_at program i q) - length (waiting_of a.ports.items i q)
+took_more program connected i p a b c same h f g q l d =
+    up_to (λ x. Reads program i x → slice_index c.taken.items (stream_at program i x) ≡ slice_index a.offered.items (stream_at program i x) - length (waiting_of a.ports.items i x)) p q l
+    (λ e dq. g (stream_at program i q) (λ d' x. let y = connected.reads_one i q p dq d' x in omega arith) ∙ h q e dq)
+    (λ d'. f d' ∙ left_same a b same i p (stream_at program i p)) d
 
 pub in_more : (xs ys : List ℕ) (x : ℕ) → IsIn x xs → IsIn x (xs ++ ys)
 in_more xs ys x (n, e) = (n, get_append xs ys n x e)

@@ -17,6 +17,7 @@ use Rattle.kahn_model.proofs.Order.{prefix_length, prefix_flat_map}
 use Rattle.kahn_model.proofs.Count.{made_le}
 use Rattle.kahn_model.proofs.Reach.{reach_founded}
 use Rattle.net_core.specs.declared.ports.Ports.{Ports}
+use Rattle.net_core.specs.declared.streams.Streams.{Streams}
 use Rattle.net_core.specs.declared.body.Pause.{Pause}
 use Rattle.net_core.specs.declared.body.Pause.TheVariants.{Fuel}
 use Rattle.net_core.specs.Ports.{waiting, ends_of, ends_by, carried_by, waiting_by, room_by, ends_in, carried_of, waiting_of}
@@ -26,11 +27,11 @@ use Rattle.net_core.specs.Resume.{CanResume, Agrees, Resumed}
 use Rattle.net_core.specs.Waits.{HoldsPause, HasHeld}
 use Rattle.net_core.specs.Placement.{tick_at, IsPlaced, IsStanding, PortsAre}
 use Rattle.net_core.specs.Bindings.{IsConnected, IsReader, IsFedBySelf, TellsFedBySelf, arity, ends_at, stream_at, Reads, Writes, producer_of, consumer_of}
-use Rattle.net_core.specs.Bounded.{network_on, instance_job, IsBodyAt, count_of, HaveAnswered, IsNetAt}
+use Rattle.net_core.specs.Bounded.{network_on, instance_job, IsBodyAt, count_of, AreBound, HaveAnswered, IsNetAt}
 use Rattle.net_core.specs.State.{HasResumed, IsToldFor}
-use Rattle.net_core.specs.Load.{HasPorts, AreKept, AreLoaded, AreQueued, list_at}
+use Rattle.net_core.specs.Load.{HasTables, HasPorts, AreKept, ChangesTaken, AreLoaded, AreQueued, list_at}
 use Rattle.net_core.proofs.Moves.{drop_sum, get_set_same, get_set_other, set_some, set_none, test_true, test_false}
-use Rattle.net_core.proofs.Loaded.{in_streams, producer_in}
+use Rattle.net_core.proofs.Loaded.{in_streams, producer_in, list_kept}
 use Rattle.net_core.proofs.Queued.{queued_lists, take_longer, drop_again}
 use Rattle.net_core.proofs.Lasting.{lasts, decide_fuel}
 use Rattle.net_core.proofs.Chunk.{plus, plus_none, plus_other, Chunk}
@@ -61,26 +62,36 @@ told_for program i many made true tells pause told e h =
 told_for program i many made false tells pause told e h = record { cases = inl h; fed = λ d l. absurd (tells d.writes_at d.reads_at d.writes d.reads d.same) }
 
 -- the body of instance i is called, with its ports loaded
-pub record IsCalled {B : Type 0} (program : Program) (bodies : List B) (ports : List Ports) (writers offered taken_list : List ℕ) (i : ℕ) (ports' : List Ports) (offered' : List ℕ) (x : Ports) (b : B) : Type 0 where
+pub record IsCalled {B : Type 0} (program : Program) (bodies : List B) (t : Streams) (i : ℕ) (full : Streams) (x : Ports) (b : B) : Type 0 where
   pub inside : i < length program.instances.items
-  pub kept : AreKept ports offered ports' offered'
-  pub ready : HasPorts program ports' writers offered' taken_list
-  pub loaded : AreLoaded program (arity program i) i ports writers taken_list ports' offered'
-  pub ports_at : slice_get ports' i ≡ Some x
+  pub kept : AreKept t full
+  pub ready : HasPorts program full
+  pub loaded : AreLoaded program (arity program i) i t full
+  pub ports_at : slice_get full.ports.items i ≡ Some x
   pub body_at : slice_get bodies i ≡ Some b
 
+-- the call changed the ports of its instance alone
+pub record ChangesPorts (full : Streams) (i : ℕ) (y : Ports) (m : Streams) : Type 0 where
+  pub ports : m.ports.items ≡ slice_set full.ports.items i y
+  pub writers : m.writers.items ≡ full.writers.items
+  pub offered : m.offered.items ≡ full.offered.items
+  pub taken : m.taken.items ≡ full.taken.items
+
 -- what is written down after the call, which made `made` ticks: the tokens taken, the ticks, and what is kept of the answer
-pub record IsCounted (program : Program) (taken_list offered' counts : List ℕ) (pauses : List (Option Pause)) (i made : ℕ) (pause : Pause) (y : Ports) (t' c' : List ℕ) (pauses' : List (Option Pause)) (told : Pause) : Type 0 where
-  pub taken_len : length t' ≡ length taken_list
+pub record IsCounted (program : Program) (full : Streams) (counts : List ℕ) (pauses : List (Option Pause)) (i made : ℕ) (pause : Pause) (y : Ports) (t' : Streams) (c' : List ℕ) (pauses' : List (Option Pause)) (told : Pause) : Type 0 where
+  pub ports : t'.ports.items ≡ slice_set full.ports.items i y
+  pub writers : t'.writers.items ≡ full.writers.items
+  pub offered : t'.offered.items ≡ full.offered.items
+  pub taken_len : length t'.taken.items ≡ length full.taken.items
   pub counts_len : length c' ≡ length counts
   pub pauses_len : length pauses' ≡ length pauses
   pub ticks : (j : ℕ) → count_of c' j ≡ (if j == i then count_of counts j + made else count_of counts j)
-  pub took : (p : ℕ) → Reads program i p → slice_index t' (stream_at program i p) ≡ slice_index offered' (stream_at program i p) - length (waiting y p)
-  pub others : (s : ℕ) → ((p : ℕ) → Reads program i p → stream_at program i p ≡ s → ⊥) → slice_index t' s ≡ slice_index taken_list s
+  pub took : (p : ℕ) → Reads program i p → slice_index t'.taken.items (stream_at program i p) ≡ slice_index full.offered.items (stream_at program i p) - length (waiting y p)
+  pub others : (s : ℕ) → ((p : ℕ) → Reads program i p → stream_at program i p ≡ s → ⊥) → slice_index t'.taken.items s ≡ slice_index full.taken.items s
   pub is_told : IsToldFor program i made pause told
   pub answer : pauses' ≡ slice_set pauses i (Some told)
 
-module _ {B : Type 0} {Stands : B → Job → List Tick → Type 0} {program : Program} {input : Input} {bodies : List B} {ports : List Ports} {writers offered taken_list : List ℕ} {fed : List Bool} {counts : List ℕ} {pauses : List (Option Pause)} (n : IsNetAt Stands program input bodies ports writers offered taken_list fed counts pauses) where
+module _ {B : Type 0} {Stands : B → Job → List Tick → Type 0} {program : Program} {input : Input} {bodies : List B} {t : Streams} {fed : List Bool} {counts : List ℕ} {pauses : List (Option Pause)} (n : IsNetAt Stands program input bodies t fed counts pauses) where
   abbrev pub connected : IsConnected program
   connected = n.connected
 
@@ -96,45 +107,39 @@ module _ {B : Type 0} {Stands : B → Job → List Tick → Type 0} {program : P
   founded : IsFounded net (count_of counts)
   founded = reach_founded net (count_of counts) n.reachable
 
-  pub list_is : (s : ℕ) → s < length program.streams.items → list_at program ports writers s ≡ written net (count_of counts) s
+  pub list_is : (s : ℕ) → s < length program.streams.items → list_at program t s ≡ written net (count_of counts) s
   list_is s l =
       let w = n.writer_is s l in
-      n.carries (producer_of program s) (slice_index writers s) (producer_in program connected s l) w.0
+      n.carries (producer_of program s) (slice_index t.writers.items s) (producer_in program connected s l) w.0
       ∙ ap (written net (count_of counts)) w.1
 
-  pub has_ports : HasPorts program ports writers offered taken_list
+  pub has_ports : HasPorts program t
   has_ports = record {
-    ports_len = n.ports_len;
+    tables = n.tables;
     writers_len = n.writers_len;
-    offered_len = n.offered_len;
-    taken_len = n.taken_len;
-    ends = n.ends;
     writer_is = n.writer_is;
-    queued = queued_lists program connected ports (written net (count_of counts)) (list_at program ports writers) offered taken_list (λ s l. sym (list_is s l)) n.queued;
+    queued = queued_lists program connected t (written net (count_of counts)) (list_at program t) (λ s l. sym (list_is s l)) n.queued;
   }
 
   -- lists are the same after loading
-  loaded_list : (ports' : List Ports) (offered' : List ℕ) → AreKept ports offered ports' offered' → (s : ℕ) → s < length program.streams.items → list_at program ports' writers s ≡ written net (count_of counts) s
-  loaded_list ports' offered' kept s l = kept.carries (producer_of program s) (slice_index writers s) ∙ list_is s l
+  loaded_list : (full : Streams) → AreKept t full → (s : ℕ) → s < length program.streams.items → list_at program full s ≡ written net (count_of counts) s
+  loaded_list full kept s inside = list_kept program t full kept s ∙ list_is s inside
 
-  pub loaded_net : {ports' : List Ports} {offered' : List ℕ} → AreKept ports offered ports' offered' → HasPorts program ports' writers offered' taken_list → IsNetAt Stands program input bodies ports' writers offered' taken_list fed counts pauses
-  loaded_net {ports'} {offered'} kept ready = record {
+  pub loaded_net : {full : Streams} → AreKept t full → HasPorts program full → IsNetAt Stands program input bodies full fed counts pauses
+  loaded_net {full} kept ready = record {
     given = n.given;
-    bound = n.bound;
+    bound = subst (λ w. AreBound program w fed) (sym kept.writers) n.bound;
     answered = n.answered;
     reachable = n.reachable;
     bodies_len = n.bodies_len;
-    ports_len = ready.ports_len;
-    offered_len = ready.offered_len;
-    taken_len = n.taken_len;
-    queued = queued_lists program connected ports' (list_at program ports' writers) (written net (count_of counts)) offered' taken_list (loaded_list ports' offered' kept) ready.queued;
+    tables = ready.tables;
+    queued = queued_lists program connected full (list_at program full) (written net (count_of counts)) (loaded_list full kept) ready.queued;
     standing = n.standing;
-    ends = ready.ends;
-    carries = λ j p l d. kept.carries j p ∙ n.carries j p l d;
-    took = n.took;
+    carries = λ j p g d. kept.carries j p ∙ n.carries j p g d;
+    took = λ s g. ap (λ z. slice_index z s) kept.taken ∙ n.took s g;
   }
 
-  module _ {i : ℕ} {ports' : List Ports} {offered' : List ℕ} {x : Ports} {b : B} (called : IsCalled program bodies ports writers offered taken_list i ports' offered' x b) where
+  module _ {i : ℕ} {full : Streams} {x : Ports} {b : B} (called : IsCalled program bodies t i full x b) where
     open called use {inside, kept, ready, loaded, ports_at as ex, body_at as eb}
 
     pub ports_are : PortsAre net (count_of counts) x (stream_at program i) (Reads program i) (Writes program i)
@@ -142,15 +147,15 @@ module _ {B : Type 0} {Stands : B → Job → List Tick → Type 0} {program : P
       waits = λ p d.
           let s = stream_at program i p in
           let l = in_streams program connected i p inside d.0 in
-          ap (λ o. waiting_by o p) (sym ex) ∙ loaded.waits p d.0 d
-          ∙ ap (λ m. drop m (list_at program ports writers s)) (n.took s l)
+          ap (λ o. waiting_by o p) (sym ex) ∙ (loaded p d.0).waits d
+          ∙ ap (λ m. drop m (list_at program t s)) (n.took s l)
           ∙ ap (drop (length (taken net (count_of counts) s))) (list_is s l);
       room = λ p d.
           let s = stream_at program i p in
           let l = in_streams program connected i p inside d.0 in
-          ap (λ o. room_by o p) (sym ex) ∙ loaded.rooms p d.0 d
-          ∙ ap (λ m. m - (length (carried_of ports i p) - slice_index taken_list s)) (sym (n.network.depth s))
-          ∙ ap (λ m. net.depth s - (m - slice_index taken_list s)) (ap length (n.carries i p inside d))
+          ap (λ o. room_by o p) (sym ex) ∙ (loaded p d.0).room d
+          ∙ ap (λ m. m - (length (carried_of t.ports.items i p) - slice_index t.taken.items s)) (sym (n.network.depth s))
+          ∙ ap (λ m. net.depth s - (m - slice_index t.taken.items s)) (ap length (n.carries i p inside d))
           ∙ ap (λ m. net.depth s - (length (written net (count_of counts) s) - m)) (n.took s l);
     }
 
@@ -178,21 +183,27 @@ module _ {B : Type 0} {Stands : B → Job → List Tick → Type 0} {program : P
     by_call e = e (instance_job program input i) st.ticks st.stands ends_are agrees_at
 
     -- by what was read and written after it
-    pub counted : {old made many : ℕ} {own : Bool} {pause told : Pause} {y : Ports} {t' : List ℕ} → many ≡ made → old ≡ get_or counts i old → own ≡ get_or fed i own → told ≡ (if own && nat_lt 0 made then Fuel else pause) → length t' ≡ length taken_list → ((p : ℕ) → Reads program i p → slice_index t' (stream_at program i p) ≡ slice_index offered' (stream_at program i p) - length (waiting_of (slice_set ports' i y) i p)) → ((s : ℕ) → ((p : ℕ) → Reads program i p → stream_at program i p ≡ s → ⊥) → slice_index t' s ≡ slice_index taken_list s) → IsCounted program taken_list offered' counts pauses i many pause y t' (slice_set counts i (old + made)) (slice_set pauses i (Some told)) told
-    counted {old} {made} {many} {own} {pause} {told} {y} m read fed_at told_is len took others =
-        let l = inside in
+    pub counted : {old made many : ℕ} {own : Bool} {pause told : Pause} {y : Ports} {m t' : Streams} → ChangesPorts full i y m → many ≡ made → old ≡ get_or counts i old → own ≡ get_or fed i own → told ≡ (if own && nat_lt 0 made then Fuel else pause) → ChangesTaken m t' → ((p : ℕ) → Reads program i p → slice_index t'.taken.items (stream_at program i p) ≡ slice_index m.offered.items (stream_at program i p) - length (waiting_of m.ports.items i p)) → ((s : ℕ) → ((p : ℕ) → Reads program i p → stream_at program i p ≡ s → ⊥) → slice_index t'.taken.items s ≡ slice_index m.taken.items s) → IsCounted program full counts pauses i many pause y t' (slice_set counts i (old + made)) (slice_set pauses i (Some told)) told
+    counted {old} {made} {many} {own} {pause} {told} {y} {m} back e read fed_at told_is same took others =
         let lc = n.counts_len in
         let lf = n.fed_len in
+        let here = inside in
         let inc : i < length counts = omega arith in
         let o = get_or_from_slice_get counts i old 0 (slice_get_read counts _ i old refl inc read) in
         record {
-          taken_len = len;
+          ports = same.ports ∙ back.ports;
+          writers = same.writers ∙ back.writers;
+          offered = same.offered ∙ back.offered;
+          taken_len = same.taken_len ∙ ap length back.taken;
           counts_len = length-set counts i _;
           pauses_len = length-set pauses i _;
           ticks = count_set counts i _ many inc (omega arith);
-          took = λ p d. took p d ∙ ap (λ v. slice_index offered' (stream_at program i p) - length (waiting_by v p)) (get_set_same ports' i y (slice_get_within ports' i x ex));
-          others = others;
-          is_told = told_for program i many made own (n.fed i own (slice_get_read fed _ i own refl (omega arith) fed_at)) pause told m told_is;
+          took = λ p d.
+              took p d ∙ ap (λ z. slice_index z (stream_at program i p) - length (waiting_of m.ports.items i p)) back.offered
+              ∙ ap (λ z. slice_index full.offered.items (stream_at program i p) - length (waiting_of z i p)) back.ports
+              ∙ ap (λ v. slice_index full.offered.items (stream_at program i p) - length (waiting_by v p)) (get_set_same full.ports.items i y (slice_get_within full.ports.items i x ex));
+          others = λ s d. others s d ∙ ap (λ z. slice_index z s) back.taken;
+          is_told = told_for program i many made own (n.fed i own (slice_get_read fed _ i own refl (omega arith) fed_at)) pause told e told_is;
           answer = refl;
         }
 
@@ -210,8 +221,8 @@ module _ {B : Type 0} {Stands : B → Job → List Tick → Type 0} {program : P
       abbrev later : ℕ → ℕ
       later = plus i (length h.made) k
 
-      there : i < length ports'
-      there = slice_get_within ports' i x ex
+      there : i < length full.ports.items
+      there = slice_get_within full.ports.items i x ex
 
       chunk_is : Chunk net k i (map (tick_at f) h.made) later
       chunk_is = stepped net is_network k n.reachable i (job_at i) f (Reads program i) (Writes program i) plug (Stands b (instance_job program input i)) st x ports_are (Stands b' (instance_job program input i)) fuel pause y h
@@ -219,25 +230,25 @@ module _ {B : Type 0} {Stands : B → Job → List Tick → Type 0} {program : P
       other_same : (j : ℕ) → (j ≡ i → ⊥) → later j ≡ k j
       other_same j d = plus_other i (length h.made) j k d
 
-      enough : (p : ℕ) → Reads program i p → length (waiting y p) ≤ slice_index offered' (f p)
+      enough : (p : ℕ) → Reads program i p → length (waiting y p) ≤ slice_index full.offered.items (f p)
       enough p d =
           let s = f p in
           let l = in_streams program connected i p inside d.0 in
-          let a = loaded.offers p d.0 d in
+          let a = (loaded p d.0).offers d in
           let bl = ap length (list_is s l) in
           let c = took_count net is_network k n.reachable i (job_at i) f (Reads program i) (Writes program i) plug (Stands b (instance_job program input i)) st x ports_are (Stands b' (instance_job program input i)) fuel pause y h p in
           let w = ap length (ports_are.waits p d) in
           let e = length-drop (length (taken net k s)) (written net k s) in
           omega arith
 
-      pub enough_back : (p : ℕ) → Reads program i p → length (waiting_of (slice_set ports' i y) i p) ≤ slice_index offered' (f p)
-      enough_back p d = subst (λ o. length (waiting_by o p) ≤ slice_index offered' (f p)) (sym (get_set_same ports' i y there)) (enough p d)
+      pub enough_back : (p : ℕ) → Reads program i p → length (waiting_of (slice_set full.ports.items i y) i p) ≤ slice_index full.offered.items (f p)
+      enough_back p d = subst (λ o. length (waiting_by o p) ≤ slice_index full.offered.items (f p)) (sym (get_set_same full.ports.items i y there)) (enough p d)
 
-      took_here : (t' : List ℕ) (p : ℕ) → Reads program i p → slice_index t' (f p) ≡ slice_index offered' (f p) - length (waiting y p) → slice_index t' (f p) ≡ length (taken net later (f p))
-      took_here t' p d e =
+      took_here : (now : List ℕ) (p : ℕ) → Reads program i p → slice_index now (f p) ≡ slice_index full.offered.items (f p) - length (waiting y p) → slice_index now (f p) ≡ length (taken net later (f p))
+      took_here now p d e =
           let s = f p in
           let l = in_streams program connected i p inside d.0 in
-          let a = loaded.offers p d.0 d in
+          let a = (loaded p d.0).offers d in
           let bl = ap length (list_is s l) in
           let c = took_count net is_network k n.reachable i (job_at i) f (Reads program i) (Writes program i) plug (Stands b (instance_job program input i)) st x ports_are (Stands b' (instance_job program input i)) fuel pause y h p in
           let w = ap length (ports_are.waits p d) in
@@ -247,15 +258,15 @@ module _ {B : Type 0} {Stands : B → Job → List Tick → Type 0} {program : P
           let z = prefix_length _ _ (taken_begins net is_network k founded s) in
           omega arith
 
-      took_all : (t' : List ℕ) → ((p : ℕ) → Reads program i p → slice_index t' (f p) ≡ slice_index offered' (f p) - length (waiting y p)) → ((s : ℕ) → ((p : ℕ) → Reads program i p → f p ≡ s → ⊥) → slice_index t' s ≡ slice_index taken_list s) → (s : ℕ) → s < length program.streams.items → slice_index t' s ≡ length (taken net later s)
-      took_all t' tk to s l =
+      took_all : (now : List ℕ) → ((p : ℕ) → Reads program i p → slice_index now (f p) ≡ slice_index full.offered.items (f p) - length (waiting y p)) → ((s : ℕ) → ((p : ℕ) → Reads program i p → f p ≡ s → ⊥) → slice_index now s ≡ slice_index full.taken.items s) → (s : ℕ) → s < length program.streams.items → slice_index now s ≡ length (taken net later s)
+      took_all now tk to s l =
           ⊎_elim
           (λ (e : net.consumer s ≡ i).
           let r = subst (λ z. (p : ℕ) × IsReader program s z p) (sym (n.network.consumer s) ∙ e) (connected.read_at s l) in
-          subst (λ z. slice_index t' z ≡ length (taken net later z)) r.1.1 (took_here t' r.0 r.1.0 (tk r.0 r.1.0)))
+          subst (λ z. slice_index now z ≡ length (taken net later z)) r.1.1 (took_here now r.0 r.1.0 (tk r.0 r.1.0)))
           (λ (d : net.consumer s ≡ i → ⊥).
           let none : (p : ℕ) → Reads program i p → f p ≡ s → ⊥ = λ p w q. d (subst (λ z. net.consumer z ≡ i) q (plug.reader p w)) in
-          to s none ∙ n.took s l
+          to s none ∙ ap (λ z. slice_index z s) kept.taken ∙ n.took s l
           ∙ sym (ap length (taken_else net is_network k n.reachable i (job_at i) f (Reads program i) (Writes program i) plug (Stands b (instance_job program input i)) st x ports_are (Stands b' (instance_job program input i)) fuel pause y h s none)))
           (cases_eq (net.consumer s) i)
 
@@ -274,26 +285,34 @@ module _ {B : Type 0} {Stands : B → Job → List Tick → Type 0} {program : P
           (n.standing j c (sym (get_set_other bodies i j b' d) ∙ e)))
           (cases_eq i j)
 
-      pub ends_all : (j : ℕ) → j < length program.instances.items → ends_in (slice_set ports' i y) j ≡ ends_at program j
+      ends_all : (j : ℕ) → j < length program.instances.items → ends_in (slice_set full.ports.items i y) j ≡ ends_at program j
       ends_all j l =
-          at_or (λ z. ends_in (slice_set ports' i y) z ≡ ends_at program z) i j
-          (ap ends_by (get_set_same ports' i y there) ∙ h.moved.ends ∙ ap ends_by (sym ex) ∙ kept.ends i ∙ n.ends i inside)
-          (λ d. ap ends_by (get_set_other ports' i j y d) ∙ kept.ends j ∙ n.ends j l)
+          at_or (λ z. ends_in (slice_set full.ports.items i y) z ≡ ends_at program z) i j
+          (ap ends_by (get_set_same full.ports.items i y there) ∙ h.moved.ends ∙ ap ends_by (sym ex) ∙ kept.ends i ∙ n.ends i inside)
+          (λ d. ap ends_by (get_set_other full.ports.items i j y d) ∙ kept.ends j ∙ n.ends j l)
 
-      carries_all : (j p : ℕ) → j < length program.instances.items → Writes program j p → carried_of (slice_set ports' i y) j p ≡ written net later (stream_at program j p)
+      pub tables_back : {m : Streams} → ChangesPorts full i y m → HasTables program m
+      tables_back {m} back = record {
+        ports_len = ap length back.ports ∙ length-set full.ports.items i y ∙ ready.ports_len;
+        offered_len = ap length back.offered ∙ ready.offered_len;
+        taken_len = ap length back.taken ∙ ready.taken_len;
+        ends = λ j l. ap (λ ps. ends_in ps j) back.ports ∙ ends_all j l;
+      }
+
+      carries_all : (j p : ℕ) → j < length program.instances.items → Writes program j p → carried_of (slice_set full.ports.items i y) j p ≡ written net later (stream_at program j p)
       carries_all j p l d =
-          at_or (λ z. Writes program z p → carried_of (slice_set ports' i y) z p ≡ written net later (stream_at program z p)) i j
+          at_or (λ z. Writes program z p → carried_of (slice_set full.ports.items i y) z p ≡ written net later (stream_at program z p)) i j
           (λ d'.
-          ap (λ o. carried_by o p) (get_set_same ports' i y there) ∙ h.moved.puts p
+          ap (λ o. carried_by o p) (get_set_same full.ports.items i y there) ∙ h.moved.puts p
           ∙ ap (λ z. z ++ flat_map (put_on p) h.made) (ap (λ o. carried_by o p) (sym ex) ∙ kept.carries i p ∙ n.carries i p inside d')
           ∙ sym (carried_after net is_network k n.reachable i (job_at i) f (Reads program i) (Writes program i) plug (Stands b (instance_job program input i)) st x ports_are (Stands b' (instance_job program input i)) fuel pause y h p d'))
           (λ w _.
           let s = stream_at program j p in
           let own = (n.network.placed j l).writer p d in
-          ap (λ o. carried_by o p) (get_set_other ports' i j y w) ∙ kept.carries j p ∙ n.carries j p l d
+          ap (λ o. carried_by o p) (get_set_other full.ports.items i j y w) ∙ kept.carries j p ∙ n.carries j p l d
           ∙ ap (flat_map (put_on s)) (sym (chunk_is.other (net.producer s) (λ e. w (sym e ∙ own))))) d
 
-      module _ {t' c' : List ℕ} {pauses' : List (Option Pause)} {told : Pause} (after : IsCounted program taken_list offered' counts pauses i (length h.made) pause y t' c' pauses' told) where
+      module _ {t' : Streams} {c' : List ℕ} {pauses' : List (Option Pause)} {told : Pause} (after : IsCounted program full counts pauses i (length h.made) pause y t' c' pauses' told) where
         open after use {taken_len as len', counts_len as clen', pauses_len as plen', ticks as ec, took as tk, others as to, is_told, answer as ep}
 
         same_count : later ≡ count_of c'
@@ -365,51 +384,54 @@ module _ {B : Type 0} {Stands : B → Job → List Tick → Type 0} {program : P
               for_good = λ l. lasts net is_network k (count_of c') above n.reachable reached j (stream_at program j) z l (o.for_good l);
             }
 
-        queued_all : AreQueued program (slice_set ports' i y) (written net (count_of c')) offered' t'
+        queued_all : AreQueued program t' (written net (count_of c'))
         queued_all = record {
           waits = λ j p l d.
-              at_or (λ z. Reads program z p → waiting_of (slice_set ports' i y) z p ≡ drop (slice_index t' (stream_at program z p)) (take (slice_index offered' (stream_at program z p)) (written net (count_of c') (stream_at program z p)))) i j
+              ap (λ ps. waiting_of ps j p) after.ports
+              ∙ at_or (λ z. Reads program z p → waiting_of (slice_set full.ports.items i y) z p ≡ drop (slice_index t'.taken.items (stream_at program z p)) (take (slice_index full.offered.items (stream_at program z p)) (written net (count_of c') (stream_at program z p)))) i j
               (queued_own p)
               (λ w _.
               let s = stream_at program j p in
               let none : (r : ℕ) → Reads program i r → f r ≡ s → ⊥ = λ r dr e. w (sym (connected.reader i r dr) ∙ ap (consumer_of program) e ∙ connected.reader j p d) in
-              ap (λ o. waiting_by o p) (get_set_other ports' i j y w) ∙ ready_now.waits j p l d
-              ∙ ap (λ m. drop m (take (slice_index offered' s) (written net k s))) (sym (to s none))
-              ∙ ap (drop (slice_index t' s)) (sym (longer s (in_streams program connected j p l d.0)))) d;
-          offered_within = λ s l. let a = ready_now.offered_within s l in let g = prefix_length _ _ (grown s) in omega arith;
+              ap (λ o. waiting_by o p) (get_set_other full.ports.items i j y w) ∙ ready_now.waits j p l d
+              ∙ ap (λ m. drop m (take (slice_index full.offered.items s) (written net k s))) (sym (to s none))
+              ∙ ap (drop (slice_index t'.taken.items s)) (sym (longer s (in_streams program connected j p l d.0)))) d
+              ∙ ap (λ o. drop (slice_index t'.taken.items (stream_at program j p)) (take (slice_index o (stream_at program j p)) (written net (count_of c') (stream_at program j p)))) (sym after.offered);
+          offered_within = λ s l. let o = ap (λ z. slice_index z s) after.offered in let a = ready_now.offered_within s l in let g = prefix_length _ _ (grown s) in omega arith;
           taken_within = λ s l.
-              ⊎_elim
+              subst (λ z. slice_index t'.taken.items s ≤ slice_index z s) (sym after.offered)
+              (⊎_elim
               (λ (e : consumer_of program s ≡ i).
               let r = subst (λ z. (p : ℕ) × IsReader program s z p) e (connected.read_at s l) in
-              subst (λ z. slice_index t' z ≤ slice_index offered' z) r.1.1 (let a = tk r.0 r.1.0 in omega arith))
+              subst (λ z. slice_index t'.taken.items z ≤ slice_index full.offered.items z) r.1.1 (let a = tk r.0 r.1.0 in omega arith))
               (λ (d : consumer_of program s ≡ i → ⊥).
               let a = to s (λ p w q. d (ap (consumer_of program) (sym q) ∙ connected.reader i p w)) in
               let g = ready_now.taken_within s l in
               omega arith)
-              (cases_eq (consumer_of program s) i);
+              (cases_eq (consumer_of program s) i));
         }
           where
-            ready_now : AreQueued program ports' (written net k) offered' taken_list
-            ready_now = queued_lists program connected ports' (list_at program ports' writers) (written net k) offered' taken_list (loaded_list ports' offered' kept) ready.queued
+            ready_now : AreQueued program full (written net k)
+            ready_now = queued_lists program connected full (list_at program full) (written net k) (loaded_list full kept) ready.queued
 
             grown : (s : ℕ) → IsPrefixOf (written net k s) (written net (count_of c') s)
             grown s = prefix_flat_map (put_on s) _ _ (made_le net is_network k (count_of c') above (net.producer s))
 
-            longer : (s : ℕ) → s < length program.streams.items → take (slice_index offered' s) (written net (count_of c') s) ≡ take (slice_index offered' s) (written net k s)
-            longer s l = take_longer (slice_index offered' s) (written net k s) (written net (count_of c') s) (grown s) (ready_now.offered_within s l)
+            longer : (s : ℕ) → s < length program.streams.items → take (slice_index full.offered.items s) (written net (count_of c') s) ≡ take (slice_index full.offered.items s) (written net k s)
+            longer s l = take_longer (slice_index full.offered.items s) (written net k s) (written net (count_of c') s) (grown s) (ready_now.offered_within s l)
 
-            queued_own : (p : ℕ) → Reads program i p → waiting_of (slice_set ports' i y) i p ≡ drop (slice_index t' (f p)) (take (slice_index offered' (f p)) (written net (count_of c') (f p)))
+            queued_own : (p : ℕ) → Reads program i p → waiting_of (slice_set full.ports.items i y) i p ≡ drop (slice_index t'.taken.items (f p)) (take (slice_index full.offered.items (f p)) (written net (count_of c') (f p)))
             queued_own p d =
                 let s = f p in
                 let l = in_streams program connected i p inside d.0 in
-                let list = take (slice_index offered' s) (written net k s) in
+                let list = take (slice_index full.offered.items s) (written net k s) in
                 let m = length (flat_map (take_from p) h.made) in
-                let before : waiting x p ≡ drop (slice_index taken_list s) list = ap (λ o. waiting_by o p) (sym ex) ∙ ready_now.waits i p inside d in
-                let here : waiting y p ≡ drop (slice_index taken_list s + m) list = h.moved.waits p ∙ ap (drop m) before ∙ drop_sum (slice_index taken_list s) m (slice_index taken_list s + m) list refl in
-                let n1 : length list ≡ slice_index offered' s = length-take-le (slice_index offered' s) (written net k s) (ready_now.offered_within s l) in
-                ap (λ o. waiting_by o p) (get_set_same ports' i y there) ∙ here ∙ drop_again (slice_index taken_list s + m) list
-                ∙ ap (λ v. drop v list) (ap (λ v. v - length (drop (slice_index taken_list s + m) list)) n1 ∙ ap (λ (z : List Token). slice_index offered' s - length z) (sym here) ∙ sym (tk p d))
-                ∙ ap (drop (slice_index t' s)) (sym (longer s l))
+                let before : waiting x p ≡ drop (slice_index full.taken.items s) list = ap (λ o. waiting_by o p) (sym ex) ∙ ready_now.waits i p inside d in
+                let here : waiting y p ≡ drop (slice_index full.taken.items s + m) list = h.moved.waits p ∙ ap (drop m) before ∙ drop_sum (slice_index full.taken.items s) m (slice_index full.taken.items s + m) list refl in
+                let n1 : length list ≡ slice_index full.offered.items s = length-take-le (slice_index full.offered.items s) (written net k s) (ready_now.offered_within s l) in
+                ap (λ o. waiting_by o p) (get_set_same full.ports.items i y there) ∙ here ∙ drop_again (slice_index full.taken.items s + m) list
+                ∙ ap (λ v. drop v list) (ap (λ v. v - length (drop (slice_index full.taken.items s + m) list)) n1 ∙ ap (λ (z : List Token). slice_index full.offered.items s - length z) (sym here) ∙ sym (tk p d))
+                ∙ ap (drop (slice_index t'.taken.items s)) (sym (longer s l))
 
         answered_all : HaveAnswered program input c' pauses'
         answered_all = record {
@@ -421,21 +443,23 @@ module _ {B : Type 0} {Stands : B → Job → List Tick → Type 0} {program : P
               sym (ap (λ m. m j) same_count) ∙ other_same j o.0 ∙ n.unresumed j o.1;
         }
 
-        pub net_is : IsNetAt Stands program input (slice_set bodies i b') (slice_set ports' i y) writers offered' t' fed c' pauses'
+        pub net_is : IsNetAt Stands program input (slice_set bodies i b') t' fed c' pauses'
         net_is = record {
           given = n.given;
-          bound = n.bound;
+          bound = subst (λ w. AreBound program w fed) (sym (after.writers ∙ kept.writers)) n.bound;
           answered = answered_all;
           reachable = reached;
           bodies_len = length-set bodies i b' ∙ n.bodies_len;
-          ports_len = length-set ports' i y ∙ kept.len ∙ n.ports_len;
-          offered_len = kept.offered_len ∙ n.offered_len;
-          taken_len = len' ∙ n.taken_len;
+          tables = record {
+            ports_len = ap length after.ports ∙ length-set full.ports.items i y ∙ ready.ports_len;
+            offered_len = ap length after.offered ∙ ready.offered_len;
+            taken_len = len' ∙ ready.taken_len;
+            ends = λ j l. ap (λ ps. ends_in ps j) after.ports ∙ ends_all j l;
+          };
           queued = queued_all;
           standing = λ j c e. subst (λ m. IsStanding (Stands c (instance_job program input j)) net m j (job_at j) (stream_at program j)) same_count (standing_all j c e);
-          ends = ends_all;
-          carries = λ j p l d. carries_all j p l d ∙ ap (λ m. written net m (stream_at program j p)) same_count;
-          took = λ s l. took_all t' tk to s l ∙ ap (λ m. length (taken net m s)) same_count;
+          carries = λ j p l d. ap (λ ps. carried_of ps j p) after.ports ∙ carries_all j p l d ∙ ap (λ m. written net m (stream_at program j p)) same_count;
+          took = λ s l. took_all t'.taken.items tk to s l ∙ ap (λ m. length (taken net m s)) same_count;
         }
 
         pub others_hold : (j : ℕ) (z : Pause) → (j ≡ i → ⊥) → j < length program.instances.items → ((s : ℕ) → consumer_of program s ≡ j → written net (count_of c') s ≡ written net k s) → ((s : ℕ) → producer_of program s ≡ j → taken net (count_of c') s ≡ taken net k s) → (z ≡ Fuel → ⊥) → HoldsPause net k j (stream_at program j) z → HoldsPause net (count_of c') j (stream_at program j) z

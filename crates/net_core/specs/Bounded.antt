@@ -13,11 +13,11 @@ use Rattle.tapa_syntax.specs.WellFormed.{IsWellFormed}
 use Rattle.kahn_model.specs.Start.{first_state, network_of}
 use Rattle.kahn_model.specs.Fits.{FitsInput}
 use Rattle.net_core.specs.declared.input.Input.{Input}
-use Rattle.net_core.specs.declared.ports.Ports.{Ports}
+use Rattle.net_core.specs.declared.streams.Streams.{Streams}
 use Rattle.net_core.specs.declared.body.Pause.{Pause}
 use Rattle.net_core.specs.Job.{Job}
-use Rattle.net_core.specs.Ports.{carried_of, ends_in}
-use Rattle.net_core.specs.Load.{AreQueued}
+use Rattle.net_core.specs.Ports.{carried_of}
+use Rattle.net_core.specs.Load.{HasTables, AreQueued}
 use Rattle.net_core.specs.Waits.{HasHeld}
 use Rattle.net_core.specs.Placement.{IsPlaced, IsStanding}
 use Rattle.net_core.specs.Bindings.{leaf_at, ends_at, stream_at, Reads, Writes, producer_of, consumer_of, depth_of, IsConnected, IsWriter, TellsFedBySelf}
@@ -97,21 +97,19 @@ pub record HaveAnswered (program : Program) (input : Input) (counts : List ℕ) 
   pub unresumed : (i : ℕ) → slice_get pauses i ≡ Some None → count_of counts i ≡ 0
 
 -- a net is at its count
-pub record IsNetAt {B : Type 0} (Stands : B → Job → List Tick → Type 0) (program : Program) (input : Input) (bodies : List B) (ports : List Ports)
-    (writers offered taken_list : List ℕ) (fed_by_self : List Bool) (counts : List ℕ) (pauses : List (Option Pause)) : Type 0 where
+pub record IsNetAt {B : Type 0} (Stands : B → Job → List Tick → Type 0) (program : Program) (input : Input) (bodies : List B) (streams : Streams)
+    (fed_by_self : List Bool) (counts : List ℕ) (pauses : List (Option Pause)) : Type 0 where
   pub given : IsGiven program input
   pub open given use *
-  pub bound : AreBound program writers fed_by_self
+  pub bound : AreBound program streams.writers.items fed_by_self
   pub open bound use *
   pub answered : HaveAnswered program input counts pauses
   pub open answered use *
   pub reachable : IsReachable (network_on program input) (count_of counts)
   pub bodies_len : length bodies ≡ length program.instances.items
-  pub ports_len : length ports ≡ length program.instances.items
-  pub offered_len : length offered ≡ length program.streams.items
-  pub taken_len : length taken_list ≡ length program.streams.items
-  pub queued : AreQueued program ports (written (network_on program input) (count_of counts)) offered taken_list
+  pub tables : HasTables program streams
+  pub open tables use *
+  pub queued : AreQueued program streams (written (network_on program input) (count_of counts))
   pub standing : (i : ℕ) (b : B) → slice_get bodies i ≡ Some b → IsBodyAt (Stands b) program input counts i
-  pub ends : (i : ℕ) → i < length program.instances.items → ends_in ports i ≡ ends_at program i
-  pub carries : (i p : ℕ) → i < length program.instances.items → Writes program i p → carried_of ports i p ≡ written (network_on program input) (count_of counts) (stream_at program i p)
-  pub took : (s : ℕ) → s < length program.streams.items → slice_index taken_list s ≡ length (taken (network_on program input) (count_of counts) s)
+  pub carries : (i p : ℕ) → i < length program.instances.items → Writes program i p → carried_of streams.ports.items i p ≡ written (network_on program input) (count_of counts) (stream_at program i p)
+  pub took : (s : ℕ) → s < length program.streams.items → slice_index streams.taken.items s ≡ length (taken (network_on program input) (count_of counts) s)

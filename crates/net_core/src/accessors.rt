@@ -34,7 +34,7 @@ impl<B: Body> Net<B> {
         ensures { result.now ≡ written (network self.now) (count self.now) stream }
     {
         let j = producer(&self.program, stream as usize);
-        self.ports[j].carried(self.writers[stream as usize])
+        self.streams.ports[j].carried(self.streams.writers[stream as usize])
     }
 
     /// How many of them the stream's consumer has taken.
@@ -42,7 +42,7 @@ impl<B: Body> Net<B> {
         requires { stream < length self.now.program.streams.items }
         ensures { result ≡ length (taken (network self.now) (count self.now) stream) }
     {
-        self.taken[stream as usize] as u64
+        self.streams.taken[stream as usize] as u64
     }
 
     /// What a run shows of a stream where every instance that is waited for has ended: the tokens that were written where its producer
@@ -58,7 +58,7 @@ impl<B: Body> Net<B> {
         if self.is_detached(consumer(&self.program, s)) {
             return &[];
         }
-        &self.carried(stream)[..self.taken[s]]
+        &self.carried(stream)[..self.streams.taken[s]]
     }
 
     /// Returns the answer of the last resume of an instance, or `None` before its first. The answer was true at some count of this run, and it is true now if it

@@ -14,6 +14,7 @@ use crate::input::Input;
 use crate::net::Net;
 use crate::port::Port;
 use crate::ports::Ports;
+use crate::streams::Streams;
 use std::alloc::Global;
 use std::sync::Arc;
 use tapa_base::OutOfMemory;
@@ -157,10 +158,12 @@ impl<B: Body + Drop> Net<B> {
             program,
             input,
             bodies,
-            ports,
-            writers,
-            offered,
-            taken,
+            streams: Streams {
+                ports,
+                writers,
+                offered,
+                taken,
+            },
             fed_by_self,
             counts,
             pauses,

@@ -4,11 +4,12 @@ ghost use Rattle.std.specs.Prelude.{ℕ, ◌≡◌, ◌<◌, ◌≤◌, ◌-◌,
 ghost use Rattle.net_core.specs.declared.ports.Ports.{Ports};
 ghost use Rattle.net_core.specs.Ports.{IsReloaded, ends_in, carried_of, waiting_of, room_of, port_count, kind_at};
 ghost use Rattle.net_core.specs.Bindings.{IsConnected, arity, ends_at, stream_at, Reads, Writes, producer_of, consumer_of, depth_of};
-ghost use Rattle.net_core.specs.Load.{IsIn, AreBelow, AreListed, AreKept, AreLoaded, IsLoaded, IsOffered, AreWoken, AreNeighbours, HasPorts, list_at};
+ghost use Rattle.net_core.specs.Load.{IsIn, AreBelow, AreListed, AreKept, AreLoaded, IsLoaded, IsOffered, Reloads, ChangesTaken, AreWoken, AreNeighbours, HasPorts, HasTables, list_at};
 ghost use Rattle.net_core.specs.Ties.{IsTie, AreTies};
 
 use crate::bindings::{arity, consumer, producer, stream_at, writes_at};
 use crate::ports::Ports;
+use crate::streams::Streams;
 use crate::ties::{Tie, is_writing};
 use std::alloc::Global;
 use tapa_base::{OutOfMemory, Token};
@@ -76,39 +77,6 @@ fn offer_more(
     offer_own(alloc, all, i, p, q, from)
 }
 
-// Loads a port that reads.
-fn load_reader(
-    alloc: Global,
-    program: &Program,
-    all: &mut Vec<Ports>,
-    writers: &Vec<usize>,
-    offered: &mut Vec<usize>,
-    taken: &Vec<usize>,
-    tie: &Tie,
-    i: usize,
-    p: usize,
-) -> Result<(), OutOfMemory>
-    requires connected { IsConnected program.now }
-    requires ports { HasPorts program.now all.old.items writers.now.items offered.old.items taken.now.items }
-    requires tie { IsTie program.now i p tie.now }
-    requires written { slice_index writers.now.items tie.now.stream ≡ tie.now.position }
-    requires instance { i < length program.now.instances.items }
-    requires reads { Reads program.now i p }
-    ensures reloaded { IsReloaded all.old.items i p all.new.items }
-    ensures offered_len { length offered.new.items ≡ length offered.old.items }
-    ensures offers { IsOffered program.now i p all.old.items writers.now.items taken.now.items offered.old.items all.new.items offered.new.items }
-    ensures whole { IfOk result (λ _. slice_index offered.new.items (stream_at program.now i p) ≡ length (list_at program.now all.old.items writers.now.items (stream_at program.now i p))) }
-    ensures others { (s : ℕ) → (s ≡ stream_at program.now i p → ⊥) → slice_index offered.new.items s ≡ slice_index offered.old.items s }
-{
-    let total = all[tie.producer].carried(tie.position).len();
-    let from = offered[tie.stream];
-    if from < total {
-        offer_more(alloc, all, i, p, tie.producer, tie.position, from)?;
-        offered[tie.stream] = total;
-    }
-    Ok(())
-}
-
 // Makes room at a port that writes.
 fn load_writer(
     program: &Program,
@@ -135,116 +103,125 @@ fn load_writer(
     all[i].make_room(p, room)
 }
 
-// Loads one port.
-fn load_port(
-    alloc: Global,
-    program: &Program,
-    all: &mut Vec<Ports>,
-    writers: &Vec<usize>,
-    offered: &mut Vec<usize>,
-    taken: &Vec<usize>,
-    tie: &Tie,
-    i: usize,
-    p: usize,
-) -> Result<(), OutOfMemory>
-    requires connected { IsConnected program.now }
-    requires ports { HasPorts program.now all.old.items writers.now.items offered.old.items taken.now.items }
-    requires tie { IsTie program.now i p tie.now }
-    requires written { slice_index writers.now.items tie.now.stream ≡ tie.now.position }
-    requires instance { i < length program.now.instances.items }
-    requires position { p < arity program.now i }
-    ensures reloaded { IsReloaded all.old.items i p all.new.items }
-    ensures ports { HasPorts program.now all.new.items writers.now.items offered.new.items taken.now.items }
-    ensures loaded { IfOk result (λ _. IsLoaded program.now i p all.old.items writers.now.items taken.now.items offered.old.items all.new.items offered.new.items) }
-{
-    if is_writing(program, tie, i, p) {
-        load_writer(program, all, taken, tie, i, p)
-    } else {
-        load_reader(alloc, program, all, writers, offered, taken, tie, i, p)
+impl Streams {
+    // Loads a port that reads.
+    fn load_reader(
+        &mut self,
+        alloc: Global,
+        program: &Program,
+        tie: &Tie,
+        i: usize,
+        p: usize,
+    ) -> Result<(), OutOfMemory>
+        requires connected { IsConnected program.now }
+        requires ports { HasPorts program.now self.old }
+        requires tie { IsTie program.now i p tie.now }
+        requires instance { i < length program.now.instances.items }
+        requires reads { Reads program.now i p }
+        ensures reloaded { Reloads program.now i p self.old self.new }
+        ensures offers { IsOffered program.now i p self.old self.new }
+        ensures whole { IfOk result (λ _. slice_index self.new.offered.items (stream_at program.now i p) ≡ length (list_at program.now self.old (stream_at program.now i p))) }
+    {
+        let total = self.ports[tie.producer].carried(tie.position).len();
+        let from = self.offered[tie.stream];
+        if from < total {
+            offer_more(
+                alloc,
+                &mut self.ports,
+                i,
+                p,
+                tie.producer,
+                tie.position,
+                from,
+            )?;
+            self.offered[tie.stream] = total;
+        }
+        Ok(())
     }
-}
 
-/// Loads the ports of an instance.
-pub fn load_ports(
-    alloc: Global,
-    program: &Program,
-    all: &mut Vec<Ports>,
-    writers: &Vec<usize>,
-    offered: &mut Vec<usize>,
-    taken: &Vec<usize>,
-    ties: &Vec<Tie>,
-    i: usize,
-) -> Result<(), OutOfMemory>
-    requires connected { IsConnected program.now }
-    requires ports { HasPorts program.now all.old.items writers.now.items offered.old.items taken.now.items }
-    requires instance { i < length program.now.instances.items }
-    requires as_many { length ties.now.items ≡ arity program.now i }
-    requires ties { AreTies program.now i ties.now.items }
-    ensures kept { AreKept all.old.items offered.old.items all.new.items offered.new.items }
-    ensures ports { HasPorts program.now all.new.items writers.now.items offered.new.items taken.now.items }
-    ensures loaded { IfOk result (λ _. AreLoaded program.now (arity program.now i) i all.old.items writers.now.items taken.now.items all.new.items offered.new.items) }
-{
-    for p in 0..ties.len() {
-        load_port(alloc, program, all, writers, offered, taken, &ties[p], i, p)?;
+    // Loads one port.
+    fn load_port(
+        &mut self,
+        alloc: Global,
+        program: &Program,
+        tie: &Tie,
+        i: usize,
+        p: usize,
+    ) -> Result<(), OutOfMemory>
+        requires connected { IsConnected program.now }
+        requires ports { HasPorts program.now self.old }
+        requires tie { IsTie program.now i p tie.now }
+        requires instance { i < length program.now.instances.items }
+        requires position { p < arity program.now i }
+        ensures reloaded { Reloads program.now i p self.old self.new }
+        ensures ports { HasPorts program.now self.new }
+        ensures loaded { IfOk result (λ _. IsLoaded program.now i p self.old self.new) }
+    {
+        if is_writing(program, tie, i, p) {
+            load_writer(program, &mut self.ports, &self.taken, tie, i, p)
+        } else {
+            self.load_reader(alloc, program, tie, i, p)
+        }
     }
-    Ok(())
-}
 
-// Takes over what an instance took at one port.
-fn count_taken_at(
-    program: &Program,
-    all: &Vec<Ports>,
-    offered: &Vec<usize>,
-    taken: &mut Vec<usize>,
-    tie: &Tie,
-    i: usize,
-    p: usize,
-)
-    requires connected { IsConnected program.now }
-    requires tie { IsTie program.now i p tie.now }
-    requires instance { i < length program.now.instances.items }
-    requires position { p < arity program.now i }
-    requires ports_len { length all.now.items ≡ length program.now.instances.items }
-    requires ends { ends_in all.now.items i ≡ ends_at program.now i }
-    requires offered_len { length offered.now.items ≡ length program.now.streams.items }
-    requires taken_len { length taken.old.items ≡ length program.now.streams.items }
-    requires enough { Reads program.now i p → length (waiting_of all.now.items i p) ≤ slice_index offered.now.items (stream_at program.now i p) }
-    ensures len { length taken.new.items ≡ length taken.old.items }
-    ensures took { Reads program.now i p → slice_index taken.new.items (stream_at program.now i p)
-        ≡ slice_index offered.now.items (stream_at program.now i p) - length (waiting_of all.now.items i p) }
-    ensures others { (s : ℕ) → (Reads program.now i p → s ≡ stream_at program.now i p → ⊥) → slice_index taken.new.items s ≡ slice_index taken.old.items s }
-{
-    if is_writing(program, tie, i, p) {
-        return;
+    /// Loads the ports of an instance.
+    pub fn load_ports(
+        &mut self,
+        alloc: Global,
+        program: &Program,
+        ties: &Vec<Tie>,
+        i: usize,
+    ) -> Result<(), OutOfMemory>
+        requires connected { IsConnected program.now }
+        requires ports { HasPorts program.now self.old }
+        requires instance { i < length program.now.instances.items }
+        requires as_many { length ties.now.items ≡ arity program.now i }
+        requires ties { AreTies program.now i ties.now.items }
+        ensures kept { AreKept self.old self.new }
+        ensures ports { HasPorts program.now self.new }
+        ensures loaded { IfOk result (λ _. AreLoaded program.now (arity program.now i) i self.old self.new) }
+    {
+        for p in 0..ties.len() {
+            self.load_port(alloc, program, &ties[p], i, p)?;
+        }
+        Ok(())
     }
-    taken[tie.stream] = offered[tie.stream] - all[i].left(p);
-}
 
-/// Takes over what an instance took from its ports.
-pub fn count_taken(
-    program: &Program,
-    all: &Vec<Ports>,
-    offered: &Vec<usize>,
-    taken: &mut Vec<usize>,
-    ties: &Vec<Tie>,
-    i: usize,
-)
-    requires connected { IsConnected program.now }
-    requires instance { i < length program.now.instances.items }
-    requires as_many { length ties.now.items ≡ arity program.now i }
-    requires ties { AreTies program.now i ties.now.items }
-    requires ports_len { length all.now.items ≡ length program.now.instances.items }
-    requires ends { ends_in all.now.items i ≡ ends_at program.now i }
-    requires offered_len { length offered.now.items ≡ length program.now.streams.items }
-    requires taken_len { length taken.old.items ≡ length program.now.streams.items }
-    requires enough { (p : ℕ) → Reads program.now i p → length (waiting_of all.now.items i p) ≤ slice_index offered.now.items (stream_at program.now i p) }
-    ensures len { length taken.new.items ≡ length taken.old.items }
-    ensures took { (p : ℕ) → Reads program.now i p → slice_index taken.new.items (stream_at program.now i p) ≡ slice_index offered.now.items (stream_at program.now i p) - length
-        (waiting_of all.now.items i p) }
-    ensures others { (s : ℕ) → ((p : ℕ) → Reads program.now i p → stream_at program.now i p ≡ s → ⊥) → slice_index taken.new.items s ≡ slice_index taken.old.items s }
-{
-    for p in 0..ties.len() {
-        count_taken_at(program, all, offered, taken, &ties[p], i, p);
+    // Takes over what an instance took at one port.
+    fn count_taken_at(&mut self, program: &Program, tie: &Tie, i: usize, p: usize)
+        requires connected { IsConnected program.now }
+        requires tables { HasTables program.now self.old }
+        requires tie { IsTie program.now i p tie.now }
+        requires instance { i < length program.now.instances.items }
+        requires position { p < arity program.now i }
+        requires enough { Reads program.now i p → length (waiting_of self.old.ports.items i p) ≤ slice_index self.old.offered.items (stream_at program.now i p) }
+        ensures same { ChangesTaken self.old self.new }
+        ensures took { Reads program.now i p → slice_index self.new.taken.items (stream_at program.now i p)
+            ≡ slice_index self.old.offered.items (stream_at program.now i p) - length (waiting_of self.old.ports.items i p) }
+        ensures others { (s : ℕ) → (Reads program.now i p → s ≡ stream_at program.now i p → ⊥) → slice_index self.new.taken.items s ≡ slice_index self.old.taken.items s }
+    {
+        if is_writing(program, tie, i, p) {
+            return;
+        }
+        self.taken[tie.stream] = self.offered[tie.stream] - self.ports[i].left(p);
+    }
+
+    /// Takes over what an instance took from its ports.
+    pub fn count_taken(&mut self, program: &Program, ties: &Vec<Tie>, i: usize)
+        requires connected { IsConnected program.now }
+        requires tables { HasTables program.now self.old }
+        requires instance { i < length program.now.instances.items }
+        requires as_many { length ties.now.items ≡ arity program.now i }
+        requires ties { AreTies program.now i ties.now.items }
+        requires enough { (p : ℕ) → Reads program.now i p → length (waiting_of self.old.ports.items i p) ≤ slice_index self.old.offered.items (stream_at program.now i p) }
+        ensures same { ChangesTaken self.old self.new }
+        ensures took { (p : ℕ) → Reads program.now i p → slice_index self.new.taken.items (stream_at program.now i p)
+            ≡ slice_index self.old.offered.items (stream_at program.now i p) - length (waiting_of self.old.ports.items i p) }
+        ensures others { (s : ℕ) → ((p : ℕ) → Reads program.now i p → stream_at program.now i p ≡ s → ⊥) → slice_index self.new.taken.items s ≡ slice_index self.old.taken.items s }
+    {
+        for p in 0..ties.len() {
+            self.count_taken_at(program, &ties[p], i, p);
+        }
     }
 }
 

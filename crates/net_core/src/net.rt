@@ -1,24 +1,18 @@
-// The state of a network: its program and input, the body, ports and count of ticks of each instance, and the tokens taken of each stream.
+// The state of a network: its program and input, its streams, and the body and the count of ticks of each instance.
 use crate::body::{Body, Pause};
 use crate::input::Input;
-use crate::ports::Ports;
+use crate::streams::Streams;
 use std::marker::Model;
 use std::sync::Arc;
 use tapa_syntax::Program;
 
-/// A program on an input, at a count of the ticks of its instances. Each stream's tokens are at the port of its producer.
+/// A program on an input, at a count of the ticks of its instances.
 #[derive(Drop)]
 pub struct Net<B: Body> {
     pub program: Arc<Program>,
     pub input: Arc<Input>,
     pub bodies: Vec<B>,
-    pub ports: Vec<Ports>,
-    /// For each stream the position of its producer's port.
-    pub writers: Vec<usize>,
-    /// For each stream how many tokens it had when its reader's port was last loaded.
-    pub offered: Vec<usize>,
-    /// For each stream how many tokens were taken.
-    pub taken: Vec<usize>,
+    pub streams: Streams,
     /// For each instance whether it reads a stream that it writes.
     pub fed_by_self: Vec<bool>,
     pub counts: Vec<u64>,
@@ -39,6 +33,5 @@ impl<B: Body> Model for Net<B> {
 
     ghost view = { λ n. record { program = arc_value n.program; input = arc_value n.input; counts = n.counts.items; pauses = n.pauses.items } };
 
-    ghost invariant = { λ n. IsNetAt B.stands (arc_value n.program)
-        (arc_value n.input) n.bodies.items n.ports.items n.writers.items n.offered.items n.taken.items n.fed_by_self.items n.counts.items n.pauses.items };
+    ghost invariant = { λ n. IsNetAt B.stands (arc_value n.program) (arc_value n.input) n.bodies.items n.streams n.fed_by_self.items n.counts.items n.pauses.items };
 }

@@ -10,7 +10,6 @@ ghost use Rattle.net_core.specs.Bindings.{arity};
 ghost use Rattle.net_core.specs.Ties.{AreTies};
 
 use crate::body::{Body, Pause};
-use crate::load::{count_taken, load_ports};
 use crate::net::Net;
 use crate::ports::Ports;
 use crate::ties::Tie;
@@ -57,18 +56,9 @@ pub fn resume_instance<B: Body>(
     ensures resumed { IfOk result (λ r. HasResumed net.old net.new i fuel r.0 r.1) }
 {
     let program: &Program = &net.program;
-    load_ports(
-        alloc,
-        program,
-        &mut net.ports,
-        &net.writers,
-        &mut net.offered,
-        &net.taken,
-        ties,
-        i,
-    )?;
-    let (pause, made) = resume_body(&mut net.bodies[i], &mut net.ports[i], fuel);
-    count_taken(program, &net.ports, &net.offered, &mut net.taken, ties, i);
+    net.streams.load_ports(alloc, program, ties, i)?;
+    let (pause, made) = resume_body(&mut net.bodies[i], &mut net.streams.ports[i], fuel);
+    net.streams.count_taken(program, ties, i);
     net.counts[i] += made;
     net.pauses[i] = Some(told(net.fed_by_self[i], made, pause));
     Ok((pause, made))

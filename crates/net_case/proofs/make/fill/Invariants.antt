@@ -9,7 +9,7 @@ use Rattle.net_case.proofs.make.fill.Given as goal
 abbrev pub invariant-loop-s : goal.invariant-loop-s
 invariant-loop-s l = record {
   len : length l.queues.items ≡ length l.program.streams.items;
-  filled : (t : ℕ) (q : Queue) → t < l.s → slice_get l.queues.items t ≡ Some q → waits q ≡ queue_at l.program l.all.items l.writers.items l.taken.items t;
+  filled : (t : ℕ) (q : Queue) → t < l.s → slice_get l.queues.items t ≡ Some q → waits q ≡ queue_at l.program l.streams t;
   empty : (t : ℕ) (q : Queue) → l.s ≤ t → slice_get l.queues.items t ≡ Some q → waits q ≡ [];
   spaces : (t : ℕ) (q : Queue) → slice_get l.queues.items t ≡ Some q → 2 * depth_of l.program t ≤ space q;
 }

@@ -26,7 +26,7 @@ all_ties-requires-clause-writers_len g c = c.net.invariant.writers_len ∙ ap (�
 
 pub all_ties-requires-clause-writers : goal.all_ties-requires-clause-writers
 all_ties-requires-clause-writers g c =
-    let writers = c.net.inside.writers.items in
+    let writers = c.net.inside.streams.writers.items in
     subst (λ (p : Program). (s : ℕ) → s < length p.streams.items → IsWriter p s (producer_of p s) (slice_index writers s)) (sym c.deref.ensures) c.net.invariant.writer_is
 
 pub pass-requires-clause-ties_len : goal.pass-requires-clause-ties_len

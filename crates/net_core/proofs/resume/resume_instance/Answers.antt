@@ -10,7 +10,7 @@ use Rattle.net_core.specs.Load.{HasPorts}
 use Rattle.net_core.specs.State.{count, HasResumed}
 use Rattle.net_core.specs.Ties.{AreTies}
 use Rattle.net_core.specs.declared.net_state.NetState.{NetState}
-use Rattle.net_core.proofs.Resuming.{IsCalled, loaded_net, has_ports, can_resume, by_call, counted, ends_all, enough_back, net_is, has_resumed}
+use Rattle.net_core.proofs.Resuming.{IsCalled, loaded_net, has_ports, can_resume, by_call, counted, tables_back, enough_back, net_is, has_resumed}
 use Rattle.net_core.proofs.resume.resume_instance.Given.{Over}
 use Rattle.net_core.proofs.resume.resume_instance.Goals.{After-deref-program, After-index_mut-2}
 use Rattle.net_core.proofs.resume.resume_instance.Goals as goal
@@ -25,14 +25,14 @@ module _ (g : Over) (c : After-deref-program g) where
   ties : AreTies c.deref-program.result.now c.args.i c.args.ties.now.items
   ties = subst (λ (p : Program). AreTies p c.args.i c.args.ties.now.items) (sym same) c.requires.ties
 
-  net_at : IsNetAt g.B.Body.stands c.deref-program.result.now (arc_value c.net.inside.input) c.net.inside.bodies.items c.net.inside.ports.items c.net.inside.writers.items c.net.inside.offered.items c.net.inside.taken.items c.net.inside.fed_by_self.items c.net.inside.counts.items c.net.inside.pauses.items
-  net_at = subst (λ (p : Program). IsNetAt g.B.Body.stands p (arc_value c.net.inside.input) c.net.inside.bodies.items c.net.inside.ports.items c.net.inside.writers.items c.net.inside.offered.items c.net.inside.taken.items c.net.inside.fed_by_self.items c.net.inside.counts.items c.net.inside.pauses.items) (sym c.deref-program.ensures) c.net.invariant
+  net_at : IsNetAt g.B.Body.stands c.deref-program.result.now (arc_value c.net.inside.input) c.net.inside.bodies.items c.net.inside.streams c.net.inside.fed_by_self.items c.net.inside.counts.items c.net.inside.pauses.items
+  net_at = subst (λ (p : Program). IsNetAt g.B.Body.stands p (arc_value c.net.inside.input) c.net.inside.bodies.items c.net.inside.streams c.net.inside.fed_by_self.items c.net.inside.counts.items c.net.inside.pauses.items) (sym c.deref-program.ensures) c.net.invariant
 
   fits : count_of c.net.inside.counts.items c.args.i + c.args.fuel < 2 ^ 64
   fits = subst (λ (v : NetState). count v c.args.i + c.args.fuel < 2 ^ 64) (sym c.net.view_is) c.requires.fits
 
 -- the body is called with its loaded ports
-called : (g : Over) (c : After-index_mut-2 g) → IsCalled c.deref-program.result.now c.net.inside.bodies.items c.net.inside.ports.items c.net.inside.writers.items c.net.inside.offered.items c.net.inside.taken.items c.args.i c.load_ports.new.all.items c.load_ports.new.offered.items c.index_mut-2.result.now c.index_mut.result.now
+called : (g : Over) (c : After-index_mut-2 g) → IsCalled c.deref-program.result.now c.net.inside.bodies.items c.net.inside.streams c.args.i c.load_ports.new.self c.index_mut-2.result.now c.index_mut.result.now
 called g c =
     let n = c.net.invariant in
     let k = c.in_ok-load_ports.ensures in
@@ -46,7 +46,7 @@ called g c =
       kept = k.kept;
       ready = k.ports;
       loaded = k.loaded;
-      ports_at = slice_get_read c.load_ports.new.all.items _ c.args.i c.index_mut-2.result.now refl (omega arith) c.index_mut-2.ensures.value;
+      ports_at = slice_get_read c.load_ports.new.self.ports.items _ c.args.i c.index_mut-2.result.now refl (omega arith) c.index_mut-2.ensures.value;
       body_at = slice_get_read c.net.inside.bodies.items _ c.args.i c.index_mut.result.now refl (omega arith) c.index_mut.ensures.value;
     }
 
@@ -70,12 +70,12 @@ resume_body-pause-requires g c =
     let k = goal.at.resume_body-pause-requires g c in
     can_resume (net_at g k.After-deref-program) (called g k.After-index_mut-2) c.args.fuel (fits g k.After-deref-program)
 
-pub count_taken-requires-clause-ends : goal.count_taken-requires-clause-ends
-count_taken-requires-clause-ends g c =
-    let k = goal.at.count_taken-requires-clause-ends g c in
+pub count_taken-requires-clause-tables : goal.count_taken-requires-clause-tables
+count_taken-requires-clause-tables g c =
+    let k = goal.at.count_taken-requires-clause-tables g c in
     let n = net_at g k.After-deref-program in
     let r = called g k.After-index_mut-2 in
-    ends_all n r (by_call n r c.resume_body-pause.ensures).0 c.args.i r.inside
+    tables_back n r (by_call n r c.resume_body-pause.ensures).0 (record { ports = refl; writers = refl; offered = refl; taken = refl })
 
 pub count_taken-requires-clause-enough : goal.count_taken-requires-clause-enough
 count_taken-requires-clause-enough g c =
@@ -104,10 +104,10 @@ invariant_of-net-2 g c =
     let n = net_at g k.After-deref-program in
     let r = called g k.After-index_mut-2 in
     let h = by_call n r c.resume_body-pause.ensures in
-    let t = counted n r h.1 c.index_mut-3.ensures.value c.index.ensures c.told.ensures c.count_taken.ensures.len c.count_taken.ensures.took c.count_taken.ensures.others in
+    let t = counted n r (record { ports = refl; writers = refl; offered = refl; taken = refl }) h.1 c.index_mut-3.ensures.value c.index.ensures c.told.ensures c.count_taken.ensures.same c.count_taken.ensures.took c.count_taken.ensures.others in
     let counts = slice_set c.net.inside.counts.items c.args.i (c.index_mut-3.result.now + c.resume_body-pause.result.1) in
     let pauses = slice_set c.net.inside.pauses.items c.args.i (Some c.told.result) in
-    subst (λ (p : Program). IsNetAt g.B.Body.stands p (arc_value c.net.inside.input) (slice_set c.net.inside.bodies.items c.args.i c.resume_body-pause.new.body) (slice_set c.load_ports.new.all.items c.args.i c.resume_body-pause.new.ports) c.net.inside.writers.items c.load_ports.new.offered.items c.count_taken.new.taken.items c.net.inside.fed_by_self.items counts pauses) c.deref-program.ensures (net_is n r h.0 t)
+    subst (λ (p : Program). IsNetAt g.B.Body.stands p (arc_value c.net.inside.input) (slice_set c.net.inside.bodies.items c.args.i c.resume_body-pause.new.body) c.count_taken.new.self c.net.inside.fed_by_self.items counts pauses) c.deref-program.ensures (net_is n r h.0 t)
 
 pub returns-clause-resumed : goal.returns-clause-resumed
 returns-clause-resumed g c =
@@ -115,7 +115,7 @@ returns-clause-resumed g c =
     let n = net_at g k.After-deref-program in
     let r = called g k.After-index_mut-2 in
     let h = by_call n r c.resume_body-pause.ensures in
-    let t = counted n r h.1 c.index_mut-3.ensures.value c.index.ensures c.told.ensures c.count_taken.ensures.len c.count_taken.ensures.took c.count_taken.ensures.others in
+    let t = counted n r (record { ports = refl; writers = refl; offered = refl; taken = refl }) h.1 c.index_mut-3.ensures.value c.index.ensures c.told.ensures c.count_taken.ensures.same c.count_taken.ensures.took c.count_taken.ensures.others in
     let counts = slice_set c.net.inside.counts.items c.args.i (c.index_mut-3.result.now + c.resume_body-pause.result.1) in
     let pauses = slice_set c.net.inside.pauses.items c.args.i (Some c.told.result) in
     subst (λ (v : NetState). HasResumed v (record { program = arc_value c.net.inside.program; input = arc_value c.net.inside.input; counts = counts; pauses = pauses }) c.args.i c.args.fuel c.resume_body-pause.result.0 c.resume_body-pause.result.1) c.net.view_is
@@ -125,4 +125,4 @@ returns-clause-resumed g c =
 pub invariant_of-net : goal.invariant_of-net
 invariant_of-net g c =
     loaded_net c.net.invariant c.load_ports.ensures.kept
-    (subst (λ (p : Program). HasPorts p c.load_ports.new.all.items c.net.inside.writers.items c.load_ports.new.offered.items c.net.inside.taken.items) c.deref-program.ensures c.load_ports.ensures.ports)
+    (subst (λ (p : Program). HasPorts p c.load_ports.new.self) c.deref-program.ensures c.load_ports.ensures.ports)

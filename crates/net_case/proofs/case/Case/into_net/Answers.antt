@@ -12,4 +12,5 @@ part-requires-clause-home g c =
 pub invariant_of-result : goal.invariant_of-result
 invariant_of-result g c =
     let home = subst AreAllHome (sym c.self.view_is) c.requires in
-    net_again c.self.invariant.0 (λ i l. home_of c.self.inside.homes.items i l (home i)) _ _ c.part.ensures
+    let x = c.self.inside in
+    net_again (record { ports = c.part.new.ports; writers = x.writers; offered = x.offered; taken = x.taken }) c.self.invariant.0 (λ i l. home_of x.homes.items i l (home i)) _ c.part.ensures

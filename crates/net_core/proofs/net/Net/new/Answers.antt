@@ -6,7 +6,9 @@ use Rattle.std.proofs.lemmas.Option.{slice_get_within}
 use Rattle.tapa_syntax.specs.declared.program.Program.{Program}
 use Rattle.net_core.specs.Ports.{ends_in}
 use Rattle.net_core.specs.Bindings.{IsConnected, IsWriter, TellsFedBySelf, producer_of, ends_at}
-use Rattle.net_core.specs.Bounded.{count_of}
+use Rattle.net_core.specs.Bounded.{count_of, AreBound}
+use Rattle.net_core.specs.Load.{HasTables}
+use Rattle.net_core.specs.declared.streams.Streams.{Streams}
 use Rattle.net_core.proofs.Constructed.{first_net, zero_at, none_at, not_some, zero_count}
 use Rattle.net_core.proofs.Connected.{well_connected, program_is}
 use Rattle.net_core.proofs.net.Net.new.Goals as goal
@@ -44,14 +46,25 @@ invariant_of-result g c =
     let o2 = c.deref-4.result.now.streams.ok.0 in
     let o3 = c.deref-6.result.now.instances.ok.0 in
     let o4 = c.deref-7.result.now.instances.ok.0 in
-    first_net g.B.Body.stands P I (well_connected P w) (program_is P I w) w c.requires.fits c.args.bodies.items c.in_ok-ports.ports.items c.in_ok-writers.writers.items c.in_ok-offered.offered.items c.in_ok-taken.taken.items c.in_ok-fed_by_self.fed_by_self.items c.in_ok-counts.counts.items c.in_ok-pauses.pauses.items c.requires.as_many
-    (c.in_ok-ports.ensures.len ∙ ap (λ (p : Program). length p.instances.items) c.deref.ensures) (omega arith) (omega arith)
-    (c.in_ok-writers.ensures.len ∙ ap (λ (p : Program). length p.streams.items) c.deref-2.ensures) (omega arith) (omega arith) c.requires.first
-    (subst (λ (p : Program). (i : ℕ) → i < length p.instances.items → ends_in c.in_ok-ports.ports.items i ≡ ends_at p i) c.deref.ensures c.in_ok-ports.ensures.ends) c.in_ok-ports.ensures.carried
-    (subst (λ (p : Program). (s : ℕ) → s < length p.streams.items → IsWriter p s (producer_of p s) (slice_index c.in_ok-writers.writers.items s)) c.deref-2.ensures c.in_ok-writers.ensures.writes)
-    (λ s. ap (λ l. slice_index l s) et ∙ zero_at _ s) (λ s. ap (λ l. slice_index l s) eo ∙ zero_at _ s) c.in_ok-ports.ensures.waiting
-    (c.in_ok-fed_by_self.ensures.len ∙ bf)
-    (λ i b at. subst (λ (p : Program). TellsFedBySelf p i b) df (c.in_ok-fed_by_self.ensures.each i b (slice_get_within _ i b at) at))
+    let streams : Streams = record { ports = c.in_ok-ports.ports; writers = c.in_ok-writers.writers; offered = c.in_ok-offered.offered; taken = c.in_ok-taken.taken } in
+    let tables : HasTables P streams = record {
+      ports_len = c.in_ok-ports.ensures.len ∙ ap (λ (p : Program). length p.instances.items) c.deref.ensures;
+      offered_len = omega arith;
+      taken_len = omega arith;
+      ends = subst (λ (p : Program). (i : ℕ) → i < length p.instances.items → ends_in c.in_ok-ports.ports.items i ≡ ends_at p i) c.deref.ensures c.in_ok-ports.ensures.ends;
+    }
+    in
+    let bound : AreBound P streams.writers.items c.in_ok-fed_by_self.fed_by_self.items = record {
+      writers_len = c.in_ok-writers.ensures.len ∙ ap (λ (p : Program). length p.streams.items) c.deref-2.ensures;
+      writer_is = subst (λ (p : Program). (s : ℕ) → s < length p.streams.items → IsWriter p s (producer_of p s) (slice_index c.in_ok-writers.writers.items s)) c.deref-2.ensures c.in_ok-writers.ensures.writes;
+      fed_len = c.in_ok-fed_by_self.ensures.len ∙ bf;
+      fed = λ i b at. subst (λ (p : Program). TellsFedBySelf p i b) df (c.in_ok-fed_by_self.ensures.each i b (slice_get_within _ i b at) at);
+    }
+    in
+    first_net g.B.Body.stands P I (record { connected = well_connected P w; network = program_is P I w; well_formed = w; fits = c.requires.fits })
+    c.args.bodies.items streams c.in_ok-fed_by_self.fed_by_self.items c.in_ok-counts.counts.items c.in_ok-pauses.pauses.items c.requires.as_many
+    tables bound (omega arith) (omega arith) c.requires.first c.in_ok-ports.ensures.carried c.in_ok-ports.ensures.waiting
+    (λ s. ap (λ l. slice_index l s) et ∙ zero_at _ s) (λ s. ap (λ l. slice_index l s) eo ∙ zero_at _ s)
     (λ i x at. not_some _ i x (ap (λ l. slice_get l i) (sym eu) ∙ at)) (zero_count _ ∙ ap count_of (sym ec))
 
 pub fed_by_self-requires : goal.fed_by_self-requires

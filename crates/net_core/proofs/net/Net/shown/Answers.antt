@@ -18,9 +18,9 @@ module _ (g : Over) (c : After-index g) where
   many =
       let I = c.self.inside in
       let v = c.self.invariant in
-      let took = subst (λ (z : NetState). (q : ℕ) → q < length z.program.streams.items → slice_index I.taken.items q ≡ length (taken (network z) (count z) q)) c.self.view_is v.took in
-      let inside : c.args.stream < length I.taken.items = let a = v.taken_len in let b = ap (λ (z : NetState). length z.program.streams.items) c.self.view_is in let r = c.requires in omega arith in
-      sym (get_or_from_slice_get I.taken.items c.args.stream c.index.result.now 0 (slice_get_read I.taken.items _ c.args.stream c.index.result.now refl inside c.index.ensures)) ∙ took c.args.stream c.requires
+      let took = subst (λ (z : NetState). (q : ℕ) → q < length z.program.streams.items → slice_index I.streams.taken.items q ≡ length (taken (network z) (count z) q)) c.self.view_is v.took in
+      let inside : c.args.stream < length I.streams.taken.items = let a = v.taken_len in let b = ap (λ (z : NetState). length z.program.streams.items) c.self.view_is in let r = c.requires in omega arith in
+      sym (get_or_from_slice_get I.streams.taken.items c.args.stream c.index.result.now 0 (slice_get_read I.streams.taken.items _ c.args.stream c.index.result.now refl inside c.index.ensures)) ∙ took c.args.stream c.requires
 
   front : take c.index.result.now c.carried-2.result.now ≡ taken (network c.args.self.now) (count c.args.self.now) c.args.stream
   front =
