@@ -170,12 +170,7 @@ fn bring_home<B: Body + Drop>(
 }
 
 // What was written to a stream and not taken waits in its queue.
-fn fill_at(
-    program: &Program,
-    queue: &mut Queue,
-    streams: &Streams,
-    s: usize,
-)
+fn fill_at(program: &Program, queue: &mut Queue, streams: &Streams, s: usize)
     requires connected { IsConnected program.now }
     requires stream { s < length program.now.streams.items }
     requires can { CanFill program.now streams.now }
@@ -189,11 +184,7 @@ fn fill_at(
 }
 
 // What was written to each stream and not taken waits in its queue.
-fn fill(
-    program: &Program,
-    queues: &mut Vec<Queue>,
-    streams: &Streams,
-)
+fn fill(program: &Program, queues: &mut Vec<Queue>, streams: &Streams)
     requires connected { IsConnected program.now }
     requires empty { AreEmptyQueues program.now (length program.now.streams.items) queues.old.items }
     requires can { CanFill program.now streams.now }
@@ -231,24 +222,30 @@ impl<B: Body + Drop> Case<B> {
             &mut net.bodies,
             &mut net.streams.ports,
         );
+        let Streams {
+            ports,
+            writers,
+            offered,
+            taken,
+        } = net.streams;
         Ok(Case {
             program: net.program,
             input: net.input,
             budget,
             homes: spare.homes,
             queues: spare.queues,
-            taken: net.streams.taken,
-            offered: net.streams.offered,
+            taken,
+            offered,
             counts: net.counts,
             pauses: net.pauses,
             listed: spare.listed,
             cursor: 0,
             joined,
             pace: Pace::new(),
-            writers: net.streams.writers,
+            writers,
             fed_by_self: net.fed_by_self,
             bodies: net.bodies,
-            ports: net.streams.ports,
+            ports,
         })
     }
 
