@@ -19,6 +19,7 @@ use Rattle.hw_lines.specs.Fixed.{fixed}
 use Rattle.hw_lines.specs.Drivers.{Driver, wires_of, last_of, one, operation}
 use Rattle.hw_lines.specs.Wires.{Compiled, read_count, constant, after_operands, by_fixed, converting, one_more, joining, choosing, compiled}
 use Rattle.hw_nets.proofs.Grows.{both}
+use Rattle.hw_operators.specs.declared.drivers.Numbered.{Numbered}
 use Rattle.hw_expressions.specs.declared.wires.Wired.{Wired}
 use Rattle.hw_expressions.specs.Grown.{Grows}
 
@@ -50,44 +51,47 @@ behind_grows old mid new told front k n elements count drivers a p q e x y = rec
   count = y;
 }
 
-behind_same : (old new : ModuleTree) (told : Wired) (front : Name) (k : ℕ) (elements : List Element) (c d : ℕ) (xs ys : List Driver) (a b : Atom) → c ≡ d → xs ≡ ys → a ≡ b
-    → Grows old new told (after_operands front k elements c xs a) → Grows old new told (after_operands front k elements d ys b)
-behind_same old new told front k elements c d xs ys a b e f g h =
-    subst (λ i. Grows old new told (after_operands front k elements i ys b)) e
-    (subst (λ i. Grows old new told (after_operands front k elements c i b)) f (subst (λ i. Grows old new told (after_operands front k elements c xs i)) g h))
+behind_same : (old new : ModuleTree) (told : Wired) (x y : Name) (k : ℕ) (elements : List Element) (c d : ℕ) (xs ys : List Driver) (a b : Atom) → x ≡ y → c ≡ d → xs ≡ ys → a ≡ b
+    → Grows old new told (after_operands x k elements c xs a) → Grows old new told (after_operands y k elements d ys b)
+behind_same old new told x y k elements c d xs ys a b t e f g h =
+    subst (λ i. Grows old new told (after_operands i k elements d ys b)) t
+    (subst (λ i. Grows old new told (after_operands x k elements i ys b)) e
+    (subst (λ i. Grows old new told (after_operands x k elements c i b)) f (subst (λ i. Grows old new told (after_operands x k elements c xs i)) g h)))
 
 -- what the wires of an operator add, after_operands any elements
-abbrev pub AddsBehind : (mid new : ModuleTree) (told : Wired) (front : Name) (n count : ℕ) (drivers : List Driver) (a : Atom) → Type 0
-AddsBehind mid new told front n count drivers a =
-    (old : ModuleTree) (elements : List Element) (k : ℕ) → mid ≡ with_all old elements → n ≡ k + count → Grows old new told (after_operands front k elements count drivers a)
+abbrev pub AddsBehind : (mid new : ModuleTree) (told : Wired) (next : Numbered) (count : ℕ) (drivers : List Driver) (a : Atom) → Type 0
+AddsBehind mid new told next count drivers a =
+    (old : ModuleTree) (elements : List Element) (k : ℕ) → mid ≡ with_all old elements → next.first ≡ k + count → Grows old new told (after_operands next.front.now k elements count drivers a)
 
-pub one_operand : (old mid new : ModuleTree) (front : Name) (first n : ℕ) (operand told : Wired) (xs ys : List Driver) (C : Compiled) → AddsBehind mid new told front n operand.count xs operand.atom
-    → n ≡ first + operand.count → Grows old mid operand C → xs ≡ ys → Grows old new told (after_operands front first C.elements C.count ys C.atom)
-one_operand old mid new front first n operand told xs ys C h e g s =
-    behind_same old new told front first C.elements operand.count C.count xs ys operand.atom C.atom g.count s g.atom (h old C.elements first g.elements e)
+pub one_operand : (old mid new : ModuleTree) (at next : Numbered) (operand told : Wired) (xs ys : List Driver) (C : Compiled) → AddsBehind mid new told next operand.count xs operand.atom
+    → next.front.now ≡ at.front.now → next.first ≡ at.first + operand.count → Grows old mid operand C → xs ≡ ys → Grows old new told (after_operands at.front.now at.first C.elements C.count ys C.atom)
+one_operand old mid new at next operand told xs ys C h t e g s =
+    behind_same old new told next.front.now at.front.now at.first C.elements operand.count C.count xs ys operand.atom C.atom t g.count s g.atom (h old C.elements at.first g.elements e)
 
-pub two_operands : (old second mid new : ModuleTree) (front : Name) (first n count : ℕ) (left right told : Wired) (xs ys : List Driver) (C D : Compiled)
-    → AddsBehind mid new told front n count xs left.atom → count ≡ left.count + right.count → n ≡ first + count → Grows old second left C → Grows second mid right D → xs ≡ ys
-    → Grows old new told (after_operands front first (C.elements ++ D.elements) (C.count + D.count) ys C.atom)
-two_operands old second mid new front first n count left right told xs ys C D h t e g f s =
-    let all : count ≡ C.count + D.count = omega (arith, t, g.count, f.count) in
-    behind_same old new told front first (C.elements ++ D.elements) count (C.count + D.count) xs ys left.atom C.atom all s g.atom
-    (h old (C.elements ++ D.elements) first (both old second mid C.elements D.elements g.elements f.elements) e)
+pub two_operands : (old second mid new : ModuleTree) (at next : Numbered) (count : ℕ) (left right told : Wired) (xs ys : List Driver) (C D : Compiled)
+    → AddsBehind mid new told next count xs left.atom → count ≡ left.count + right.count → next.front.now ≡ at.front.now → next.first ≡ at.first + count → Grows old second left C → Grows second mid right D
+    → xs ≡ ys → Grows old new told (after_operands at.front.now at.first (C.elements ++ D.elements) (C.count + D.count) ys C.atom)
+two_operands old second mid new at next count left right told xs ys C D h n t e g f s =
+    let all : count ≡ C.count + D.count = omega (arith, n, g.count, f.count) in
+    behind_same old new told next.front.now at.front.now at.first (C.elements ++ D.elements) count (C.count + D.count) xs ys left.atom C.atom t all s g.atom
+    (h old (C.elements ++ D.elements) at.first (both old second mid C.elements D.elements g.elements f.elements) e)
 
-pub three_operands : (old second third mid new : ModuleTree) (front : Name) (first n count : ℕ) (test left right told : Wired) (xs ys : List Driver) (C D E : Compiled)
-    → AddsBehind mid new told front n count xs test.atom → count ≡ test.count + (left.count + right.count) → n ≡ first + count → Grows old second test C → Grows second third left D → Grows third mid right E
-    → xs ≡ ys → Grows old new told (after_operands front first (C.elements ++ (D.elements ++ E.elements)) (C.count + (D.count + E.count)) ys C.atom)
-three_operands old second third mid new front first n count test left right told xs ys C D E h t e g f l s =
-    let all : count ≡ C.count + (D.count + E.count) = omega (arith, t, g.count, f.count, l.count) in
-    behind_same old new told front first (C.elements ++ (D.elements ++ E.elements)) count (C.count + (D.count + E.count)) xs ys test.atom C.atom all s g.atom
-    (h old (C.elements ++ (D.elements ++ E.elements)) first
+pub three_operands : (old second third mid new : ModuleTree) (at next : Numbered) (count : ℕ) (test left right told : Wired) (xs ys : List Driver) (C D E : Compiled)
+    → AddsBehind mid new told next count xs test.atom → count ≡ test.count + (left.count + right.count) → next.front.now ≡ at.front.now → next.first ≡ at.first + count → Grows old second test C
+    → Grows second third left D → Grows third mid right E → xs ≡ ys
+    → Grows old new told (after_operands at.front.now at.first (C.elements ++ (D.elements ++ E.elements)) (C.count + (D.count + E.count)) ys C.atom)
+three_operands old second third mid new at next count test left right told xs ys C D E h n t e g f l s =
+    let all : count ≡ C.count + (D.count + E.count) = omega (arith, n, g.count, f.count, l.count) in
+    behind_same old new told next.front.now at.front.now at.first (C.elements ++ (D.elements ++ E.elements)) count (C.count + (D.count + E.count)) xs ys test.atom C.atom t all s g.atom
+    (h old (C.elements ++ (D.elements ++ E.elements)) at.first
     (both old second mid C.elements (D.elements ++ E.elements) g.elements (both second third mid D.elements E.elements f.elements l.elements)) e)
 
 -- the wires of an expression that begin at equal numbers
-pub same_start : (old new : ModuleTree) (told : Wired) (front : Name) (p q : Kind) (E : Expression) (a b i j : ℕ) → p ≡ q → a ≡ b → i ≡ j
-    → Grows old new told (compiled front a i p E) → Grows old new told (compiled front b j q E)
-same_start old new told front p q E a b i j r e f h =
-    subst (λ z. Grows old new told (compiled front b j z E)) r (subst (λ z. Grows old new told (compiled front b z p E)) f (subst (λ z. Grows old new told (compiled front z i p E)) e h))
+pub same_start : (old new : ModuleTree) (told : Wired) (x y : Name) (p q : Kind) (E : Expression) (a b i j : ℕ) → x ≡ y → p ≡ q → a ≡ b → i ≡ j
+    → Grows old new told (compiled x a i p E) → Grows old new told (compiled y b j q E)
+same_start old new told x y p q E a b i j t r e f h =
+    subst (λ z. Grows old new told (compiled z b j q E)) t
+    (subst (λ z. Grows old new told (compiled x b j z E)) r (subst (λ z. Grows old new told (compiled x b z p E)) f (subst (λ z. Grows old new told (compiled x z i p E)) e h)))
 
 -- an expression of numbers alone
 fixed_by : (o : Option ℕ) (v : ℕ) (k : Kind) (X : Compiled) → o ≡ Some v → constant k v ≡ by_fixed o k X

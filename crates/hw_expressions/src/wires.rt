@@ -15,9 +15,9 @@ use crate::reads::read_count;
 use hw_build::{Draft, numbered};
 use hw_lines::Net;
 use hw_nets::{binary, choose, copy, literal, net};
-use hw_operators::{Driver, conversion, last, one, operation};
+use hw_operators::{Driver, Numbered, Operator, conversion, last, one, operation};
 use std::alloc::{AllocError, Global};
-use tapa_base::{Kind, Op, Text, narrow, plus};
+use tapa_base::{Kind, narrow, plus};
 use task_fsm::Expr;
 use vlog_tree::{Atom, BinaryOp, Value};
 
@@ -28,153 +28,128 @@ pub struct Wired {
     pub count: u32,
 }
 
-/// Adds wires with these drivers, numbered from `first` on.
+/// Adds wires with these drivers.
 pub fn add_wires(
     alloc: Global,
     draft: &mut Draft,
-    front: &Text,
-    first: u32,
+    at: &Numbered,
     mut drivers: Vec<Driver>,
 ) -> Result<(), AllocError>
-    ensures { IfOk result (λ u. draft.new ≡ with_all draft.old (wires_of front.now first drivers.items)) }
+    ensures { IfOk result (λ u. draft.new ≡ with_all draft.old (wires_of at.now.front.now at.now.first drivers.items)) }
 {
-    let mut n = first;
+    let mut n = at.first;
     while !drivers.is_empty() {
         let (width, value) = drivers.remove(0);
-        let name = numbered(alloc, front.bytes(), n)?;
+        let name = numbered(alloc, at.front.bytes(), n)?;
         draft.wire(alloc, width, name.bytes(), value)?;
         n = plus(n, 1)?;
     }
     Ok(())
 }
 
-// Adds an operator's wires, from number `n` on; its operands made `count` before it.
+// Adds an operator's wires; its operands made `count` before it.
 fn with_drivers(
     alloc: Global,
     draft: &mut Draft,
-    front: &Text,
-    n: u32,
+    at: &Numbered,
     drivers: Vec<Driver>,
     before: &Atom,
     count: u32,
 ) -> Result<Wired, AllocError>
-    ensures { IfOk result (λ r. (old : ModuleTree) (elements : List Element) (k : ℕ) → draft.old ≡ with_all old elements → n ≡ k + count
-        → Grows old draft.new r (after_operands front.now k elements count drivers.items before.now)) }
+    ensures { IfOk result (λ r. (old : ModuleTree) (elements : List Element) (k : ℕ) → draft.old ≡ with_all old elements → at.now.first ≡ k + count
+        → Grows old draft.new r (after_operands at.now.front.now k elements count drivers.items before.now)) }
 {
-    let atom = last(alloc, front, n, &drivers, before)?;
+    let atom = last(alloc, at, &drivers, before)?;
     let count = plus(count, narrow(drivers.len())?)?;
-    add_wires(alloc, draft, front, n, drivers)?;
+    add_wires(alloc, draft, at, drivers)?;
     Ok(Wired { atom, count })
 }
 
 fn inverted(
     alloc: Global,
     draft: &mut Draft,
-    front: &Text,
-    first: u32,
+    at: &Numbered,
     kind: Kind,
     operand: Wired,
 ) -> Result<Wired, AllocError>
-    ensures { IfOk result (λ r. (old : ModuleTree) (C : Compiled) → Grows old draft.old operand C → Grows old draft.new r (one_more front.now first C (λ a. one_lem (bits_of kind) (Invert a)))) }
+    ensures { IfOk result (λ r. (old : ModuleTree) (C : Compiled) → Grows old draft.old operand C → Grows old draft.new r (one_more at.now.front.now at.now.first C (λ a. one_lem (bits_of kind) (Invert a)))) }
 {
-    let n = plus(first, operand.count)?;
+    let next = at.after(operand.count)?;
     let inverse = Value::Invert(copy(alloc, &operand.atom)?);
     let drivers = one(alloc, kind.bits(), inverse)?;
-    with_drivers(
-        alloc,
-        draft,
-        front,
-        n,
-        drivers,
-        &operand.atom,
-        operand.count,
-    )
+    with_drivers(alloc, draft, &next, drivers, &operand.atom, operand.count)
 }
 
 fn converted(
     alloc: Global,
     draft: &mut Draft,
-    front: &Text,
-    first: u32,
+    at: &Numbered,
     source: Kind,
     target: Kind,
     operand: Wired,
 ) -> Result<Wired, AllocError>
-    ensures { IfOk result (λ r. (old : ModuleTree) (C : Compiled) → Grows old draft.old operand C → Grows old draft.new r (converting front.now first source target C)) }
+    ensures { IfOk result (λ r. (old : ModuleTree) (C : Compiled) → Grows old draft.old operand C → Grows old draft.new r (converting at.now.front.now at.now.first source target C)) }
 {
-    let n = plus(first, operand.count)?;
-    let drivers = conversion(alloc, front, n, source, target, &operand.atom)?;
-    with_drivers(
-        alloc,
-        draft,
-        front,
-        n,
-        drivers,
-        &operand.atom,
-        operand.count,
-    )
+    let next = at.after(operand.count)?;
+    let drivers = conversion(alloc, &next, source, target, &operand.atom)?;
+    with_drivers(alloc, draft, &next, drivers, &operand.atom, operand.count)
 }
 
 // An operator in a kind of its own, for a kind that is asked for.
 fn applied(
     alloc: Global,
     draft: &mut Draft,
-    front: &Text,
-    first: u32,
-    op: Op,
-    own: Kind,
-    asked: Kind,
+    at: &Numbered,
+    operator: Operator,
     left: Wired,
     right: Wired,
 ) -> Result<Wired, AllocError>
     ensures { IfOk result (λ r. (old second : ModuleTree) (C D : Compiled) → Grows old second left C → Grows second draft.old right D
-        → Grows old draft.new r (joining front.now first C D (λ i a b. operation_lem front.now i op own asked a b))) }
+        → Grows old draft.new r (joining at.now.front.now at.now.first C D (λ i a b. operation_lem at.now.front.now i operator.op operator.kind operator.asked a b))) }
 {
     let count = plus(left.count, right.count)?;
-    let n = plus(first, count)?;
-    let drivers = operation(alloc, front, n, op, own, asked, &left.atom, &right.atom)?;
-    with_drivers(alloc, draft, front, n, drivers, &left.atom, count)
+    let next = at.after(count)?;
+    let drivers = operation(alloc, &next, operator, &left.atom, &right.atom)?;
+    with_drivers(alloc, draft, &next, drivers, &left.atom, count)
 }
 
 // An operator on two bits.
 fn joined(
     alloc: Global,
     draft: &mut Draft,
-    front: &Text,
-    first: u32,
+    at: &Numbered,
     op: BinaryOp,
     left: Wired,
     right: Wired,
 ) -> Result<Wired, AllocError>
     ensures { IfOk result (λ r. (old second : ModuleTree) (C D : Compiled) → Grows old second left C → Grows second draft.old right D
-        → Grows old draft.new r (joining front.now first C D (λ i a b. one_lem 1 (Binary a op b)))) }
+        → Grows old draft.new r (joining at.now.front.now at.now.first C D (λ i a b. one_lem 1 (Binary a op b)))) }
 {
     let count = plus(left.count, right.count)?;
-    let n = plus(first, count)?;
+    let next = at.after(count)?;
     let value = binary(copy(alloc, &left.atom)?, op, right.atom);
     let drivers = one(alloc, 1, value)?;
-    with_drivers(alloc, draft, front, n, drivers, &left.atom, count)
+    with_drivers(alloc, draft, &next, drivers, &left.atom, count)
 }
 
 fn chosen(
     alloc: Global,
     draft: &mut Draft,
-    front: &Text,
-    first: u32,
+    at: &Numbered,
     kind: Kind,
     test: Wired,
     yes: Wired,
     no: Wired,
 ) -> Result<Wired, AllocError>
     ensures { IfOk result (λ r. (old second third : ModuleTree) (C D E : Compiled) → Grows old second test C → Grows second third yes D → Grows third draft.old no E
-        → Grows old draft.new r (choosing front.now first kind C D E)) }
+        → Grows old draft.new r (choosing at.now.front.now at.now.first kind C D E)) }
 {
     let branches = plus(yes.count, no.count)?;
     let count = plus(test.count, branches)?;
-    let n = plus(first, count)?;
+    let next = at.after(count)?;
     let value = choose(copy(alloc, &test.atom)?, yes.atom, no.atom);
     let drivers = one(alloc, kind.bits(), value)?;
-    with_drivers(alloc, draft, front, n, drivers, &test.atom, count)
+    with_drivers(alloc, draft, &next, drivers, &test.atom, count)
 }
 
 // What makes no wire.
@@ -184,17 +159,16 @@ fn as_is(atom: Atom) -> Wired
     Wired { atom, count: 0 }
 }
 
-/// Adds the wires of an expression of a kind, whose first wire has a number, and whose first read of an array has number m.
+/// Adds the wires of an expression of a kind, whose first read of an array has number m.
 pub fn compile(
     alloc: Global,
     draft: &mut Draft,
-    front: &Text,
-    first: u32,
+    at: &Numbered,
     m: u32,
     kind: Kind,
     e: &Expr,
 ) -> Result<Wired, AllocError>
-    ensures { IfOk result (λ r. Grows draft.old draft.new r (compiled front.now m first kind (expression_of e.now))) }
+    ensures { IfOk result (λ r. Grows draft.old draft.new r (compiled at.now.front.now m at.now.first kind (expression_of e.now))) }
 {
     if let Some(value) = fixed(e) {
         return Ok(as_is(literal(kind.bits(), u128::from(value))));
@@ -207,8 +181,8 @@ pub fn compile(
             Ok(as_is(net(alloc, Net::Answer(number, *a))?))
         }
         Expr::Conv { from, to, value } => {
-            let operand = compile(alloc, draft, front, first, m, *from, value)?;
-            converted(alloc, draft, front, first, *from, *to, operand)
+            let operand = compile(alloc, draft, at, m, *from, value)?;
+            converted(alloc, draft, at, *from, *to, operand)
         }
         Expr::Apply {
             op,
@@ -218,42 +192,47 @@ pub fn compile(
         } => {
             let after = plus(m, read_count(left)?)?;
             let count = op.right_kind(*own);
-            let a = compile(alloc, draft, front, first, m, *own, left)?;
-            let second = plus(first, a.count)?;
-            let b = compile(alloc, draft, front, second, after, count, right)?;
-            applied(alloc, draft, front, first, *op, *own, kind, a, b)
+            let a = compile(alloc, draft, at, m, *own, left)?;
+            let second = at.after(a.count)?;
+            let b = compile(alloc, draft, &second, after, count, right)?;
+            let operator = Operator {
+                op: *op,
+                kind: *own,
+                asked: kind,
+            };
+            applied(alloc, draft, at, operator, a, b)
         }
         Expr::Flip(own, e) => {
-            let operand = compile(alloc, draft, front, first, m, *own, e)?;
-            inverted(alloc, draft, front, first, *own, operand)
+            let operand = compile(alloc, draft, at, m, *own, e)?;
+            inverted(alloc, draft, at, *own, operand)
         }
         Expr::Not(e) => {
-            let operand = compile(alloc, draft, front, first, m, Kind::Bool, e)?;
-            inverted(alloc, draft, front, first, Kind::Bool, operand)
+            let operand = compile(alloc, draft, at, m, Kind::Bool, e)?;
+            inverted(alloc, draft, at, Kind::Bool, operand)
         }
         Expr::And(l, r) => {
             let after = plus(m, read_count(l)?)?;
-            let a = compile(alloc, draft, front, first, m, Kind::Bool, l)?;
-            let second = plus(first, a.count)?;
-            let b = compile(alloc, draft, front, second, after, Kind::Bool, r)?;
-            joined(alloc, draft, front, first, BinaryOp::And, a, b)
+            let a = compile(alloc, draft, at, m, Kind::Bool, l)?;
+            let second = at.after(a.count)?;
+            let b = compile(alloc, draft, &second, after, Kind::Bool, r)?;
+            joined(alloc, draft, at, BinaryOp::And, a, b)
         }
         Expr::Or(l, r) => {
             let after = plus(m, read_count(l)?)?;
-            let a = compile(alloc, draft, front, first, m, Kind::Bool, l)?;
-            let second = plus(first, a.count)?;
-            let b = compile(alloc, draft, front, second, after, Kind::Bool, r)?;
-            joined(alloc, draft, front, first, BinaryOp::Or, a, b)
+            let a = compile(alloc, draft, at, m, Kind::Bool, l)?;
+            let second = at.after(a.count)?;
+            let b = compile(alloc, draft, &second, after, Kind::Bool, r)?;
+            joined(alloc, draft, at, BinaryOp::Or, a, b)
         }
         Expr::Choose(test, yes, no) => {
             let after = plus(m, read_count(test)?)?;
             let later = plus(after, read_count(yes)?)?;
-            let c = compile(alloc, draft, front, first, m, Kind::Bool, test)?;
-            let second = plus(first, c.count)?;
-            let a = compile(alloc, draft, front, second, after, kind, yes)?;
-            let third = plus(second, a.count)?;
-            let b = compile(alloc, draft, front, third, later, kind, no)?;
-            chosen(alloc, draft, front, first, kind, c, a, b)
+            let c = compile(alloc, draft, at, m, Kind::Bool, test)?;
+            let second = at.after(c.count)?;
+            let a = compile(alloc, draft, &second, after, kind, yes)?;
+            let third = second.after(a.count)?;
+            let b = compile(alloc, draft, &third, later, kind, no)?;
+            chosen(alloc, draft, at, kind, c, a, b)
         }
     }
 }

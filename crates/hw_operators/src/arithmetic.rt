@@ -1,14 +1,15 @@
 // Shifts, and division with signs.
 
 ghost use Rattle.std.specs.Prelude.{◌≡◌, ◌≤◌, suc, if◌then◌else◌, IfOk, true};
+ghost use Rattle.tapa_base.specs.Kinds.{bits_of, is_signed};
 ghost use Rattle.vlog_tree.specs.declared.tree.Value.TheVariants.{Choose};
 ghost use Rattle.hw_lines.specs.Drivers.{absolute as absolute_lem, divided as divided_lem, half as half_lem, is_negative as is_negative_lem, shift_count as shift_count_lem};
 ghost use Rattle.hw_lines.specs.Drivers.{shifted_right as shifted_right_lem, sign_of as sign_of_lem, wire as wire_lem};
 
-use crate::drivers::{Driver, one};
+use crate::drivers::{Driver, Numbered, one};
 use hw_nets::{binary, choose, copy, literal, power, sign_of, wire};
 use std::alloc::{AllocError, Global};
-use tapa_base::{Text, plus};
+use tapa_base::{Kind, Text, plus};
 use vlog_tree::{Atom, BinaryOp, Value};
 
 /// Half the number of values of `width` bits.
@@ -40,19 +41,13 @@ fn next(n: u32) -> Result<u32, AllocError>
     plus(n, 1)
 }
 
-// A wire where the sign is set, and else the operand itself.
-fn turned(
-    alloc: Global,
-    front: &Text,
-    number: u32,
-    width: u32,
-    a: &Atom,
-) -> Result<Value, AllocError>
+// The first wire where the sign is set, and else the operand itself.
+fn turned(alloc: Global, at: &Numbered, width: u32, a: &Atom) -> Result<Value, AllocError>
     requires { width ≤ 64 }
-    ensures { IfOk result (λ v. v ≡ Choose (sign_of_lem width a.now) (wire_lem front.now number) a.now) }
+    ensures { IfOk result (λ v. v ≡ Choose (sign_of_lem width a.now) (wire_lem at.now.front.now at.now.first) a.now) }
 {
     let sign = sign_of(alloc, width, a)?;
-    let other = wire(alloc, front, number)?;
+    let other = wire(alloc, at.front, at.first)?;
     let itself = copy(alloc, a)?;
     Ok(choose(sign, other, itself))
 }
@@ -78,42 +73,39 @@ fn by_sign(
 // Every bit turned where the sign is set, shifted, and turned back.
 fn signed_shift(
     alloc: Global,
-    front: &Text,
-    first: u32,
+    at: &Numbered,
     width: u32,
     a: &Atom,
     b: &Atom,
 ) -> Result<Vec<Driver>, AllocError>
     requires { width ≤ 64 }
-    ensures { IfOk result (λ v. v.items ≡ shifted_right_lem true front.now first width a.now b.now) }
+    ensures { IfOk result (λ v. v.items ≡ shifted_right_lem true at.now.front.now at.now.first width a.now b.now) }
 {
-    let second = next(first)?;
+    let second = next(at.first)?;
     let third = next(second)?;
     let fourth = next(third)?;
     let mut drivers = one(alloc, width, Value::Invert(copy(alloc, a)?))?;
-    drivers.push((width, turned(alloc, front, first, width, a)?))?;
+    drivers.push((width, turned(alloc, at, width, a)?))?;
     let count = shift_count(alloc, width, b)?;
-    let shifted = binary(wire(alloc, front, second)?, BinaryOp::ShiftRight, count);
+    let shifted = binary(wire(alloc, at.front, second)?, BinaryOp::ShiftRight, count);
     drivers.push((width, shifted))?;
-    drivers.push((width, Value::Invert(wire(alloc, front, third)?)))?;
-    drivers.push((width, by_sign(alloc, front, fourth, third, width, a)?))?;
+    drivers.push((width, Value::Invert(wire(alloc, at.front, third)?)))?;
+    drivers.push((width, by_sign(alloc, at.front, fourth, third, width, a)?))?;
     Ok(drivers)
 }
 
 pub(crate) fn shifted_right(
     alloc: Global,
-    signed: bool,
-    front: &Text,
-    first: u32,
-    width: u32,
+    at: &Numbered,
+    kind: Kind,
     a: &Atom,
     b: &Atom,
 ) -> Result<Vec<Driver>, AllocError>
-    requires { width ≤ 64 }
-    ensures { IfOk result (λ v. v.items ≡ shifted_right_lem signed front.now first width a.now b.now) }
+    ensures { IfOk result (λ v. v.items ≡ shifted_right_lem (is_signed kind) at.now.front.now at.now.first (bits_of kind) a.now b.now) }
 {
-    if signed {
-        return signed_shift(alloc, front, first, width, a, b);
+    let width = kind.bits();
+    if kind.signed() {
+        return signed_shift(alloc, at, width, a, b);
     }
     let count = shift_count(alloc, width, b)?;
     let shifted = binary(copy(alloc, a)?, BinaryOp::ShiftRight, count);
@@ -175,53 +167,50 @@ fn signed_division(
     alloc: Global,
     op: BinaryOp,
     back: bool,
-    front: &Text,
-    first: u32,
-    width: u32,
+    at: &Numbered,
+    kind: Kind,
     a: &Atom,
     b: &Atom,
 ) -> Result<Vec<Driver>, AllocError>
-    requires { width ≤ 64 }
-    ensures { IfOk result (λ v. v.items ≡ divided_lem true op back front.now first width a.now b.now) }
+    ensures { IfOk result (λ v. v.items ≡ divided_lem true op back at.now.front.now at.now.first (bits_of kind) a.now b.now) }
 {
-    let second = next(first)?;
+    let width = kind.bits();
+    let second = next(at.first)?;
     let third = next(second)?;
     let fourth = next(third)?;
     let negated = binary(literal(width, 0), BinaryOp::Minus, copy(alloc, a)?);
     let mut drivers = one(alloc, width, negated)?;
-    drivers.push((width, turned(alloc, front, first, width, a)?))?;
+    drivers.push((width, turned(alloc, at, width, a)?))?;
     let divisor = absolute(alloc, width, b)?;
-    let divided = binary(wire(alloc, front, second)?, op, divisor);
+    let divided = binary(wire(alloc, at.front, second)?, op, divisor);
     drivers.push((width, divided))?;
     let opposite = binary(
         literal(width, 0),
         BinaryOp::Minus,
-        wire(alloc, front, third)?,
+        wire(alloc, at.front, third)?,
     );
     drivers.push((width, opposite))?;
-    let same = wire(alloc, front, third)?;
-    let other = wire(alloc, front, fourth)?;
+    let same = wire(alloc, at.front, third)?;
+    let other = wire(alloc, at.front, fourth)?;
     drivers.push((width, sign_back(alloc, back, width, a, same, other)?))?;
     Ok(drivers)
 }
 
+/// Divides, for the quotient or for the remainder.
 pub(crate) fn divided(
     alloc: Global,
-    signed: bool,
     op: BinaryOp,
     back: bool,
-    front: &Text,
-    first: u32,
-    width: u32,
+    at: &Numbered,
+    kind: Kind,
     a: &Atom,
     b: &Atom,
 ) -> Result<Vec<Driver>, AllocError>
-    requires { width ≤ 64 }
-    ensures { IfOk result (λ v. v.items ≡ divided_lem signed op back front.now first width a.now b.now) }
+    ensures { IfOk result (λ v. v.items ≡ divided_lem (is_signed kind) op back at.now.front.now at.now.first (bits_of kind) a.now b.now) }
 {
-    if signed {
-        return signed_division(alloc, op, back, front, first, width, a, b);
+    if kind.signed() {
+        return signed_division(alloc, op, back, at, kind, a, b);
     }
     let quotient = binary(copy(alloc, a)?, op, copy(alloc, b)?);
-    one(alloc, width, quotient)
+    one(alloc, kind.bits(), quotient)
 }

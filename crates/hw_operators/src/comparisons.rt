@@ -1,16 +1,17 @@
 // Comparisons.
 
 ghost use Rattle.std.specs.Prelude.{◌≡◌, ◌≤◌, ◌++◌, ◌∷◌, [], IfOk, true};
+ghost use Rattle.tapa_base.specs.Kinds.{bits_of, is_signed};
 ghost use Rattle.vlog_tree.specs.declared.tree.BinaryOp.TheVariants.{Xor};
 ghost use Rattle.vlog_tree.specs.declared.tree.Value.TheVariants.{Binary};
 ghost use Rattle.vlog_tree.specs.declared.tree.Atom.TheVariants.{Literal};
 ghost use Rattle.hw_lines.specs.Drivers.{as_wide as as_wide_lem, half as half_lem, less as less_lem, not_less as not_less_lem, turned, turned_atom as turned_atom_lem};
 
 use crate::arithmetic::half;
-use crate::drivers::{Driver, last, one};
+use crate::drivers::{Driver, Numbered, last, one};
 use hw_nets::{binary, concat, copy, literal, wire};
 use std::alloc::{AllocError, Global};
-use tapa_base::{Text, narrow, plus};
+use tapa_base::{Kind, narrow};
 use vlog_tree::{Atom, BinaryOp, Value};
 
 // Adds the driver of an atom with its sign bit turned.
@@ -45,20 +46,14 @@ fn add_turned(
     }
 }
 
-// What has the turned value: the wire of a number, or a literal.
-fn turned_atom(
-    alloc: Global,
-    front: &Text,
-    n: u32,
-    width: u32,
-    a: &Atom,
-) -> Result<Atom, AllocError>
+// What has the turned value: the first wire, or a literal.
+fn turned_atom(alloc: Global, at: &Numbered, width: u32, a: &Atom) -> Result<Atom, AllocError>
     requires { width ≤ 64 }
-    ensures { IfOk result (λ x. x ≡ turned_atom_lem front.now n width a.now) }
+    ensures { IfOk result (λ x. x ≡ turned_atom_lem at.now.front.now at.now.first width a.now) }
 {
     match a {
-        Atom::Net(_) => wire(alloc, front, n),
-        Atom::Part { .. } => wire(alloc, front, n),
+        Atom::Net(_) => wire(alloc, at.front, at.first),
+        Atom::Part { .. } => wire(alloc, at.front, at.first),
         Atom::Literal { width: bits, value } => Ok(literal(*bits, *value ^ half(width))),
     }
 }
@@ -67,39 +62,35 @@ fn turned_atom(
 #[tactic(auto, using(crate::proofs::Lasts::after_is))]
 fn signed_less(
     alloc: Global,
-    front: &Text,
-    first: u32,
+    at: &Numbered,
     width: u32,
     a: &Atom,
     b: &Atom,
 ) -> Result<Vec<Driver>, AllocError>
     requires { width ≤ 64 }
-    ensures { IfOk result (λ v. v.items ≡ less_lem true front.now first width a.now b.now) }
+    ensures { IfOk result (λ v. v.items ≡ less_lem true at.now.front.now at.now.first width a.now b.now) }
 {
     let mut drivers = Vec::new(alloc);
     add_turned(alloc, &mut drivers, width, a)?;
-    let second = plus(first, narrow(drivers.len())?)?;
+    let second = at.after(narrow(drivers.len())?)?;
     add_turned(alloc, &mut drivers, width, b)?;
-    let left = turned_atom(alloc, front, first, width, a)?;
-    let right = turned_atom(alloc, front, second, width, b)?;
+    let left = turned_atom(alloc, at, width, a)?;
+    let right = turned_atom(alloc, &second, width, b)?;
     drivers.push((1, binary(left, BinaryOp::Less, right)))?;
     Ok(drivers)
 }
 
 pub(crate) fn less(
     alloc: Global,
-    signed: bool,
-    front: &Text,
-    first: u32,
-    width: u32,
+    at: &Numbered,
+    kind: Kind,
     a: &Atom,
     b: &Atom,
 ) -> Result<Vec<Driver>, AllocError>
-    requires { width ≤ 64 }
-    ensures { IfOk result (λ v. v.items ≡ less_lem signed front.now first width a.now b.now) }
+    ensures { IfOk result (λ v. v.items ≡ less_lem (is_signed kind) at.now.front.now at.now.first (bits_of kind) a.now b.now) }
 {
-    if signed {
-        return signed_less(alloc, front, first, width, a, b);
+    if kind.signed() {
+        return signed_less(alloc, at, kind.bits(), a, b);
     }
     let less = binary(copy(alloc, a)?, BinaryOp::Less, copy(alloc, b)?);
     one(alloc, 1, less)
@@ -107,18 +98,15 @@ pub(crate) fn less(
 
 pub(crate) fn not_less(
     alloc: Global,
-    signed: bool,
-    front: &Text,
-    first: u32,
-    width: u32,
+    at: &Numbered,
+    kind: Kind,
     a: &Atom,
     b: &Atom,
 ) -> Result<Vec<Driver>, AllocError>
-    requires { width ≤ 64 }
-    ensures { IfOk result (λ v. v.items ≡ not_less_lem signed front.now first width a.now b.now) }
+    ensures { IfOk result (λ v. v.items ≡ not_less_lem (is_signed kind) at.now.front.now at.now.first (bits_of kind) a.now b.now) }
 {
-    let mut drivers = less(alloc, signed, front, first, width, a, b)?;
-    let result = last(alloc, front, first, &drivers, &literal(1, 0))?;
+    let mut drivers = less(alloc, at, kind, a, b)?;
+    let result = last(alloc, at, &drivers, &literal(1, 0))?;
     drivers.push((1, Value::Invert(result)))?;
     Ok(drivers)
 }
@@ -126,17 +114,16 @@ pub(crate) fn not_less(
 /// The result of a comparison, of one bit, for a kind of some bits.
 pub(crate) fn as_wide(
     alloc: Global,
-    front: &Text,
-    first: u32,
+    at: &Numbered,
     width: u32,
     mut drivers: Vec<Driver>,
 ) -> Result<Vec<Driver>, AllocError>
-    ensures { IfOk result (λ v. v.items ≡ as_wide_lem front.now first width drivers.items) }
+    ensures { IfOk result (λ v. v.items ≡ as_wide_lem at.now.front.now at.now.first width drivers.items) }
 {
     if width == 1 {
         return Ok(drivers);
     }
-    let result = last(alloc, front, first, &drivers, &literal(1, 0))?;
+    let result = last(alloc, at, &drivers, &literal(1, 0))?;
     let joined = concat(alloc, literal(width.saturating_sub(1), 0), result)?;
     drivers.push((width, joined))?;
     Ok(drivers)

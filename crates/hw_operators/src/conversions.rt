@@ -3,23 +3,22 @@
 ghost use Rattle.std.specs.Prelude.{◌≡◌, ◌≤◌, IfOk, true};
 ghost use Rattle.hw_lines.specs.Drivers.{conversion as conversion_lem, extended as extended_lem, resized as resized_lem, tested as tested_lem};
 
-use crate::drivers::{Driver, one};
+use crate::drivers::{Driver, Numbered, one};
 use hw_nets::{binary, concat, copy, literal, low_bits, sign_of, wire};
 use std::alloc::{AllocError, Global};
-use tapa_base::{Kind, Text};
+use tapa_base::Kind;
 use vlog_tree::{Atom, BinaryOp, Value};
 
 // An extension by copies of the sign.
 fn sign_extended(
     alloc: Global,
-    front: &Text,
-    first: u32,
+    at: &Numbered,
     narrow: u32,
     wide: u32,
     a: &Atom,
 ) -> Result<Vec<Driver>, AllocError>
     requires { narrow ≤ 64 }
-    ensures { IfOk result (λ v. v.items ≡ extended_lem true front.now first narrow wide a.now) }
+    ensures { IfOk result (λ v. v.items ≡ extended_lem true at.now.front.now at.now.first narrow wide a.now) }
 {
     let more = wide.saturating_sub(narrow);
     let copies = Value::Repeat {
@@ -27,7 +26,7 @@ fn sign_extended(
         atom: sign_of(alloc, narrow, a)?,
     };
     let mut drivers = one(alloc, more, copies)?;
-    let joined = concat(alloc, wire(alloc, front, first)?, copy(alloc, a)?)?;
+    let joined = concat(alloc, wire(alloc, at.front, at.first)?, copy(alloc, a)?)?;
     drivers.push((wide, joined))?;
     Ok(drivers)
 }
@@ -36,17 +35,16 @@ fn sign_extended(
 fn extended(
     alloc: Global,
     signed: bool,
-    front: &Text,
-    first: u32,
+    at: &Numbered,
     narrow: u32,
     wide: u32,
     a: &Atom,
 ) -> Result<Vec<Driver>, AllocError>
     requires { narrow ≤ 64 }
-    ensures { IfOk result (λ v. v.items ≡ extended_lem signed front.now first narrow wide a.now) }
+    ensures { IfOk result (λ v. v.items ≡ extended_lem signed at.now.front.now at.now.first narrow wide a.now) }
 {
     if signed {
-        return sign_extended(alloc, front, first, narrow, wide, a);
+        return sign_extended(alloc, at, narrow, wide, a);
     }
     let zeros = literal(wide.saturating_sub(narrow), 0);
     let joined = concat(alloc, zeros, copy(alloc, a)?)?;
@@ -56,22 +54,21 @@ fn extended(
 fn resized(
     alloc: Global,
     signed: bool,
-    front: &Text,
-    first: u32,
+    at: &Numbered,
     old: u32,
     new: u32,
     a: &Atom,
 ) -> Result<Vec<Driver>, AllocError>
     requires old_width { old ≤ 64 }
     requires new_width { new ≤ 64 }
-    ensures { IfOk result (λ v. v.items ≡ resized_lem signed front.now first old new a.now) }
+    ensures { IfOk result (λ v. v.items ≡ resized_lem signed at.now.front.now at.now.first old new a.now) }
 {
     if old == new {
         Ok(Vec::new(alloc))
     } else if new < old {
         one(alloc, new, Value::Plain(low_bits(alloc, new, a)?))
     } else {
-        extended(alloc, signed, front, first, old, new, a)
+        extended(alloc, signed, at, old, new, a)
     }
 }
 
@@ -90,18 +87,17 @@ fn tested(alloc: Global, width: u32, a: &Atom) -> Result<Vec<Driver>, AllocError
 /// A value of one kind as one of another.
 pub fn conversion(
     alloc: Global,
-    front: &Text,
-    first: u32,
+    at: &Numbered,
     source: Kind,
     target: Kind,
     a: &Atom,
 ) -> Result<Vec<Driver>, AllocError>
-    ensures { IfOk result (λ v. v.items ≡ conversion_lem front.now first source target a.now) }
+    ensures { IfOk result (λ v. v.items ≡ conversion_lem at.now.front.now at.now.first source target a.now) }
 {
     let old = source.bits();
     let new = target.bits();
     match target {
         Kind::Bool => tested(alloc, old, a),
-        _ => resized(alloc, source.signed(), front, first, old, new, a),
+        _ => resized(alloc, source.signed(), at, old, new, a),
     }
 }

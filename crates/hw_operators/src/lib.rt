@@ -8,5 +8,5 @@ mod drivers;
 mod operations;
 
 pub use conversions::conversion;
-pub use drivers::{Driver, last, one};
-pub use operations::operation;
+pub use drivers::{Driver, Numbered, last, one};
+pub use operations::{Operator, operation};

@@ -18,6 +18,7 @@ use hw_build::{Draft, numbered};
 use hw_expressions::compile;
 use hw_lines::Net;
 use hw_nets::{Shape, binary, choose, concat, copy, index_front, literal, name, net, value_front};
+use hw_operators::Numbered;
 use std::alloc::{AllocError, Global};
 use tapa_base::{Kind, Text};
 use task_fsm::State;
@@ -50,8 +51,9 @@ fn add_index(
     ensures atom { IfOk result (λ a. a ≡ (index_wires (form shape.now) k).atom) }
 {
     let front = index_front(alloc, k)?;
+    let at = Numbered::from_zero(&front);
     match index_of(state) {
-        Some(index) => Ok(compile(alloc, draft, &front, 0, 0, Kind::U64, index)?.atom),
+        Some(index) => Ok(compile(alloc, draft, &at, 0, Kind::U64, index)?.atom),
         None => Ok(literal(64, 0)),
     }
 }
@@ -69,10 +71,11 @@ fn add_value(
     ensures atom { IfOk result (λ a. a ≡ (value_wires (form shape.now) k).atom) }
 {
     let front = value_front(alloc, k)?;
+    let at = Numbered::from_zero(&front);
     let kind = value_kind(shape, state);
     let reads = index_reads(state)?;
     match value_of(state) {
-        Some(value) => Ok(compile(alloc, draft, &front, 0, reads, kind, value)?.atom),
+        Some(value) => Ok(compile(alloc, draft, &at, reads, kind, value)?.atom),
         None => Ok(literal(kind.bits(), 0)),
     }
 }

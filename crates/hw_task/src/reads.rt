@@ -28,6 +28,7 @@ use hw_nets::{
     Entry, Shape, add_any, add_found, add_pick, binary, choose, copy, entry_of, literal, low_bits,
     name, net, read_front, root,
 };
+use hw_operators::Numbered;
 use hw_states::{add_wire, reads_at, reads_count};
 use std::alloc::{AllocError, Global};
 use tapa_base::Kind;
@@ -76,7 +77,8 @@ fn add_read(
     ensures index { IfOk result (λ x. x.index ≡ (read_index p k (read_form read.now)).atom) }
 {
     let front = read_front(alloc, k, p)?;
-    let wires = compile(alloc, draft, &front, 0, read.first, Kind::U64, read.index)?;
+    let at = Numbered::from_zero(&front);
+    let wires = compile(alloc, draft, &at, read.first, Kind::U64, read.index)?;
     add_inside(alloc, draft, shape, p, k, read.array, &wires.atom)?;
     Ok(Asked {
         array: read.array,

@@ -17,7 +17,7 @@ use crate::names::{bound_net, scalar};
 use hw_build::{Draft, net_value};
 use hw_expressions::add_wires;
 use hw_nets::literal;
-use hw_operators::{conversion, last};
+use hw_operators::{Numbered, conversion, last};
 use std::alloc::{AllocError, Global};
 use tapa_base::{Kind, Text, narrow, number_at, plus};
 use tapa_syntax::{Bound, Instance, Leaf, Program};
@@ -80,9 +80,10 @@ fn add_converted(
 {
     let copy = old.copy(alloc)?;
     let atom = Atom::Net(copy);
-    let drivers = conversion(alloc, net, 0, source, target, &atom)?;
-    let converted = last(alloc, net, 0, &drivers, &atom)?;
-    add_wires(alloc, draft, net, 0, drivers)?;
+    let at = Numbered::from_zero(net);
+    let drivers = conversion(alloc, &at, source, target, &atom)?;
+    let converted = last(alloc, &at, &drivers, &atom)?;
+    add_wires(alloc, draft, &at, drivers)?;
     draft.wire(alloc, target.bits(), net.bytes(), Value::Plain(converted))?;
     Ok(())
 }

@@ -10,7 +10,7 @@ loop-alloc-preserved c =
     let d = c.remove-width.result in
     let rest = c.remove-width.new.self.items in
     let n = c.loop-alloc.n in
-    let front = c.args.front.now in
+    let front = c.args.at.now.front.now in
     let left = some_left _ _ c.is_empty.ensures c.loop-alloc-test.true in
     let some : 0 < length c.loop-alloc.drivers.items = omega (arith, left, c.loop-alloc.drivers.ok.0) in
     let name : c.bytes-in-loop-alloc.result.now ≡ numbered front n = c.bytes-in-loop-alloc.ensures.value ∙ c.in_ok-name.ensures ∙ ap (λ f. numbered f n) c.bytes.ensures.value in
@@ -23,4 +23,4 @@ pub returns : goal.returns
 returns c =
     let left = none_left _ _ c.is_empty.ensures c.loop-alloc-test.false in
     let none : length c.loop-alloc.drivers.items ≡ 0 = omega (arith, left, c.loop-alloc.drivers.ok.0) in
-    wires_done c.args.front.now c.loop-alloc.n c.loop-alloc.drivers.items c.loop-alloc.draft none ∙ c.loop-alloc.invariant
+    wires_done c.args.at.now.front.now c.loop-alloc.n c.loop-alloc.drivers.items c.loop-alloc.draft none ∙ c.loop-alloc.invariant

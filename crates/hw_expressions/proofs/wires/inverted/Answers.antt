@@ -9,6 +9,6 @@ pub returns : goal.returns
 returns c =
     IfOk-weaker c.with_drivers.result _ _
     (λ r h old C g.
-    one_operand old c.args.draft.now c.with_drivers.new.draft c.args.front.now c.args.first c.in_ok-n.n c.args.operand r c.in_ok-drivers.drivers.items (one (bits_of c.args.kind) (Invert C.atom)) C h c.in_ok-n.ensures g
+    one_operand old c.args.draft.now c.with_drivers.new.draft c.args.at.now c.in_ok-next.next c.args.operand r c.in_ok-drivers.drivers.items (one (bits_of c.args.kind) (Invert C.atom)) C h c.in_ok-next.ensures.front c.in_ok-next.ensures.first g
     (cc (c.in_ok-drivers.ensures, c.bits.ensures.value, c.in_ok-copy.ensures, g.atom)))
     c.with_drivers.ensures

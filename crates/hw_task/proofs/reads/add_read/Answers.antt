@@ -1,4 +1,4 @@
-use Rattle.std.proofs.Common.{List, [], ◌∷◌, ap, subst, ◌∙◌}
+use Rattle.std.proofs.Common.{List, [], ◌∷◌, refl, ap, ◌∙◌}
 use Rattle.tapa_base.specs.declared.kind.Kind.TheVariants.{U64}
 use Rattle.vlog_tree.specs.declared.tree.Atom.{Atom}
 use Rattle.vlog_tree.specs.declared.tree.Atom.TheVariants.{Literal}
@@ -10,11 +10,12 @@ use Rattle.hw_lines.specs.declared.nets.Net.TheVariants.{At, ReadInside, ReadOn}
 use Rattle.hw_lines.specs.Nets.{name}
 use Rattle.hw_lines.specs.Shape.{array_cells}
 use Rattle.hw_lines.specs.States.{net}
-use Rattle.hw_lines.specs.Wires.{Compiled, compiled}
+use Rattle.hw_lines.specs.Wires.{Compiled}
 use Rattle.hw_lines.specs.Texts.{read_index}
 use Rattle.hw_nets.proofs.Grows.{both}
 use Rattle.hw_expressions.specs.Grown.{Grows}
 use Rattle.hw_expressions.specs.Reads.{read_form}
+use Rattle.hw_expressions.proofs.Grown.{same_start}
 use Rattle.hw_nets.specs.Shapes.{form}
 use Rattle.hw_task.proofs.reads.add_read.Goals as goal
 
@@ -24,8 +25,9 @@ returns-clause-draft c =
     let p = c.args.p in
     let k = c.args.k in
     let C : Compiled = read_index p k (read_form r) in
+    let at = c.from_zero-at in
     let g : Grows c.args.draft.now c.compile.new.draft c.in_ok-wires.wires C =
-    subst (λ f. Grows c.args.draft.now c.compile.new.draft c.in_ok-wires.wires (compiled f r.first 0 U64 (expression_of r.index.now))) c.in_ok-front.ensures c.in_ok-wires.ensures in
+    same_start _ _ c.in_ok-wires.wires _ _ U64 U64 (expression_of r.index.now) _ _ _ _ (at.ensures.front ∙ c.in_ok-front.ensures) refl refl at.ensures.first c.in_ok-wires.ensures in
     let wires : Atom → List Element =
     λ (a : Atom). Wire 1 (name (ReadInside k p)) (Binary a Less (Literal 64 (array_cells (form c.args.shape.now) r.array))) ∷ Wire 1 (name (ReadOn k p)) (Binary (net (At k)) And (net (ReadInside k p))) ∷ [] in
     both c.args.draft.now c.compile.new.draft c.add_inside.new.draft C.elements (wires C.atom) g.elements (c.in_ok-add_inside.ensures ∙ ap (λ a. with_all c.compile.new.draft (wires a)) g.atom)
