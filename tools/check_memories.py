@@ -23,6 +23,7 @@ from pathlib import Path
 
 sys.dont_write_bytecode = True
 from vechaqir import script  # noqa: E402
+from vechaqir.host import files  # noqa: E402
 from vechaqir.measure.icarus import report, top_of  # noqa: E402
 
 ROOT = script.ROOT
@@ -211,7 +212,7 @@ def main(asked):
         raise script.Usage("a text needs its source, and a source its top task")
     text = None
     if asked.text:
-        text = Path(asked.text).read_text(encoding="utf-8")
+        text = files.text(asked.text)
     program, chance = os.path.abspath(asked.program), random.Random(2001)
     kinds = tuple(MEMORIES) if asked.memories == "all" else (asked.memories,)
     tried, wrong = 0, []

@@ -15,7 +15,7 @@ from pathlib import Path
 
 sys.dont_write_bytecode = True
 from vechaqir import script  # noqa: E402
-from vechaqir.host import data as inputs  # noqa: E402
+from vechaqir.host import data as inputs, files  # noqa: E402
 from vechaqir.measure import icarus  # noqa: E402
 
 
@@ -31,7 +31,7 @@ def words():
 
 
 def main(asked):
-    text = Path(asked.text).read_text(encoding="utf-8")
+    text = files.text(asked.text)
     found = inputs.read(asked.data) if asked.data else inputs.Data()
     data = {"scalars": found.scalars, "memories": found.memories, "waits": found.ready}
     icarus.missing(icarus.top_of(text)[1], data, asked.data or "{}")

@@ -27,9 +27,17 @@ def top_of(text: str) -> Tuple[str, List[Port], Dict[str, int]]:
 def missing(ports: List[Port], data: Groups, name: str) -> None:
     """Fault where a scalar or a memory of the circuit is not in the data, or has another shape there."""
     for _, _, port in ports:
-        group, label, shape = ("scalars", port[2:], int) if port.startswith("v_") else ("memories", port[2:-4], list) if port.endswith("_ack") else ("", "", object)
-        if group and not isinstance(data[group].get(label), shape):
-            raise Fault(f"{name}: {group} has no {label}, {'a number' if shape is int else 'a list of numbers'}, which the circuit takes")
+        if port.startswith("v_") and not isinstance(data["scalars"].get(port[2:]), int):
+            raise Fault(f"{name}: scalars has no {port[2:]}, a number, which the circuit takes")
+        if port.endswith("_ack"):
+            if not _are_numbers(data["memories"].get(port[2:-4])):
+                raise Fault(f"{name}: memories has no {port[2:-4]}, a list of numbers, which the circuit takes")
+            if not _are_numbers(data["waits"].get(port[2:-4], [])):
+                raise Fault(f"{name}: {port[2:-4]} in waits is no list of numbers")
+
+
+def _are_numbers(given: Any) -> bool:
+    return isinstance(given, list) and all(isinstance(it, int) for it in given)
 
 
 def memory_lines(name: str, bits: int, cells: List[int], ready: List[int]) -> Iterator[str]:
@@ -80,8 +88,9 @@ def bench(text: str, data: Groups, cycles: int, dump: Optional[str] = None) -> I
     yield "endmodule"
 
 
-def token(number: int, bits: int) -> str:
-    return "eot" if number >> (bits - 1) else str(number)
+def token(number: str, bits: str) -> str:
+    """A token as a report shows it; one of which a bit is unknown as Icarus Verilog does."""
+    return "eot" if number.isdecimal() and int(number) >> (int(bits) - 1) else number
 
 
 def report(text: str, lines: List[str]) -> List[str]:
@@ -92,7 +101,7 @@ def report(text: str, lines: List[str]) -> List[str]:
     shown: Dict[str, List[str]] = {name: [] for name in names}
     for line in lines[:-1]:
         kind, label, *rest = line.split()
-        shown[f"{kind} {label}"].append(token(int(rest[0]), int(rest[1])) if kind == "stream" else rest[0])
+        shown[f"{kind} {label}"].append(token(rest[0], rest[1]) if kind == "stream" else rest[0])
     return [" ".join([f"{name}:", *shown[name]]) for name in names] + lines[-1:]
 
 
