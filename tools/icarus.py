@@ -8,7 +8,6 @@ unknown, as IEEE 1364-2005 says. A dump has all nets, for GTKWave and others (do
 """
 import os
 import shutil
-import subprocess
 import sys
 import tempfile
 from pathlib import Path
@@ -41,15 +40,12 @@ def main(asked):
         Path(made).write_text("\n".join(icarus.bench(text, data, asked.cycles, dump)) + "\n", encoding="utf-8")
         if asked.bench:
             shutil.copyfile(made, asked.bench)
-        compiled = subprocess.run(["iverilog", "-g2005", "-gno-xtypes", "-o", ran, asked.text, made], check=False)
-        if compiled.returncode != 0:
-            raise script.Fault(f"{asked.text}: Icarus Verilog refuses the text or its testbench")
-        said = subprocess.run(["vvp", "-n", ran], check=True, capture_output=True, text=True)
+        said = icarus.simulated(ran, (asked.text, made), asked.text)
         if asked.beside:
             others = list(icarus.differences(asked.beside, dump))
             print("".join(f"{line}\n" for line in others), end="")
             return 1 if others else 0
-    print("\n".join(icarus.report(text, [line for line in said.stdout.splitlines() if not line.startswith("VCD ")])))
+    print("\n".join(icarus.report(text, said)))
 
 
 if __name__ == "__main__":

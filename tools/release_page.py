@@ -29,7 +29,7 @@ def words():
 
 def main(asked):
     program = Path(asked.folder, "program", "tapa").read_bytes()
-    versions = [tuple(map(int, it.split(b"."))) for it in re.findall(rb"GLIBC_(\d+\.\d+)", program)]
+    versions = [tuple(map(int, it.split(b"."))) for it in re.findall(rb"GLIBC_([0-9]{1,4}\.[0-9]{1,4})", program)]
     version = files.text(os.path.join(asked.folder, "VERSION")).strip()
     glibc = ".".join(map(str, max(versions, default=(2, 2))))
     print(PAGE.format(state=STATES[asked.state], version=version, commit=asked.commit, kit=asked.kit, sum=hashlib.sha256(program).hexdigest(), glibc=glibc), end="")
