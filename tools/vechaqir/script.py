@@ -65,6 +65,14 @@ class Words(argparse.ArgumentParser):
     def error(self, message: str) -> NoReturn:
         raise Usage(message)
 
+    def taken(self, given: Optional[List[str]]) -> argparse.Namespace:
+        """What each word is. Usage where a second `--` is in the place of a word, of which argparse makes a list."""
+        found = self.parse_args(given)
+        for action in self._actions:
+            if action.nargs is None and isinstance(getattr(found, action.dest, None), list):
+                raise Usage(f"`--` is in the place of {action.metavar}")
+        return found
+
     def program(self) -> "Words":
         """A built `tapa`."""
         self.add_argument("program", metavar="PROGRAM", type=executable, help="the built `tapa`")
@@ -153,7 +161,7 @@ def put_streams() -> None:
 def ended(words: Words, main: Callable[[argparse.Namespace], Optional[int]], given: Optional[List[str]]) -> Union[int, str, None]:
     """The status of a script: its function's, 0 if that gives none, 1 for a fault and 2 for wrong words."""
     try:
-        return main(words.parse_args(given))
+        return main(words.taken(given))
     except SystemExit as end:
         return end.code
     except Usage as why:
