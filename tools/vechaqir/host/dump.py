@@ -118,12 +118,15 @@ class Dump:
     def _raw_changes(self) -> Iterator[Tuple[int, str, str]]:
         """Time, key and digits of each change; for a time without changes the key is empty."""
         time, is_head = 0, True
+        of_texts = {net.key for net in self.nets.values() if not net.width}
         with open(self.path, encoding="latin-1") as file:
             for line in file:
                 if is_head:
                     is_head = "$enddefinitions" not in line
                     continue
                 first = line[0]
+                if first in "01xzXZbB" and of_texts and line[1:].rpartition(" ")[2].strip() in of_texts:
+                    raise NotADump(f"{self.path}: `{line.strip()[:40]}` gives a number to a variable of texts")
                 if first in "01xzXZ":
                     yield time, line[1:].strip(), first
                 elif first in "bB":
