@@ -109,6 +109,8 @@ def _read(source: Source, task: Task) -> Machine:
 
 
 def _declare(code: Code, found: Machine, name: str, direction: str, kind: Kind, at: int) -> None:
+    if not kind.bits:
+        raise NotUnderstood(at)
     if direction in ("istream", "ostream"):
         code.declare(name, Entity("stream", kind, len(found.streams)))
         found.streams.append(name)
