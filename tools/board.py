@@ -9,10 +9,10 @@ Needs Debian's packages `yosys` and `nextpnr-ice40`. The circuit's ports are fol
 import os
 import sys
 import tempfile
-from pathlib import Path
 
 sys.dont_write_bytecode = True
 from vechaqir import script  # noqa: E402
+from vechaqir.host import files  # noqa: E402
 from vechaqir.measure import board  # noqa: E402
 
 
@@ -41,7 +41,7 @@ def main(asked):
     lacking = board.missing()
     if lacking:
         raise script.Fault(f"this needs Debian's {' and '.join(lacking)}: apt-get install {' '.join(lacking)}")
-    text = Path(asked.text).read_text(encoding="utf-8")
+    text = files.text(asked.text)
     top = board.top_of(text)
     with tempfile.TemporaryDirectory(prefix="tapa-board-") as folder:
         if asked.keep:

@@ -12,7 +12,6 @@ address that comes only with `ack` is found with random memories alone, since it
 page. The random numbers are the same in each call. Needs `iverilog` and `vvp`.
 """
 import functools
-import json
 import os
 import random
 import re
@@ -23,7 +22,8 @@ from pathlib import Path
 
 sys.dont_write_bytecode = True
 from vechaqir import script  # noqa: E402
-from vechaqir.measure.icarus import report, top_of  # noqa: E402
+from vechaqir.host import data as inputs, files  # noqa: E402
+from vechaqir.measure.icarus import missing, report, simulated, top_of  # noqa: E402
 
 ROOT = script.ROOT
 PAGE = os.path.join(ROOT, "docs", "CIRCUIT.md")
@@ -32,7 +32,7 @@ LIMIT = 20_000
 
 def page_lines(page, begin):
     """The lines of a page that begin so."""
-    found = re.search(rf"^```verilog\n({re.escape(begin)}.*?)^```$", Path(page).read_text(encoding="utf-8"), re.M | re.S)
+    found = re.search(rf"^```verilog\n({re.escape(begin)}.*?)^```$", files.text(page), re.M | re.S)
     if not found:
         raise script.Usage(f"{page} has no lines of Verilog that begin with `{begin}`")
     return found[1]
@@ -144,15 +144,18 @@ def shown_in_icarus(folder, text, data, memory, resets):
     paths = [os.path.join(folder, name) for name in ("design.v", "bench.v", "bench")]
     for path, lines in zip(paths, (text, "\n".join(bench(text, data, memory, resets)) + "\n")):
         Path(path).write_text(lines, encoding="utf-8")
-    subprocess.run(["iverilog", "-g2005", "-gno-xtypes", "-o", paths[2], *paths[:2]], check=True)
-    said = subprocess.run(["vvp", "-n", paths[2]], check=True, capture_output=True, text=True).stdout.splitlines()
+    said = ["again", *simulated(paths[2], paths[:2], "the circuit")]
     bad = sorted({line for line in said if line.startswith("bad ")})
     return report(text, [line for line in said[len(said) - said[::-1].index("again"):] if not line.startswith("bad ")]), bad
 
 
 def built(program, source, top, *words):
     """The circuit of a source."""
-    return subprocess.run([program, "build", source, top, *words], cwd=ROOT, capture_output=True, text=True, check=True).stdout
+    words = ["build", source, top, *words]
+    ran = subprocess.run([program, *words], cwd=ROOT, capture_output=True, check=False)
+    if ran.returncode != 0:
+        raise script.Told(ran.stderr.decode("utf-8", "replace").strip(), words)
+    return ran.stdout.decode()
 
 
 def is_same(got, wanted, may_go_on):
@@ -165,15 +168,17 @@ def is_same(got, wanted, may_go_on):
 def check(program, source, top, file, chance, text=None, kinds=tuple(MEMORIES), page=PAGE):
     """What of a source, or of this text of its circuit, is otherwise in Icarus Verilog; nothing where its run does not end."""
     words = [program, "run", source, top, *([file] if file else []), "--steps", "100000"]
-    ran = subprocess.run(words, cwd=ROOT, capture_output=True, text=True, check=False)
+    ran = subprocess.run(words, cwd=ROOT, capture_output=True, check=False)
     if ran.returncode != 0:
         return None
-    wanted = [line if not line.startswith("done ") else "done" for line in ran.stdout.splitlines()]
+    wanted = [line if not line.startswith("done ") else "done" for line in ran.stdout.decode().splitlines()]
     text = text or built(program, source, top)
     data = {}
-    may_go_on = "tapa::detach" in Path(ROOT, source).read_text(encoding="utf-8")
+    may_go_on = b"tapa::detach" in Path(ROOT, source).read_bytes()
     if file:
-        data = json.loads(Path(ROOT, file).read_text(encoding="utf-8"))
+        read = inputs.read(os.path.join(ROOT, file))
+        data = {"scalars": read.scalars, "memories": read.memories}
+    missing(top_of(text)[1], {"scalars": {}, "memories": {}, "waits": {}, **data}, file or "{}")
     wrong = []
     with tempfile.TemporaryDirectory(prefix="tapa-memories-") as folder:
         for kind in kinds:
@@ -211,11 +216,12 @@ def main(asked):
         raise script.Usage("a text needs its source, and a source its top task")
     text = None
     if asked.text:
-        text = Path(asked.text).read_text(encoding="utf-8")
+        text = files.text(asked.text)
     program, chance = os.path.abspath(asked.program), random.Random(2001)
     kinds = tuple(MEMORIES) if asked.memories == "all" else (asked.memories,)
     tried, wrong = 0, []
-    for source, top, data in [(asked.source, asked.top, asked.data)] if asked.source else examples():
+    given = [os.path.abspath(it) if it else it for it in (asked.source, asked.data)]
+    for source, top, data in [(given[0], asked.top, given[1])] if asked.source else examples():
         found = check(program, source, top, data, chance, text, kinds, asked.page)
         tried += found is not None
         wrong += found or []

@@ -8,7 +8,6 @@ A stream over several borders is counted at each: it goes along its writer's col
 no bundles are drawn, since a plan does not tell where streams begin and end. In slots with many tasks each is a small box in the colour of its leaf task.
 """
 import sys
-from pathlib import Path
 
 sys.dont_write_bytecode = True
 from vechaqir import script  # noqa: E402
@@ -28,7 +27,7 @@ def words():
 def main(asked):
     if asked.source and not asked.top:
         raise script.Usage("a source needs its top task")
-    planned = plan.parse(Path(asked.plan).read_text(encoding="utf-8"))
+    planned = plan.read(asked.plan)
     known = device.read(asked.device)
     if set(planned.slots) != {known.place(number) for number in range(len(known.slots))}:
         raise script.Fault(f"{asked.plan} is no plan on the device {asked.device}: they have other slots")

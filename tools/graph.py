@@ -8,10 +8,10 @@ With the messages of a run that has stopped, streams that an instance waits for 
 some. A round box is a memory of the top task, a dashed box an upper-level task. Nothing here is proved: the picture shows what the top module of the text joins.
 """
 import sys
-from pathlib import Path
 
 sys.dont_write_bytecode = True
 from vechaqir import script  # noqa: E402
+from vechaqir.host import files  # noqa: E402
 from vechaqir.show import networks  # noqa: E402
 
 
@@ -23,9 +23,9 @@ def words():
 
 
 def main(asked):
-    network, facts, late = networks.of_circuit(Path(asked.circuit).read_text(encoding="utf-8"))
+    network, facts, late = networks.of_circuit(files.text(asked.circuit))
     if asked.told:
-        late = networks.put_waits(network, facts, Path(asked.told).read_text(encoding="utf-8").splitlines())
+        late = networks.put_waits(network, facts, files.text(asked.told).splitlines())
     print("\n".join(networks.drawing(network, facts, late)))
 
 

@@ -8,14 +8,13 @@ unknown, as IEEE 1364-2005 says. A dump has all nets, for GTKWave and others (do
 """
 import os
 import shutil
-import subprocess
 import sys
 import tempfile
 from pathlib import Path
 
 sys.dont_write_bytecode = True
 from vechaqir import script  # noqa: E402
-from vechaqir.host import data as inputs  # noqa: E402
+from vechaqir.host import data as inputs, files  # noqa: E402
 from vechaqir.measure import icarus  # noqa: E402
 
 
@@ -31,7 +30,7 @@ def words():
 
 
 def main(asked):
-    text = Path(asked.text).read_text(encoding="utf-8")
+    text = files.text(asked.text)
     found = inputs.read(asked.data) if asked.data else inputs.Data()
     data = {"scalars": found.scalars, "memories": found.memories, "waits": found.ready}
     icarus.missing(icarus.top_of(text)[1], data, asked.data or "{}")
@@ -41,15 +40,12 @@ def main(asked):
         Path(made).write_text("\n".join(icarus.bench(text, data, asked.cycles, dump)) + "\n", encoding="utf-8")
         if asked.bench:
             shutil.copyfile(made, asked.bench)
-        compiled = subprocess.run(["iverilog", "-g2005", "-gno-xtypes", "-o", ran, asked.text, made], check=False)
-        if compiled.returncode != 0:
-            raise script.Fault(f"{asked.text}: Icarus Verilog refuses the text or its testbench")
-        said = subprocess.run(["vvp", "-n", ran], check=True, capture_output=True, text=True)
+        said = icarus.simulated(ran, (asked.text, made), asked.text)
         if asked.beside:
             others = list(icarus.differences(asked.beside, dump))
             print("".join(f"{line}\n" for line in others), end="")
             return 1 if others else 0
-    print("\n".join(icarus.report(text, [line for line in said.stdout.splitlines() if not line.startswith("VCD ")])))
+    print("\n".join(icarus.report(text, said)))
 
 
 if __name__ == "__main__":

@@ -11,6 +11,7 @@ from pathlib import Path
 
 sys.dont_write_bytecode = True
 from vechaqir import script  # noqa: E402
+from vechaqir.host import files  # noqa: E402
 from vechaqir.show import markup  # noqa: E402
 
 SEE = "The pages that are installed with the command, in the folder docs: TUTORIAL.md, LANGUAGE.md, REFUSALS.md, TROUBLESHOOTING.md, DATA.md, DEVICE.md, CIRCUIT.md and others. TAPA\\(aqs own command, which compiles for FPGAs of a vendor, is called \\fBtapa\\fR too."
@@ -49,7 +50,7 @@ def main(asked):
     elif not asked.what:
         raise script.Usage("html needs a page")
     path = asked.what if asked.form == "html" else os.path.join(script.ROOT, "docs", "COMMAND.md")
-    text = Path(path).read_text(encoding="utf-8")
+    text = files.text(path)
     sys.stdout.write(markup.page_html(text, os.path.relpath(os.path.realpath(path), script.ROOT)) if asked.form == "html" else manual(text, name))
 
 

@@ -11,6 +11,7 @@ from pathlib import Path
 
 sys.dont_write_bytecode = True
 from vechaqir import script, tables  # noqa: E402
+from vechaqir.host import files  # noqa: E402
 
 PAGE = Path(script.ROOT, "tools", "release.text").read_text(encoding="utf-8")
 # What is said of the program, by its state.
@@ -28,8 +29,8 @@ def words():
 
 def main(asked):
     program = Path(asked.folder, "program", "tapa").read_bytes()
-    versions = [tuple(map(int, it.split(b"."))) for it in re.findall(rb"GLIBC_(\d+\.\d+)", program)]
-    version = Path(asked.folder, "VERSION").read_text(encoding="utf-8").strip()
+    versions = [tuple(map(int, it.split(b"."))) for it in re.findall(rb"GLIBC_([0-9]{1,4}\.[0-9]{1,4})", program)]
+    version = files.text(os.path.join(asked.folder, "VERSION")).strip()
     glibc = ".".join(map(str, max(versions, default=(2, 2))))
     print(PAGE.format(state=STATES[asked.state], version=version, commit=asked.commit, kit=asked.kit, sum=hashlib.sha256(program).hexdigest(), glibc=glibc), end="")
 

@@ -12,11 +12,10 @@ Else the status is that of the run.
 import json
 import sys
 import tempfile
-from pathlib import Path
 
 sys.dont_write_bytecode = True
 from vechaqir import script  # noqa: E402
-from vechaqir.host import program  # noqa: E402
+from vechaqir.host import files, program  # noqa: E402
 from vechaqir.language import source  # noqa: E402
 from vechaqir.measure import tries  # noqa: E402
 from vechaqir.show import report  # noqa: E402
@@ -36,8 +35,8 @@ def words():
 def ran(asked, read):
     """A run, or the report that is there: its outputs and its status, and the profile of its circuit where it has one."""
     if asked.kept:
-        with open(0 if asked.kept == "-" else asked.kept, encoding="utf-8") as file:
-            return file.read(), "", 0, None
+        kept = files.decoded(sys.stdin.buffer.read(), "standard input") if asked.kept == "-" else files.text(asked.kept)
+        return kept, "", 0, None
     said = program.find().call(["run", *tries.words_of(asked)])
     shown = None
     if said.status in (0, 8) and not asked.no_circuit:
@@ -47,7 +46,10 @@ def ran(asked, read):
 
 
 def expected(path):
-    found = json.loads(Path(path).read_text(encoding="utf-8"))
+    try:
+        found = json.loads(files.text(path))
+    except (ValueError, RecursionError):
+        raise script.Fault(f"{path}: no JSON, or a number is too long, or it nests too deep") from None
     if not isinstance(found, dict) or not all(isinstance(found.get(group, {}), dict) for group in ("streams", "memories")):
         raise script.Fault(f"{path}: no object with streams and memories")
     return found

@@ -10,6 +10,7 @@ import sys
 
 sys.dont_write_bytecode = True
 from vechaqir import script  # noqa: E402
+from vechaqir.host import files  # noqa: E402
 from vechaqir.language import source  # noqa: E402
 from vechaqir.show import report  # noqa: E402
 
@@ -20,8 +21,8 @@ def words():
 
 def main(asked):
     network = source.network(source.read(asked.source), asked.top)
-    for line in sys.stdin:
-        sys.stdout.write(report.signed_lines(network, line))
+    for line in sys.stdin.buffer:
+        sys.stdout.write(report.signed_lines(network, files.decoded(line, "standard input")))
 
 
 if __name__ == "__main__":

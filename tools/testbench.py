@@ -15,7 +15,7 @@ import sys
 sys.dont_write_bytecode = True
 from vechaqir import script  # noqa: E402
 from vechaqir.host import data, report  # noqa: E402
-from vechaqir.host.design import Design  # noqa: E402
+from vechaqir.host.design import MODES, Design  # noqa: E402
 from vechaqir.host.results import Failure, NotDone  # noqa: E402
 from vechaqir.language import source  # noqa: E402
 from vechaqir.measure import testbench, tries  # noqa: E402
@@ -46,6 +46,8 @@ def cycles_of(circuit, given, waits, ticks):
 
 
 def main(asked):
+    if asked.plan and asked.plan not in MODES:
+        raise script.Usage(f"--plan is {asked.plan}, and has to be {', '.join(MODES[:-1])} or {MODES[-1]}")
     try:
         design = Design(asked.source, asked.top)
         inputs = data.read(asked.data) if asked.data else data.Data()

@@ -3,14 +3,16 @@
 
     tests/stress/tools.py PROGRAM [--only NAME,..] [--count N] [--first N] [--seed S]
 
-Each call is a process of its own, with 20 seconds of CPU time and 3 GB. A finding is a traceback, a signal, a call without an end, an explanation that failed, or a status that no
-page has. It is printed, and its folder is kept. The last line is `N passed, M failed`.
+Each call is a process of its own, with 20 seconds of CPU time and 3 GB. A finding is a traceback, an exception of Python or its words in place of a sentence of the tool, a signal,
+a call without an end, an explanation that failed, or a status that no page has. It is printed, and its folder is kept. The last line is `N passed, M failed`.
 """
+import gc
 import importlib.util
 import json
 import os
 import pkgutil
 import random
+import re
 import resource
 import shutil
 import signal
@@ -54,6 +56,11 @@ EXAMPLES = ("vector_add", "run_length", "lanes", "two_ways", "too_shallow", "bad
 ENDS = {"SRC": "cpp", "DATA": "json", "DEV": "dev.json", "CIRCUIT": "v", "DUMP": "vcd", "WAVES": "vcd", "PAGE": "md"}
 WORDS = ["", "-", "--", "-h", "--help", "--json", "--x=y", "-1", "0", "9" * 25, "a" * 5000, "\udcff", "T\n", "--from", "--nets", "$", "a=b", "..", "/", "/dev/null", "/dev/full", "/proc/self/mem", "é", "{}", "[", "*", "--device", "--plan", "exact"]
 TOLD = b"tapa: in.cpp:3:9: C1 unknown name\ntapa: in.json: J2 scalars.n\ntapa: in.dev.json: K1 slots\ntapa: too many plans: 4 slots, 30 free groups\ntapa: more than 5 ticks\ntapa: cannot read in.cpp\ntapa: no room for A$0\n"
+# What a tool says where it did not expect an exception, and how Python words its own ones on standard error: none of them says what is wrong with which file.
+OWN = re.compile(
+    f"{script.UNEXPECTED}|codec can't|index out of range|invalid literal for|maximum recursion depth|instance, .* found|object is not|object has no|not supported between|not subscriptable"
+    "|unhashable type|unsupported operand|positional arguments? but|required positional|(?:has to|must) be (?:a )?(?:str|integer|string|bytes|real)|substring not found|is not in list|values to unpack|could not convert|Expecting (?:value|property|',')"
+    "|division by zero|Exceeds the limit|surrogates not allowed|non-zero exit status|cannot convert|NoneType|pop from an empty|embedded null|math domain")
 SECONDS, WALL, MEMORY = 20, 3000, 3 * 2**30
 
 
@@ -189,15 +196,20 @@ def answer(path, module, words, given):
     return os.waitstatus_to_exitcode(status) if signal.alarm(0) else None
 
 
-def wrong(status):
+def wrong(status, words):
     """What is wrong with a call; nothing if it is in order."""
-    said = "".join(Path(name).read_text(encoding="utf-8", errors="replace") for name in (".err", ".out") if os.path.exists(name))
+    err, out = (Path(name).read_text(encoding="utf-8", errors="replace") if os.path.exists(name) else "" for name in (".err", ".out"))
+    said = err + out
     if status is None:
         return f"it had not ended after {WALL} seconds"
     if status < 0:
         return f"signal {-status}"
     if "Traceback (most recent" in said or "      = no explanation: " in said:
         return "\n".join(line for line in said.splitlines()[-30:] if "no explanation: " in line or not line.startswith("      |"))[-3000:]
+    if OWN.search(err) or "in tools/lsp.py" in out:
+        return said[-3000:]
+    if "out of memory" in err and "/dev/full" not in words:
+        return "out of memory, and no file is without an end"
     return "" if status <= 9 or status == 125 else f"status {status}"
 
 
@@ -205,13 +217,14 @@ def try_tool(name, asked, good):
     """The numbers of the inputs of a script that passed and failed."""
     os.chdir(ROOT)
     path, module = load(name)
+    gc.freeze()
     failed = 0
     for number in range(asked.first, asked.first + asked.count):
         some = random.Random(f"{name} {asked.seed} {number}")
         folder = tempfile.mkdtemp(prefix="tapa-hostile-")
         os.chdir(folder)
         words, given = made(some, some.choice(CALLS[name]), some.choice(good), good, asked.program)
-        why = wrong(answer(path, module, words, given))
+        why = wrong(answer(path, module, words, given), words)
         if why:
             failed += 1
             print(f"FAILED {name} {number}: {' '.join(words)[:300]!r} < {given} in {folder}\n   {why}", flush=True)

@@ -10,13 +10,15 @@ import errno  # noqa: E402
 import io  # noqa: E402
 import os  # noqa: E402
 import re  # noqa: E402
-import subprocess  # noqa: E402
 import sys  # noqa: E402
+import traceback  # noqa: E402
 from typing import Callable, List, NoReturn, Optional, Sequence, TextIO, Union, cast  # noqa: E402
 
 from .host.faults import Fault, Told  # noqa: E402
 
 ROOT = os.path.dirname(os.path.dirname(os.path.dirname(os.path.realpath(__file__))))
+# How the line begins that reports an exception that is neither of this module nor of the system.
+UNEXPECTED = "this script has a fault"
 
 
 class Usage(Exception):
@@ -63,6 +65,14 @@ class Words(argparse.ArgumentParser):
     def error(self, message: str) -> NoReturn:
         raise Usage(message)
 
+    def taken(self, given: Optional[List[str]]) -> argparse.Namespace:
+        """What each word is. Usage where a second `--` is in the place of a word, of which argparse makes a list."""
+        found = self.parse_args(given)
+        for action in self._actions:
+            if action.nargs is None and isinstance(getattr(found, action.dest, None), list):
+                raise Usage(f"`--` is in the place of {action.metavar}")
+        return found
+
     def program(self) -> "Words":
         """A built `tapa`."""
         self.add_argument("program", metavar="PROGRAM", type=executable, help="the built `tapa`")
@@ -98,16 +108,18 @@ def shown(messages: str, words: Sequence[str]) -> str:
 
 
 def told(why: BaseException) -> str:
-    """A fault in one line."""
+    """A fault in one line: the words of an exception of this module, those of the system, or that the script did not expect it."""
     if isinstance(why, OSError):
         return f"{why.filename}: {why.strerror}" if why.filename is not None else str(why.strerror or why)
-    if isinstance(why, UnicodeDecodeError):
-        return "a file is no text of UTF-8"
     if isinstance(why, MemoryError):
         return "out of memory"
-    if isinstance(why, (KeyError, IndexError, TypeError, AttributeError)):
-        return f"the input is not as it has to be ({type(why).__name__}: {why})"
-    return str(why)
+    return str(why) if type(why).__module__.partition(".")[0] == __name__.partition(".")[0] else f"{UNEXPECTED}: {type(why).__name__} in {_place(why)}, please report it"
+
+
+def _place(why: BaseException) -> str:
+    """The file and line of the repository at which an exception came."""
+    frames = [it for it in traceback.extract_tb(why.__traceback__) if it.filename.startswith(f"{ROOT}{os.sep}")]
+    return f"{os.path.relpath(frames[-1].filename, ROOT)}:{frames[-1].lineno}" if frames else called()
 
 
 def leave(status: Union[int, str, None]) -> NoReturn:
@@ -140,13 +152,16 @@ def put_streams() -> None:
             os.open(os.devnull, mode)
     sys.stdin = sys.stdin or open(0, encoding="utf-8", closefd=False)
     sys.stdout = sys.stdout or cast(TextIO, Closed())
+    if isinstance(sys.stdout, io.TextIOWrapper):
+        # names of files that are not UTF-8 are written as they were given
+        sys.stdout.reconfigure(errors="surrogateescape")
     sys.stderr = sys.stderr or open(2, "w", encoding="utf-8", errors="backslashreplace", closefd=False)
 
 
 def ended(words: Words, main: Callable[[argparse.Namespace], Optional[int]], given: Optional[List[str]]) -> Union[int, str, None]:
     """The status of a script: its function's, 0 if that gives none, 1 for a fault and 2 for wrong words."""
     try:
-        return main(words.parse_args(given))
+        return main(words.taken(given))
     except SystemExit as end:
         return end.code
     except Usage as why:
@@ -164,7 +179,7 @@ def ended(words: Words, main: Callable[[argparse.Namespace], Optional[int]], giv
     except Fault as why:
         sys.stderr.write("".join(f"{words.prog}: {line}\n" for line in why.lines))
         return why.status
-    except (LookupError, OSError, ValueError, TypeError, AttributeError, MemoryError, RecursionError, subprocess.SubprocessError) as why:
+    except Exception as why:  # pylint: disable=broad-except
         sys.stderr.write(f"{words.prog}: {told(why)}\n")
         return 1
 

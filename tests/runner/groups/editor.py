@@ -8,6 +8,7 @@ import shutil
 import subprocess
 import sys
 import time
+from unittest import mock
 
 from runner.client import URI, Client, Inside, framed
 from runner.made import messages as made
@@ -215,6 +216,17 @@ def try_pieces(trial):
         trial.check(f"after {junk[:60]!r} the next message is answered", any(it.get("id") == "x" for it in inside.sent), f"   {inside.sent}")
 
 
+def try_fault(trial):
+    """A notification whose handling fails is reported to the client, and the server works on."""
+    inside = Inside(trial.program)
+    inside.begin(read("tests/cases/editor/network.cpp"))
+    with mock.patch.dict(server.NOTIFIED, {"textDocument/didSave": lambda *_: [][0]}):
+        inside.note("textDocument/didSave", {"textDocument": {"uri": URI}})
+    told = [it["params"]["message"] for it in inside.sent if it.get("method") == "window/showMessage"]
+    trial.check_equal("a fault of the server's own in a notification", told, ["tapa: textDocument/didSave: IndexError in tools/lsp.py"])
+    trial.check_equal("after it a text is still checked", inside.change("void F(tapa::istream<int>& q) { q.raed(); }\n")[0]["code"], "C6")
+
+
 def flood(trial, seed, count):
     """So many messages at random, within this process; then the server still answers."""
     some = random.Random(f"editor {seed}")
@@ -277,6 +289,7 @@ def try_all(trial):
     try_speed(trial)
     try_session(trial)
     try_pieces(trial)
+    try_fault(trial)
     flood(trial, 1, 1_000)
     try_neovim(trial)
     try_extension(trial)

@@ -22,7 +22,7 @@ def try_report(trial):
         trial.check(f"icarus.py writes {name}", word in read(f"{folder}/{name}"))
     bad = trial.put("bad.json", '{"scalars": {"n": 1}, "memories": {"a": 3}}')
     for given, wanted in (([text], "{}: scalars has no n, a number, which the circuit takes"), ([text, bad], f"{bad}: memories has no a, a list of numbers, which the circuit takes"),
-                          ([text, text], f"{text}:1:1: no JSON: Expecting value"), ([bad], "this is no circuit that `tapa build` wrote: it has no module")):
+                          ([text, text], f"{text}:1:1: no JSON from here on"), ([bad], "this is no circuit that `tapa build` wrote: it has no module")):
         trial.check_equal(f"what icarus.py {' '.join(given)} says", trial.tool("icarus.py", *given), (1, "", f"tools/icarus.py: {wanted}\n"))
 
 

@@ -26,6 +26,15 @@ STATES = {
 }
 
 
+# Forty pairs of tasks, and what is shown of their network.
+TALL = """void A(tapa::ostream<int>& q) { q.write(1); }
+void B(tapa::istream<int>& q) { q.read(); }
+void Tall() { tapa::streams<int, 40> s; tapa::task().invoke<tapa::join, 40>(A, s).invoke<tapa::join, 40>(B, s); }
+"""
+VIEW = """const {x, y, width, height} = views[shownView].svg.viewBox.baseVal, pane = byId('graph');
+return {x, y, width, height, scale: Math.min(pane.clientWidth / width, pane.clientHeight / height)};"""
+
+
 def nested():
     """A program of 80 tasks, 72 of them in nine upper-level tasks with two in each, and a device with a place for each task."""
     ends = [f"{letter}{place}" for place in range(4) for letter in "ab"]
@@ -130,6 +139,21 @@ def try_keys(trial, shown):
     trial.check_equal("Escape chooses none", shown.run("return chosen"), None)
 
 
+def try_tall(trial, shown):
+    """A network of many tasks one below the other opens at its upper end, with labels that can be read; the button shows all of it."""
+    path, data = page_of(trial, "a tall network", [trial.put("tall.cpp", TALL), "Tall"])
+    graph = data.get("graph", {"width": 0, "height": 0})
+    trial.check("a tall network is tall", graph["height"] > 3 * graph["width"] > 0, f"   {graph['width']} by {graph['height']}")
+    if shown is None:
+        return
+    shown.open(path)
+    opened = shown.run(VIEW)
+    trial.check("a tall network opens at its upper end, in its whole width", opened["y"] == 0 and opened["x"] <= 0 and opened["width"] >= graph["width"] and opened["scale"] >= 0.5, f"   {opened}")
+    shown.run("byId('fit').click()")
+    whole = shown.run(VIEW)
+    trial.check("the button shows all of a tall network", whole["height"] >= graph["height"] and whole["scale"] < 0.5, f"   {whole}")
+
+
 def try_pages(trial, shown):
     for path in sources("examples"):
         device = "two_dies" if path == "examples/two_ways.cpp" else "u280"
@@ -148,7 +172,9 @@ def try_all(trial):
     if browser.is_there():
         with browser.Browser() as shown:
             try_pages(trial, shown)
+            try_tall(trial, shown)
             try_keys(trial, shown)
     else:
         trial.note("there is no Chromium here, so pages were made and not shown")
         try_pages(trial, None)
+        try_tall(trial, None)

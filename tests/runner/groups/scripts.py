@@ -1,11 +1,15 @@
 """Every script of tools/: it is executable, answers `--help`, and never ends in a traceback, whatever its words, files and streams are."""
 import glob
+import json
 import os
 import random
 import subprocess
 from pathlib import Path
 
 from runner.trial import ROOT, each, read
+from vechaqir import script
+from vechaqir.host import device
+from vechaqir.script import UNEXPECTED
 
 # Those that build, install or prove something whatever they are given, or run many circuits; only their `--help` is tried.
 LONG = ("unproved.py", "in_parts.py", "check_memories.py", "check_verilog.sh", "install", "release.sh")
@@ -60,7 +64,7 @@ def random_file(some, folder, number):
 def try_words(trial, path, words, folder):
     """A call with any words: a status from 0 to 9, or 125, and no traceback."""
     status, err, *_ = run(trial, path, words, folder)
-    is_right = status is not None and (0 <= status <= 9 or status == 125) and "Traceback" not in err
+    is_right = status is not None and (0 <= status <= 9 or status == 125) and "Traceback" not in err and UNEXPECTED not in err
     trial.check(f"{os.path.relpath(path, ROOT)} {' '.join(words)} has a plain answer", is_right, f"   {status} {err[-600:]}")
 
 
@@ -77,6 +81,38 @@ def try_flood(trial, seed, count):
             files = [random_file(some, folder, number), f"{folder}/none.cpp", folder, os.path.join(ROOT, "examples/lanes.cpp")]
             words = [some.choice(files[:1] * 4 + files[1:]) if some.random() < 0.7 else some.choice(WORDS) for _ in range(some.randrange(4))]
             try_words(trial, path, words, folder)
+
+
+@each(lambda: map(tuple, json.loads(read("tests/cases/tools/faults.json"))))
+def try_fault(trial, name, words, files, status, told):
+    """A file with a fault: the sentence names the file and what is wrong with it."""
+    folder = os.path.join(trial.folder.name, "faults")
+    os.makedirs(folder, exist_ok=True)
+    for file, text in files.items():
+        Path(folder, file).write_bytes(text.encode("latin-1"))
+    got, err, out = run(trial, os.path.join(ROOT, "tools", name), words, folder)
+    trial.check(f"{name} {' '.join(words)} says `{told[:80]}`", (got, out) == (status, b"") and told in err and err.count("\n") == 1, f"   {got} {err[-600:]}")
+
+
+@each((("signed.py",), ("report.py", "--from", "-")))
+def try_bytes(trial, name, *more):
+    """A report on standard input that is no UTF-8."""
+    words = [os.path.join(ROOT, "tools", name), "examples/vector_add.cpp", "VecAdd", *more]
+    ran = subprocess.run(words, cwd=ROOT, input=b"stream q: \xff\n", capture_output=True, check=False)
+    trial.check_equal(f"{name} on bytes", (ran.returncode, ran.stderr.decode()), (1, f"tools/{name}: standard input: byte 10 is no UTF-8\n"))
+
+
+def try_unexpected(trial):
+    """An exception that is not worded by the tools is reported as a fault of the script, with its place, and not as a sentence of its own."""
+    told = []
+    for why in (IndexError("list index out of range"), KeyError("x"), RecursionError("maximum recursion depth exceeded"), UnicodeDecodeError("utf-8", b"\xff", 0, 1, "invalid start byte")):
+        try:
+            raise why
+        except Exception as raised:  # pylint: disable=broad-except
+            told.append(script.told(raised))
+    wanted = [f"{UNEXPECTED}: {name} in tests/runner/groups/scripts.py:" for name in ("IndexError", "KeyError", "RecursionError", "UnicodeDecodeError")]
+    trial.check("what a script says of an exception that it did not expect", all(it.startswith(one) and it.endswith(", please report it") for it, one in zip(told, wanted)), f"   {told}")
+    trial.check_equal("what a script says of exceptions of its own and of the system", [script.told(it) for it in (device.DeviceFault("d.json: x"), MemoryError(), FileNotFoundError(2, "No such file", "f"))], ["d.json: x", "out of memory", "f: No such file"])
 
 
 def try_folder_that_is_gone(trial):

@@ -88,6 +88,8 @@ class Server:
         except Exception as why:  # pylint: disable=broad-except
             if is_request:
                 self.send(protocol.error(number, INTERNAL, f"{type(why).__name__} in tools/lsp.py"))
+            else:
+                self.warn(f"{method[:100]}: {type(why).__name__} in tools/lsp.py")
 
     def request(self, method: str, params: Any) -> Any:
         if method == "initialize":

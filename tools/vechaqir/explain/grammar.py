@@ -173,7 +173,7 @@ def out_of_place(case: Case) -> Why:
 def bad_index(case: Case, name: str, length: int) -> Why:
     """An index of an array of streams that is none of its elements."""
     index = case.word(2)
-    value = int(index) if index.isdecimal() else case.view.source.counts.get(index)
+    value = lexemes.decimal(index) if index.isdecimal() else case.view.source.counts.get(index)
     if index in arrays_of(case):
         return Why([f"`{index}` is an array in this task, and hides the constant of this name"], "give the constant another name")
     if case.word(3) != "]" or value is None:

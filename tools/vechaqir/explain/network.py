@@ -3,7 +3,7 @@ from typing import Dict, List, NamedTuple, Optional, Tuple
 
 from ..language import kinds
 from ..language.matching import matches
-from ..language.network import Instance, network
+from ..language.network import Instance, elements, network
 from ..language.syntax import Argument, Invoke, Parameter, Task
 from . import pages
 from .base import Case, Why, article, counted, few, listed
@@ -63,7 +63,7 @@ class Given(NamedTuple):
 def given(case: Case, task: Task, text: str) -> Given:
     name = text.split("[")[0]
     for stream in task.streams:
-        if name in (stream.name, *(f"{stream.name}_{at}" for at in range(stream.count or 0))):
+        if name in (stream.name, *elements(stream)):
             return Given("stream", stream.kind, False)
     parameter = task.parameter(text)
     if parameter:

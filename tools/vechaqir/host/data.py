@@ -29,7 +29,7 @@ def parse(text: str, name: str = "{}") -> Data:
     try:
         found = json.loads(text)
     except json.JSONDecodeError as error:
-        raise BadData(f"{name}:{error.lineno}:{error.colno}: no JSON: {error.msg}") from None
+        raise BadData(f"{name}:{error.lineno}:{error.colno}: no JSON from here on") from None
     except (ValueError, RecursionError):
         raise BadData(f"{name}: a number is too long, or the text nests too deep") from None
     if not isinstance(found, dict):

@@ -9,7 +9,7 @@ import copy
 import json
 from dataclasses import dataclass, field
 from pathlib import Path
-from typing import Any, Dict, List, Mapping, Optional, Tuple, Union
+from typing import Any, Dict, List, Mapping, Optional, Sequence, Tuple, Union
 
 RESOURCES = ("LUT", "FF", "BRAM", "DSP", "URAM")
 # The registers of a border, and how full a slot may be in percent, where the file does not say it.
@@ -22,7 +22,7 @@ SlotPlace = Tuple[int, int]
 
 
 class DeviceFault(ValueError):
-    """A text that describes no device; its words say why. `tapa plan` tells the exact fault by its code."""
+    """A text that describes no device; its words say why, after the name of the file if it was read from one. `tapa plan` tells the exact fault by its code."""
 
 
 @dataclass
@@ -106,25 +106,47 @@ def _laid_out(value: Any) -> str:
     return json.dumps(value)
 
 
+def _whole(given: Any, what: str) -> int:
+    """A whole number of a file, which is not below 0."""
+    if type(given) is not int or given < 0:
+        raise DeviceFault(f"{what} is no whole number")
+    return given
+
+
+def _list(given: Mapping[str, Any], key: str, default: Sequence[Any] = ()) -> Sequence[Any]:
+    found = given.get(key, default)
+    if not isinstance(found, (list, tuple)):
+        raise DeviceFault(f"`{key}` is no list")
+    return found
+
+
+def _object_at(given: Mapping[str, Any], key: str) -> Mapping[str, Any]:
+    found = given.get(key, {})
+    if not isinstance(found, dict):
+        raise DeviceFault(f"`{key}` is no JSON object")
+    return found
+
+
 def _amounts(given: Any) -> Amounts:
     """What a JSON object names of each resource, 0 where it names none."""
     if not isinstance(given, dict):
         raise DeviceFault("the resources of a slot or a task are no JSON object")
-    return [int(given.get(resource, 0)) for resource in RESOURCES]
+    return [_whole(given.get(resource, 0), resource) for resource in RESOURCES]
 
 
 def parse(text: Union[str, bytes]) -> Device:
     """The device of a file's text. DeviceFault where it has not the shape of one; what `tapa plan` takes is read as it reads it."""
     try:
-        return _device(json.loads(text))
-    except DeviceFault:
-        raise
+        given = json.loads(text if isinstance(text, str) else text.decode("utf-8"))
     except RecursionError:
         raise DeviceFault("its JSON is nested too deep") from None
-    except (ValueError, UnicodeDecodeError) as fault:
-        raise DeviceFault(f"it is no JSON: {fault}") from None
-    except (KeyError, TypeError, AttributeError, OverflowError) as fault:
-        raise DeviceFault(f"it is no device file: {fault}") from None
+    except UnicodeDecodeError as fault:
+        raise DeviceFault(f"byte {fault.start} is no UTF-8") from None
+    except json.JSONDecodeError as fault:
+        raise DeviceFault(f"no JSON from line {fault.lineno}, column {fault.colno} on") from None
+    except ValueError:
+        raise DeviceFault("a number has too many digits") from None
+    return _device(given)
 
 
 def _device(given: Any) -> Device:
@@ -133,35 +155,46 @@ def _device(given: Any) -> Device:
     missing = [key for key in ("rows", "cols", "slots") if key not in given]
     if missing:
         raise DeviceFault(f"the key `{missing[0]}` is missing")
-    rows, cols, version = int(given["rows"]), int(given["cols"]), int(given.get("version", 1))
-    slots = [_amounts(slot) for slot in given["slots"]]
+    slots = [_amounts(slot) for slot in _list(given, "slots")]
+    rows, cols = _whole(given["rows"], "`rows`"), _whole(given["cols"], "`cols`")
     if rows < 1 or cols < 1 or len(slots) != rows * cols:
         raise DeviceFault(f"{len(slots)} slots are not {rows} rows by {cols} columns")
-    each = int(given.get("levels", LEVELS))
     return Device(
         rows,
         cols,
         slots,
-        version,
-        levels_rows=[int(levels) for levels in given.get("levels_rows", [each] * (rows - 1))],
-        levels_cols=[int(levels) for levels in given.get("levels_cols", [each] * (cols - 1))],
-        percent=int(given.get("percent", PERCENT)),
-        tasks={task: _amounts(uses) for task, uses in given.get("tasks", {}).items()},
-        pins={label: _slot_place(place) for label, place in given.get("pins", {}).items()},
-        forbidden=[_slot_place(place) for place in given.get("forbidden", [])],
+        _whole(given.get("version", 1), "`version`"),
+        levels_rows=_levels(given, "levels_rows", rows - 1),
+        levels_cols=_levels(given, "levels_cols", cols - 1),
+        percent=_whole(given.get("percent", PERCENT), "`percent`"),
+        tasks={task: _amounts(uses) for task, uses in _object_at(given, "tasks").items()},
+        pins={label: _slot_place(place) for label, place in _object_at(given, "pins").items()},
+        forbidden=[_slot_place(place) for place in _list(given, "forbidden")],
         original=given,
     )
+
+
+def _levels(given: Mapping[str, Any], key: str, borders: int) -> List[int]:
+    """The registers of a wire at each border between two rows or two columns."""
+    each = _whole(given.get("levels", LEVELS), "`levels`")
+    found = [_whole(levels, f"a part of `{key}`") for levels in _list(given, key, [each] * borders)]
+    if len(found) != borders:
+        raise DeviceFault(f"`{key}` has {len(found)} numbers, and there are {borders} such borders")
+    return found
 
 
 def _slot_place(given: Any) -> SlotPlace:
     if not isinstance(given, list) or len(given) != 2:
         raise DeviceFault("the place of a slot is no list of a row and a column")
-    return int(given[0]), int(given[1])
+    return _whole(given[0], "the row of a slot"), _whole(given[1], "the column of a slot")
 
 
 def read(path: str) -> Device:
     """The device of a file. OSError where it cannot be read, DeviceFault where it describes no device."""
-    return parse(Path(path).read_bytes())
+    try:
+        return parse(Path(path).read_bytes())
+    except DeviceFault as why:
+        raise DeviceFault(f"{path}: {why}") from None
 
 
 def one_slot(tasks: Optional[Mapping[str, Amounts]] = None) -> Device:

@@ -5,8 +5,11 @@ inside of tasks and FIFOs too. A variable of the type `string`, as in a dump of 
 """
 from __future__ import annotations
 
+import re
 from typing import Dict, IO, Iterable, Iterator, List, NamedTuple, Optional, Tuple
 
+# The bits of a net, a time, and a value without unknown bits.
+WIDTH, TIME, BITS = re.compile(r"[0-9]{1,6}"), re.compile(r"[0-9]{1,18}"), re.compile(r"[01]+")
 # The most cycles between two times of a dump, in each of which at least a clock changes or a time is written.
 MOST_GAP = 10_000
 # A value of a net: a number, or None where a bit of it is unknown (`x`) or undriven (`z`).
@@ -14,7 +17,7 @@ Value = Optional[int]
 
 
 class NotADump(ValueError):
-    """A text that is no value change dump. Its words say what is wrong, and in which line."""
+    """A file that is no value change dump. Its words say which file, and what is wrong."""
 
 
 class Net(NamedTuple):
@@ -44,20 +47,33 @@ class Dump:
 
     def _read_head(self, file: IO[str]) -> None:
         scopes: List[str] = []
-        for number, words in enumerate(_commands(file), 1):
+        for number, words in enumerate(self._commands(file), 1):
             if words[0] == "$scope" and len(words) > 2:
                 scopes.append(words[2].lstrip("\\"))
                 self.top = self.top or scopes[0]
             elif words[0] == "$upscope" and scopes:
                 scopes.pop()
-            elif words[0] == "$var" and len(words) > 4 and words[2].isdecimal():
+            elif words[0] == "$var" and len(words) > 4 and WIDTH.fullmatch(words[2]):
                 name = ".".join([*scopes, words[4].lstrip("\\")])
                 self.nets[name] = Net(name, 0 if words[1] == "string" else int(words[2]), words[3])
             elif words[0] == "$enddefinitions":
                 return
             elif words[0] not in ("$timescale", "$date", "$version", "$comment"):
-                raise NotADump(f"command {number}: `{' '.join(words)[:40]}` has no place in the head of a dump")
-        raise NotADump("the head of the dump does not end: there is no $enddefinitions")
+                raise NotADump(f"{self.path}: command {number}: `{' '.join(words)[:40]}` has no place in the head of a dump")
+        raise NotADump(f"{self.path}: the head of the dump does not end: there is no $enddefinitions")
+
+    def _commands(self, file: IO[str]) -> Iterator[List[str]]:
+        """The words of each command of a dump's head, without its `$end`; a command may take several lines."""
+        words: List[str] = []
+        for line in file:
+            for word in line.split():
+                if word == "$end":
+                    yield words or [""]
+                    words = []
+                else:
+                    words.append(word)
+            if words and not words[0].startswith("$"):
+                raise NotADump(f"{self.path}: `{' '.join(words)[:40]}` is no command of a dump")
 
     def name(self, inside: str) -> str:
         """The hierarchical name of a net of the circuit's top module, given its name there: `s_a_q_wr`, or `t_A$0.state` for one further inside."""
@@ -102,51 +118,36 @@ class Dump:
     def _raw_changes(self) -> Iterator[Tuple[int, str, str]]:
         """Time, key and digits of each change; for a time without changes the key is empty."""
         time, is_head = 0, True
+        of_texts = {net.key for net in self.nets.values() if not net.width}
         with open(self.path, encoding="latin-1") as file:
             for line in file:
                 if is_head:
                     is_head = "$enddefinitions" not in line
                     continue
                 first = line[0]
+                if first in "01xzXZbB" and of_texts and line[1:].rpartition(" ")[2].strip() in of_texts:
+                    raise NotADump(f"{self.path}: `{line.strip()[:40]}` gives a number to a variable of texts")
                 if first in "01xzXZ":
                     yield time, line[1:].strip(), first
                 elif first in "bB":
                     digits, _, key = line[1:].partition(" ")
                     yield time, key.strip(), digits
                 elif first == "#":
-                    time = _time(line)
+                    time = self._time(line)
                     yield time, "", "0"
                 elif first in "sS":
                     words, _, key = line[1:].rstrip().rpartition(" ")
                     yield time, key, f"{self.texts.setdefault(words, len(self.texts)):b}"
 
-
-def _time(line: str) -> int:
-    number = line[1:].strip()
-    if not number.isdecimal():
-        raise NotADump(f"`{line.strip()[:40]}` is no time")
-    return int(number)
+    def _time(self, line: str) -> int:
+        number = line[1:].strip()
+        if not TIME.fullmatch(number):
+            raise NotADump(f"{self.path}: `{line.strip()[:40]}` is no time")
+        return int(number)
 
 
 def _number(digits: str) -> Value:
-    try:
-        return int(digits, 2)
-    except ValueError:
-        return None
-
-
-def _commands(file: IO[str]) -> Iterator[List[str]]:
-    """The words of each command of a dump's head, without its `$end`; a command may take several lines."""
-    words: List[str] = []
-    for line in file:
-        for word in line.split():
-            if word == "$end":
-                yield words
-                words = []
-            else:
-                words.append(word)
-        if words and not words[0].startswith("$"):
-            raise NotADump(f"`{' '.join(words)[:40]}` is no command of a dump")
+    return int(digits, 2) if BITS.fullmatch(digits) else None
 
 
 def read(path: str) -> Dump:

@@ -5,8 +5,9 @@ import re
 from dataclasses import dataclass, field
 from typing import Dict, List
 
+from . import files
 from .device import Amounts, SlotPlace
-from .faults import Told
+from .faults import Fault, Told
 from .program import Outcome, Program
 
 # Where the program reads a device file that it is given on standard input.
@@ -63,14 +64,15 @@ def ask(program: Program, source: str, top: str, device: str, mode: str = "fit")
     return parse(outcome.out.decode())
 
 
-_SLOT = re.compile(r"slot (\d+) (\d+): (\d+) (\d+) (\d+) (\d+) (\d+)")
-_TASK = re.compile(r"task (\S+): (\d+) (\d+)")
-_STREAM = re.compile(r"stream (\S+): width (\d+) latency (\d+) balance (\d+) flow (\d+)")
-_SUM = re.compile(r"(cost|registers|dual) (\d+)")
+_NUMBER = r"([0-9]{1,20})"
+_SLOT = re.compile(rf"slot {_NUMBER} {_NUMBER}: {' '.join([_NUMBER] * 5)}")
+_TASK = re.compile(rf"task (\w+\$[0-9]+(?:\$\w+\$[0-9]+)*): {_NUMBER} {_NUMBER}")
+_STREAM = re.compile(rf"stream (\S+): width {_NUMBER} latency {_NUMBER} balance {_NUMBER} flow {_NUMBER}")
+_SUM = re.compile(rf"(cost|registers|dual) {_NUMBER}")
 
 
 def parse(out: str) -> Plan:
-    """The plan of a text that `tapa plan` printed. PlanFault where a line is none of a plan, or where the text has no slot or no cost."""
+    """The plan of a text that `tapa plan` printed. PlanFault where a line is none of a plan, where a task has no slot of it, or where the text has no slot or no cost."""
     plan = Plan()
     has_cost = False
     for number, line in enumerate(out.splitlines(), 1):
@@ -79,7 +81,18 @@ def parse(out: str) -> Plan:
         has_cost = has_cost or line.startswith("cost ")
     if not plan.slots or not has_cost:
         raise PlanFault("the text has not all lines of a plan")
+    for label, (row, col) in plan.tasks.items():
+        if (row, col) not in plan.slots:
+            raise PlanFault(f"the task {label} is in slot {row} {col}, which has no line")
     return plan
+
+
+def read(path: str) -> Plan:
+    """The plan of a file. OSError where it cannot be read, Fault where it has none."""
+    try:
+        return parse(files.text(path))
+    except PlanFault as why:
+        raise Fault(f"{path}: {why}") from None
 
 
 def _take(plan: Plan, line: str) -> bool:

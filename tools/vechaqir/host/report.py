@@ -22,8 +22,8 @@ Token = Union[int, Eot]
 # Bits and sign of a kind of values.
 Shape = Tuple[int, bool]
 
-LINE = re.compile(r"(stream|memory) ([\w$]+):(.*)")
-END = re.compile(r"(done|stopped|running) (\d+)")
+LINE = re.compile(r"(?:(stream) ([\w$]+):((?: -?[0-9]{1,20}| eot)*)|(memory) ([\w$]+):((?: -?[0-9]{1,20})*))")
+END = re.compile(r"(done|stopped|running) ([0-9]{1,20})")
 WAITS = re.compile(r"tapa: (\S+) (waits to read|waits to write|bad token on) (\S+)")
 
 
@@ -66,10 +66,10 @@ def parse(out: str, err: str = "") -> Report:
     report = Report(messages=err.splitlines())
     for line in out.splitlines():
         row, end = LINE.fullmatch(line), END.fullmatch(line)
-        if row and row[1] == "stream":
+        if row and row[1]:
             report.streams[row[2]] = [EOT if word == "eot" else int(word) for word in row[3].split()]
         elif row:
-            report.memories[row[2]] = [int(word) for word in row[3].split()]
+            report.memories[row[5]] = [int(word) for word in row[6].split()]
         elif end:
             report.end, report.count = end[1], int(end[2])
     return report

@@ -8,6 +8,10 @@ from typing import Any, Dict, List, NamedTuple, Sequence, Set, Tuple
 from ..language import source as sources
 
 
+class NotFollowed(LookupError):
+    """A source in which the program finds other instances or streams than are read here."""
+
+
 class Link(NamedTuple):
     """A stream between two instances, by their labels, with its bits as `tapa plan` tells them."""
 
@@ -19,12 +23,12 @@ class Link(NamedTuple):
 
 def links(path: str, top: str, labels: Sequence[str], widths: Dict[str, int]) -> List[Link]:
     """The streams of a source's top task with their ends. The labels and the widths of the streams are those that the program tells;
-    LookupError where the source, as it is read here, has others. OSError where it cannot be read."""
+    NotFollowed where the source, as it is read here, has others. OSError where it cannot be read."""
     network = sources.network(sources.read(path), top)
     found = [Link(it.name, it.writer or "", it.reader or "", widths.get(it.name, 0)) for it in network.streams]
     ends = {end for link in found for end in (link.writer, link.reader)}
     if [it.label for it in network.instances] != list(labels) or [link.name for link in found] != list(widths) or not ends <= set(labels):
-        raise LookupError(f"{path}: the instances and streams of {top} could not be followed as the program follows them")
+        raise NotFollowed(f"{path}: the instances and streams of {top} could not be followed as the program follows them")
     return found
 
 

@@ -7,7 +7,7 @@ import re
 from typing import Callable, Dict, List, Optional, Tuple
 
 from .kinds import MANY, ONE, SIZED
-from .lexemes import RESERVED
+from .lexemes import RESERVED, decimal
 from .strict import lexemes
 
 # A word of the written-out text, with the index of the lexeme from which it comes; and a form: where it ends, and its words.
@@ -68,7 +68,7 @@ class Writer:
     def number(self, i: int) -> Optional[int]:
         """What a decimal literal without suffix is, or a constant that is one."""
         if self.kinds[i] == "number":
-            return int(self.texts[i]) if re.fullmatch(r"0|[1-9][0-9]*", self.texts[i]) else None
+            return decimal(self.texts[i]) if re.fullmatch(r"0|[1-9][0-9]*", self.texts[i]) else None
         return self.constants.get(self.texts[i]) if self.is_name(i) else None
 
     def count(self, i: int) -> int:

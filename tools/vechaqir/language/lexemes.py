@@ -93,10 +93,16 @@ def partners(lexemes: List[Lexeme]) -> Dict[int, int]:
     return found
 
 
+def decimal(digits: str) -> int:
+    """The number of decimal digits; of very many a number that is beyond each kind too, since Python converts at most 4,300."""
+    return int(digits) if len(digits) <= 1000 else 10 ** 1000
+
+
 def value(text: str) -> "int | None":
     """The value of an integer literal, or None where a word is none."""
     found = LITERAL.fullmatch(text)
     if not found:
         return None
-    digits = found["hex"] or found["two"] or found["eight"] or found["ten"]
-    return int(digits, 16 if found["hex"] else 2 if found["two"] else 8 if found["eight"] else 10)
+    if found["ten"]:
+        return decimal(found["ten"])
+    return int(found["hex"] or found["two"] or found["eight"], 16 if found["hex"] else 2 if found["two"] else 8)

@@ -126,7 +126,7 @@ def is_task(view: View, at: int) -> bool:
 def is_uncounted(view: View, at: int) -> bool:
     """A word that can't be a count: a name that is no constant of one literal, or a number out of range."""
     text = view.text(at)
-    number = view.source.counts.get(text) if view.is_name(at) else int(text) if text.isdecimal() and text[0] != "0" else 0
+    number = view.source.counts.get(text) if view.is_name(at) else lexemes.decimal(text) if text.isdecimal() and text[0] != "0" else 0
     return (view.is_name(at) or view.kind(at) == "number") and not 1 <= (number or 0) <= 512
 
 

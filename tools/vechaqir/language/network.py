@@ -3,10 +3,15 @@ from dataclasses import dataclass, field
 from typing import Dict, List, NamedTuple, Optional, Tuple
 
 from .kinds import Kind
+from .lexemes import decimal
 from .syntax import Invoke, Parameter, Source, Stream, Task
 
 # The most levels of upper-level tasks, and the most instances, that are followed; the program has 8 and 512.
 LEVELS, INSTANCES = 9, 4_096
+
+
+class NoTask(LookupError):
+    """A source that has no such task; the words say which it has."""
 
 
 class Instance(NamedTuple):
@@ -50,8 +55,8 @@ class Network:
 
 
 def elements(stream: Stream) -> List[str]:
-    """The names of a declaration's streams: an array's are written out as `q_0`, `q_1` and so on."""
-    return [f"{stream.name}_{at}" for at in range(stream.count or 0)] if stream.is_array else [stream.name]
+    """The names of a declaration's streams: an array's are written out as `q_0`, `q_1` and so on, up to more than the program allows."""
+    return [f"{stream.name}_{at}" for at in range(min(stream.count or 0, INSTANCES))] if stream.is_array else [stream.name]
 
 
 class Flattening:
@@ -78,7 +83,7 @@ class Flattening:
         arrays = {it.name: it.count or 0 for it in task.streams if it.is_array}
         number = 0
         for invoke in task.invokes:
-            for turn in range(invoke.count):
+            for turn in range(min(invoke.count, INSTANCES)):
                 self.invoked(invoke, turn, f"{front}{invoke.task}${number}", path, detached, names, arrays)
                 number += 1
 
@@ -102,7 +107,7 @@ class Flattening:
             return f"{text}_{turn}"
         name, _, index = text.rstrip("]").partition("[")
         if name in arrays and index:
-            number = int(index) if index.isdecimal() else self.source.counts.get(index)
+            number = decimal(index) if index.isdecimal() else self.source.counts.get(index)
             return f"{name}_{number}" if number is not None else text
         return text
 
@@ -117,7 +122,7 @@ class Flattening:
 
 
 def network(source: Source, top: str) -> Network:
-    """The flat network of a top task; LookupError with a plain sentence where the source has no such task."""
+    """The flat network of a top task. Raises NoTask."""
     if top not in source.tasks:
-        raise LookupError(f"{source.path or 'the source'} has no task {top}: {', '.join(source.tasks) or 'it has none'}")
+        raise NoTask(f"{source.path or 'the source'} has no task {top}: {', '.join(source.tasks) or 'it has none'}")
     return Flattening(source, source.tasks[top]).network

@@ -74,7 +74,7 @@ class Reader:
     def decimal(self, at: int) -> Optional[int]:
         """The number of a decimal literal without suffix."""
         text = self.text(at)
-        return int(text) if text.isdecimal() and (text == "0" or text[0] != "0") else None
+        return lexemes.decimal(text) if text.isdecimal() and (text == "0" or text[0] != "0") else None
 
     def task(self, at: int) -> Optional[int]:
         if self.text(at) != "void" or not self.is_name(at + 1) or self.text(at + 2) != "(" or at + 2 not in self.close:

@@ -2,7 +2,7 @@
 import re
 from typing import List
 
-from .lexemes import Lexeme
+from .lexemes import Lexeme, value as value_of
 
 SIGNS = "<<= >>= :: << >> <= >= == != && || ++ -- += -= *= /= %= &= |= ^=".split() + list("(){}[]<>,;:?.=+-*/%&|^~!")
 PIECE = re.compile(
@@ -21,7 +21,7 @@ def is_literal(word: str) -> bool:
     found = LITERAL.fullmatch(word)
     if not found:
         return False
-    value = int(found["hex"] or found["two"] or found["eight"] or found["ten"], 16 if found["hex"] else 2 if found["two"] else 8 if found["eight"] else 10)
+    value = value_of(word) or 0
     return value < 2**63 if found["ten"] and "u" not in found["end"].lower() else value < 2**64
 
 

@@ -22,6 +22,23 @@ class NotOfThisSource(ValueError):
     """A dump that shows something else than the machines of the source do; the words say what, and in which cycle."""
 
 
+class NoNetwork(ValueError):
+    """A source whose instances do not have a stream or a memory for each of their parameters, which `tapa run` refuses."""
+
+
+def check_network(source: Source, network: Network) -> None:
+    """Raises NoNetwork where an instance has no stream or memory at a parameter, or shares an end of a stream with another one."""
+    streams = {it.name: it for it in network.streams}
+    memories = {it.name for it in network.memories}
+    for instance in network.instances:
+        for it in source.tasks[instance.task].parameters:
+            bound = instance.bindings.get(it.name, "")
+            channel = streams.get(bound)
+            end = None if not channel else channel.writer if it.direction == "ostream" else channel.reader
+            if bound not in memories if it.direction == "mmap" else it.direction != "scalar" and end != instance.label:
+                raise NoNetwork(f"{source.path or 'the source'}: {instance.label} has no {'memory' if it.direction == 'mmap' else 'stream'} of its own at its parameter {it.name}: `tapa run` says what is wrong")
+
+
 class Program:
     """A task's machine with its expressions as functions; all instances of a task share it."""
 
@@ -200,7 +217,8 @@ class Run:
     """All instances of a network beside a dump of its circuit."""
 
     def __init__(self, source: Source, network: Network, dump: Dump) -> None:
-        """Raises NotOfThisSource where the dump has other nets, and NotUnderstood where a task's text is none of the language."""
+        """Raises NotOfThisSource where the dump has other nets, and NoNetwork and NotUnderstood where the source is refused."""
+        check_network(source, network)
         self.source, self.network, self.dump = source, network, dump
         self.wires = Wires(dump)
         self.machines = machines(source, [it.task for it in network.instances])

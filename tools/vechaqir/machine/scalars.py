@@ -3,7 +3,7 @@ from typing import Dict, List, Mapping, Tuple
 
 from ..language import kinds, lexemes
 from ..language.kinds import Kind
-from ..language.network import LEVELS
+from ..language.network import INSTANCES, LEVELS
 from ..language.source import Source
 from ..language.syntax import Task
 
@@ -19,7 +19,7 @@ def scalars(source: Source, top: str, values: Mapping[str, int]) -> Dict[str, Li
 def _enter(source: Source, task: Task, front: str, known: Mapping[str, int], found: Dict[str, List[int]], level: int) -> None:
     number = 0
     for invoke in task.invokes:
-        for _ in range(invoke.count):
+        for _ in range(min(invoke.count, INSTANCES)):
             called = source.tasks.get(invoke.task)
             label = f"{front}{invoke.task}${number}"
             number += 1

@@ -78,6 +78,18 @@ class Machine:
 
 def machine(source: Source, task: Task) -> Machine:
     """The machine of a leaf task. Raises NotUnderstood where its text is none of the language: `tapa` tells what is wrong with it."""
+    at, what = source.lines.offset(task.place), "nests too deep"
+    try:
+        return _read(source, task)
+    except NotUnderstood as why:
+        at, what = why.at, "is none of the language"
+    except RecursionError:
+        pass
+    line, column = source.place(at)
+    raise NotUnderstood(at, f"{source.path or 'the source'}:{line}:{column}: ", what)
+
+
+def _read(source: Source, task: Task) -> Machine:
     found = Machine(task, source)
     constants = {name: Entity("constant", kind, value) for name, (value, kind) in source.values.items()}
     code = Code(source.lexemes, source.index_at(task.body[0]) + 1, constants)
@@ -97,6 +109,8 @@ def machine(source: Source, task: Task) -> Machine:
 
 
 def _declare(code: Code, found: Machine, name: str, direction: str, kind: Kind, at: int) -> None:
+    if not kind.bits:
+        raise NotUnderstood(at)
     if direction in ("istream", "ostream"):
         code.declare(name, Entity("stream", kind, len(found.streams)))
         found.streams.append(name)

@@ -9,10 +9,10 @@ from .values import INDEX, Node, applied, chosen, converted, evaluator, number, 
 
 
 class NotUnderstood(ValueError):
-    """A task's text that is none of the language; `at` is the offset of the lexeme at which it stops to be one."""
+    """A task's text that is none of the language; `at` is the offset of the lexeme at which it stops to be one. The words begin with the place, once the source is known."""
 
-    def __init__(self, at: int) -> None:
-        super().__init__("a task's text is none of the language")
+    def __init__(self, at: int, place: str = "", what: str = "is none of the language") -> None:
+        super().__init__(f"{place}the text of a task {what}: `tapa run` says what is wrong")
         self.at = at
 
 

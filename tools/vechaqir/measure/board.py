@@ -42,7 +42,10 @@ def ports_of(text: str, top: str) -> List[Port]:
     found = re.search(rf"^module {re.escape(top)} \((.*?)\) ;", text, re.M | re.S)
     if not found:
         raise Fault(f"the text has no module {top}")
-    return [(way, int(most or 0) + 1, name) for way, most, name in PORT.findall(found.group(1))]
+    ports = PORT.findall(found.group(1))
+    if any(len(most) > 6 for _, most, _ in ports):
+        raise Fault(f"a port of the module {top} has too many bits")
+    return [(way, int(most or 0) + 1, name) for way, most, name in ports]
 
 
 def folds(bits: int) -> Tuple[List[str], int]:
@@ -109,7 +112,8 @@ def cells_of(folder: str, text: str, top: str, synthesis: str) -> Dict[str, int]
     call(["yosys", "-q", "-p", f"read_verilog design.v; {synthesis} -top {top}; tee -q -o stat.json stat -json"], folder)
     told = json.loads(Path(folder, "stat.json").read_text(encoding="utf-8"))
     modules = told["modules"]
-    found: Dict[str, int] = modules.get(f"\\{top}", next(iter(modules.values())))["num_cells_by_type"]
+    module = modules.get(f"\\{top}") or next(iter(modules.values()), {})
+    found: Dict[str, int] = module.get("num_cells_by_type", {})
     return found
 
 

@@ -2,7 +2,8 @@
 from __future__ import annotations
 
 import re
-from typing import Any, Dict, Iterator, List, Mapping, Optional, Tuple
+import subprocess
+from typing import Any, Dict, Iterator, List, Mapping, Optional, Sequence, Tuple
 
 from ..host.dump import Dump
 from ..host.faults import Fault
@@ -13,6 +14,9 @@ Groups = Mapping[str, Mapping[str, Any]]
 
 PORT = re.compile(r"(input|output)\s*(?:\[\s*(\d+)\s*:\s*0\s*\])?\s*([\w$]+)")
 WIRE = re.compile(r"^\s*wire\s*(?:\[\s*(\d+)\s*:\s*0\s*\])?\s*([\w$]+)\s*;", re.M)
+# What a testbench prints of a token, of a cell and at the end, and what Icarus Verilog prints by itself.
+SHOWN, END = re.compile(r"(stream [\w$]+) (\w+) ([0-9]+)|(memory [\w$]+) (\w+)"), re.compile(r"(?:done|running)(?: [0-9]+)?")
+OWN = re.compile(r"VCD .*|.*: \$finish called at .*")
 
 
 def top_of(text: str) -> Tuple[str, List[Port], Dict[str, int]]:
@@ -21,15 +25,32 @@ def top_of(text: str) -> Tuple[str, List[Port], Dict[str, int]]:
     if not modules:
         raise Fault("this is no circuit that `tapa build` wrote: it has no module")
     name, ports, body = modules[-1]
-    return name, [(way, int(high or 0) + 1, port) for way, high, port in PORT.findall(ports)], {wire: int(high or 0) + 1 for high, wire in WIRE.findall(body)}
+    return name, [(way, _bits(high), port) for way, high, port in PORT.findall(ports)], {wire: _bits(high) for high, wire in WIRE.findall(body)}
+
+
+def _bits(high: str) -> int:
+    if len(high) > 6:
+        raise Fault(f"this is no circuit that `tapa build` wrote: a net has {high[:20]}.. bits")
+    return int(high or 0) + 1
 
 
 def missing(ports: List[Port], data: Groups, name: str) -> None:
     """Fault where a scalar or a memory of the circuit is not in the data, or has another shape there."""
+    names = {port for _, _, port in ports}
     for _, _, port in ports:
-        group, label, shape = ("scalars", port[2:], int) if port.startswith("v_") else ("memories", port[2:-4], list) if port.endswith("_ack") else ("", "", object)
-        if group and not isinstance(data[group].get(label), shape):
-            raise Fault(f"{name}: {group} has no {label}, {'a number' if shape is int else 'a list of numbers'}, which the circuit takes")
+        if port.endswith("_ack") and f"{port[:-3]}rdata" not in names:
+            raise Fault(f"this is no circuit that `tapa build` wrote: it has a port {port} and none {port[:-3]}rdata")
+        if port.startswith("v_") and not isinstance(data["scalars"].get(port[2:]), int):
+            raise Fault(f"{name}: scalars has no {port[2:]}, a number, which the circuit takes")
+        if port.endswith("_ack"):
+            if not _are_numbers(data["memories"].get(port[2:-4])):
+                raise Fault(f"{name}: memories has no {port[2:-4]}, a list of numbers, which the circuit takes")
+            if not _are_numbers(data["waits"].get(port[2:-4], [])):
+                raise Fault(f"{name}: {port[2:-4]} in waits is no list of numbers")
+
+
+def _are_numbers(given: Any) -> bool:
+    return isinstance(given, list) and all(isinstance(it, int) for it in given)
 
 
 def memory_lines(name: str, bits: int, cells: List[int], ready: List[int]) -> Iterator[str]:
@@ -80,8 +101,20 @@ def bench(text: str, data: Groups, cycles: int, dump: Optional[str] = None) -> I
     yield "endmodule"
 
 
-def token(number: int, bits: int) -> str:
-    return "eot" if number >> (bits - 1) else str(number)
+def token(number: str, bits: str) -> str:
+    """A token as a report shows it; one of which a bit is unknown as Icarus Verilog does."""
+    return "eot" if number.isdecimal() and int(number) >> (int(bits) - 1) else number
+
+
+def simulated(made: str, paths: Sequence[str], name: str) -> List[str]:
+    """What the simulation of these texts prints, whose program is made at a path. Fault where Icarus Verilog refuses a text, or where the simulation breaks off; `name` is that of the circuit."""
+    compiled = subprocess.run(["iverilog", "-g2005", "-gno-xtypes", "-o", made, *paths], check=False)
+    if compiled.returncode != 0:
+        raise Fault(f"{name}: Icarus Verilog refuses the text or its testbench")
+    said = subprocess.run(["vvp", "-n", made], capture_output=True, check=False)
+    if said.returncode != 0:
+        raise Fault(f"{name}: the simulation in Icarus Verilog ends with the status {said.returncode}")
+    return [line for line in said.stdout.decode("utf-8", "replace").splitlines() if not OWN.fullmatch(line)]
 
 
 def report(text: str, lines: List[str]) -> List[str]:
@@ -91,8 +124,12 @@ def report(text: str, lines: List[str]) -> List[str]:
     names += [f"memory {port[2:-4]}" for _, _, port in ports if port.endswith("_ack")]
     shown: Dict[str, List[str]] = {name: [] for name in names}
     for line in lines[:-1]:
-        kind, label, *rest = line.split()
-        shown[f"{kind} {label}"].append(token(int(rest[0]), int(rest[1])) if kind == "stream" else rest[0])
+        found = SHOWN.fullmatch(line)
+        if not found or (found[1] or found[4]) not in shown:
+            raise Fault(f"the simulation prints `{line[:60]}`, which its testbench does not: this is no circuit that `tapa build` wrote")
+        shown[found[1] or found[4]].append(token(found[2], found[3]) if found[1] else found[5])
+    if not lines or not END.fullmatch(lines[-1]):
+        raise Fault("the simulation ends before its testbench does: this is no circuit that `tapa build` wrote")
     return [" ".join([f"{name}:", *shown[name]]) for name in names] + lines[-1:]
 
 
@@ -100,6 +137,9 @@ def differences(told: str, shown: str) -> Iterator[str]:
     """Where a dump of `tapa cosim --vcd` and one of the testbench differ: of each net of the top module the first cycle."""
     ours, theirs = Dump(told), Dump(shown)
     names = [name[len(ours.top) + 1:] for name in ours.nets if name.startswith(f"{ours.top}.") and "." not in name[len(ours.top) + 1:]]
+    other = next((name for name in names if not theirs.has(name)), None)
+    if other is not None:
+        raise Fault(f"{told} is no dump of this circuit: the circuit has no net {other}")
     found: Dict[str, str] = {}
     for (cycle, values), (_, others) in zip(ours.cycles(map(ours.name, names)), theirs.cycles(map(theirs.name, names))):
         for name in names:

@@ -9,7 +9,7 @@ from dataclasses import dataclass, field
 from typing import Dict, NamedTuple, Tuple
 
 from ..language.network import Channel, Instance
-from ..machine.run import BAD, ENDED, TICK, WAITS, Follower, Run
+from ..machine.run import BAD, ENDED, TICK, WAITS, Follower, NotOfThisSource, Run
 from ..machine.states import MEMORY, WRITES, Machine
 from ..machine.untimed import Past, PastEnd
 
@@ -117,9 +117,11 @@ def profile(run: Run) -> Profile:
     tasks = {it.instance.label: TaskProfile(it.instance, it.machine) for it in run.followers}
     streams = {it.name: StreamProfile(it) for it in run.network.streams}
     cycles = 0
-    for _ in run.cycles():
+    for cycle, _ in run.cycles():
         cycles += 1
         for it in streams.values():
+            if len(it.taken) > len(it.written):
+                raise NotOfThisSource(f"before cycle {cycle} {run.dump.path} shows more tokens that are taken from {it.channel.name} than were written to it")
             it.fills.append(len(it.written) - len(it.taken))
         for follower, task in zip(run.followers, tasks.values()):
             _take(cycles, follower, task, streams)

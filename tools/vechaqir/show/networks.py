@@ -26,7 +26,7 @@ def of_circuit(circuit: str) -> Tuple[Network, Dict[str, str], List[str]]:
     """
     modules = re.findall(r"\bmodule\s+([\w$]+)\s*\(.*?\)\s*;(.*?)\bendmodule\b", circuit, re.S)
     if not modules or not modules[-1][0].startswith("t_"):
-        raise NoCircuit("this is no circuit that `tapa build` wrote")
+        raise NoCircuit("this is no circuit that `tapa build` wrote: it has no top module")
     name, body = modules[-1]
     network = Network(name[2:])
     facts: Dict[str, str] = {}
@@ -34,7 +34,10 @@ def of_circuit(circuit: str) -> Tuple[Network, Dict[str, str], List[str]]:
     for module, instance, links in re.findall(r"^\s*([\w$]+)\s+([tc]_[\w$]+)\s*\((.*?)\)\s*;", body, re.M | re.S):
         label = instance[2:]
         if instance.startswith("c_"):
-            bits, depth, latency = (int(number) for number in module.split("_")[1:4])
+            sizes = re.fullmatch(r"channel_(\d{1,6})_(\d{1,6})_(\d{1,6})", module)
+            if not sizes:
+                raise NoCircuit(f"this is no circuit that `tapa build` wrote: {module[:60]} is no module of a stream")
+            bits, depth, latency = map(int, sizes.groups())
             network.streams.append(Channel(label, Kind(bits - 1, False, ""), depth))
             facts[label] = f"{bits} bits, depth {depth}" + (f", {latency} registers" if latency else "")
             late += [label] if latency else []

@@ -114,10 +114,11 @@ function showView(name, around = null) {
   view.fit(box ? box.slice(3) : opening(view));
 }
 
-// a network whose labels would be small as a whole opens at its left end: in its whole height, or, if that is still too small, at full size
+// a network whose labels would be small as a whole opens at its left end: in its whole height, or, if that is still too small, at full size; one that is only tall, at its upper end in its whole width
 function opening(view) {
   const pane = byId("graph"), wide = Math.min(view.width, Math.max(0.8 * pane.clientWidth, view.height * pane.clientWidth / pane.clientHeight));
-  return pane.clientWidth < 0.12 * wide ? view.end : pane.clientWidth < 0.5 * view.width ? [0, 0, wide, view.height] : null;
+  if (pane.clientWidth < 0.5 * view.width) return pane.clientWidth < 0.12 * wide ? view.end : [0, 0, wide, view.height];
+  return pane.clientHeight < 0.5 * view.height ? [0, 0, view.width, Math.max(0.8 * pane.clientWidth, view.width) * pane.clientHeight / pane.clientWidth] : null;
 }
 
 function boxShape([kind, name, words, x, y, width, height, labelX, labelY]) {
