@@ -12,6 +12,7 @@ from ..tree.walking import found, has, replaced, root, used
 from . import words as fields
 from .hoisting import is_pure
 from .layout import is_packed
+from .lists import is_zero
 
 from .packing import Packer, inner_kind
 
@@ -64,7 +65,7 @@ class Words(Packer):
                 continue
             else:
                 first = local.first
-                is_zero = isinstance(first, Braces) and not first.values and not any(leaf.first for leaf in self.layout(first.kind, it.at).leaves)
+                is_zero = isinstance(first, Braces) and not first.values and is_zero(first)
                 news = [declare(each, None if is_zero else value) for each, value in zip(made, self.words(first, before))]
             out += [*before, *self.at_place(news, it)]
         return out if len(out) > 1 or not isinstance(out[0], Declare) else [replaced(out[0], text=None)]
