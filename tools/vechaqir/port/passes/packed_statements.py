@@ -65,8 +65,8 @@ class Words(Packer):
                 continue
             else:
                 first = local.first
-                is_zero = isinstance(first, Braces) and not first.values and is_zero(first)
-                news = [declare(each, None if is_zero else value) for each, value in zip(made, self.words(first, before))]
+                is_empty = isinstance(first, Braces) and not first.values and is_zero(first)
+                news = [declare(each, None if is_empty else value) for each, value in zip(made, self.words(first, before))]
             out += [*before, *self.at_place(news, it)]
         return out if len(out) > 1 or not isinstance(out[0], Declare) else [replaced(out[0], text=None)]
 
