@@ -4,12 +4,12 @@ from typing import Dict, List, Optional, Sequence
 from ..faults import Refused
 from ..tree.folding import constant
 from ..tree.kinds import INT, Array, Kind, Record, innermost
+from ..tree.lists import is_zero, spread
 from ..tree.making import assign, binary, declare, name, number
 from ..tree.nodes import Binary, Braces, Expression, Index, Name, Node
 from ..tree.program import Function, Program, Variable
 from ..tree.statements import Block, Declare, Local, Statement
 from ..tree.walking import found, from_above, placed, replaced, statements, substituted, walk
-from .lists import is_zero, spread
 from .marking import marked, tolerant
 
 

@@ -4,6 +4,7 @@ from typing import Dict, List, Optional, Sequence
 
 from ..faults import Refused
 from ..tree.kinds import VOID, Array, Carrier, Record
+from ..tree.lists import zero
 from ..tree.making import assign, cast, choose, declare, name, number
 from ..tree.nodes import Assign, Braces, Call, Expression, Name, Node, This
 from ..tree.program import Function, Program, Variable
@@ -13,7 +14,6 @@ from .binding import Binding, is_place
 from .hoisted import Hoister
 from .hoisting import indices, is_pure, with_indices
 from .jumps import Jumps
-from .lists import zero
 
 MOST = 400
 MOST_WHOLE = 200000

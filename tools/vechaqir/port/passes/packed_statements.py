@@ -4,6 +4,7 @@ from typing import List, Optional, Sequence
 from ..faults import Refused
 
 from ..tree.kinds import INT, Array, Carrier, Record
+from ..tree.lists import is_zero
 from ..tree.making import assign, binary, cast, declare, name
 from ..tree.nodes import Assign, Bit, Braces, Choose, Expression, Field, Index, Name, Number, Operation, Step
 from ..tree.program import Function, Program, Variable
@@ -12,7 +13,6 @@ from ..tree.walking import found, has, replaced, root, used
 from . import words as fields
 from .hoisting import is_pure
 from .layout import is_packed
-from .lists import is_zero
 
 from .packing import Packer, inner_kind
 

@@ -4,6 +4,7 @@ from typing import Dict, List, Optional, Sequence, Set
 from ..faults import Refused
 from ..tree.folding import constant
 from ..tree.kinds import Array, Record, innermost
+from ..tree.lists import is_zero, spread
 from ..tree.making import assign, declare, name, number
 from ..tree.nodes import Assign, Braces, Expression, Field, Index, Name, Node, Operation
 from ..tree.program import Function, Program, Variable
@@ -11,7 +12,6 @@ from ..tree.statements import Block, Declare, Evaluate, Local, Statement
 from ..tree.walking import from_above, has, statements, used, walk
 from .layout import Layout
 from .unrolling import MOST_CELLS
-from .lists import is_zero, spread
 from .marking import marked
 
 

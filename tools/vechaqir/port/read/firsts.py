@@ -2,9 +2,9 @@
 from typing import Any, Dict, List, Optional
 
 from ..faults import Refused
-from ..passes.lists import spread
 from ..source.clang import kids, library, real, value
 from ..tree.kinds import FLOAT, INT, Array, First, Floating, Kind, Narrow, Plain, Record, Whole
+from ..tree.lists import spread
 from ..tree.nodes import Braces, Expression, Number
 
 LIST = Plain("list")

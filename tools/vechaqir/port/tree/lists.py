@@ -2,8 +2,8 @@
 from typing import List
 
 from ..faults import Refused
-from ..tree.kinds import Array, First, Floating, Kind, Narrow, Record, Whole
-from ..tree.nodes import Braces, Expression, Number
+from .kinds import Array, First, Floating, Kind, Narrow, Record, Whole
+from .nodes import Braces, Expression, Number
 
 MOST = 65536
 
