@@ -65,7 +65,8 @@ class Arrays:
     def index(self, it: Node) -> Optional[Node]:
         """`a[i][j]` as `a[i * N + j]`."""
         if isinstance(it, Braces) and any(is_grid(each) for each in it.values):
-            return from_above(replaced(it, values=tuple(listed(each) if is_grid(each) else each for each in it.values)), self.index)
+            whole: Braces = from_above(replaced(it, values=tuple(listed(each) if is_grid(each) else each for each in it.values)), self.index)
+            return whole
         if not isinstance(it, Index):
             return None
         base, indices = chain(it)
