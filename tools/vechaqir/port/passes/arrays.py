@@ -4,12 +4,12 @@ from typing import Dict, List, Optional, Sequence
 from ..faults import Refused
 from ..tree.folding import constant
 from ..tree.kinds import INT, Array, Kind, Record, innermost
+from ..tree.lists import is_zero, spread
 from ..tree.making import assign, binary, declare, name, number
 from ..tree.nodes import Binary, Braces, Expression, Index, Name, Node
 from ..tree.program import Function, Program, Variable
 from ..tree.statements import Block, Declare, Local, Statement
 from ..tree.walking import found, from_above, placed, replaced, statements, substituted, walk
-from .lists import is_zero, spread
 from .marking import marked, tolerant
 
 
@@ -44,6 +44,17 @@ def sum_of(left: Expression, right: Expression) -> Expression:
     return number(known) if known is not None else made
 
 
+def is_grid(it: Expression) -> bool:
+    """An array of several dimensions as a whole."""
+    return isinstance(it, Name) and isinstance(it.kind, Array) and isinstance(it.kind.element, Array)
+
+
+def listed(it: Expression) -> Expression:
+    """An array as the list of its cells."""
+    kind = it.kind
+    return Braces(kind, tuple(listed(Index(kind.element, it, number(at))) for at in range(kind.length))) if isinstance(kind, Array) else it
+
+
 class Arrays:
     """The arrays of one task."""
 
@@ -53,6 +64,9 @@ class Arrays:
 
     def index(self, it: Node) -> Optional[Node]:
         """`a[i][j]` as `a[i * N + j]`."""
+        if isinstance(it, Braces) and any(is_grid(each) for each in it.values):
+            whole: Braces = from_above(replaced(it, values=tuple(listed(each) if is_grid(each) else each for each in it.values)), self.index)
+            return whole
         if not isinstance(it, Index):
             return None
         base, indices = chain(it)
@@ -66,14 +80,25 @@ class Arrays:
         if len(indices) != len(kinds):
             raise Refused(it.at, "a row of an array as a whole", "a loop over its cells")
         inner = [from_above(each, self.index) for each in indices]
-        if not isinstance(base, Name):
-            return None
+        if not isinstance(base, Name):   # a field, whose cells a later pass places
+            return self.within(it, base, inner)
         made: Expression = inner[0]
         for each, part in zip(kinds[1:], inner[1:]):
             made = sum_of(number(0) if constant(made) == 0 else binary("*", made, number(each.length)), part)
         known = constant(made)
         made = number(known) if known is not None else made
         return placed(Index(kind, name(self.flattened(base.variable)), made), it)
+
+    def within(self, it: Index, base: Expression, inner: List[Expression]) -> Expression:
+        """A cell of an array that is a field, with other indices."""
+        made: Expression = from_above(base, self.index)
+        kind = base.kind
+        if made is base and inner == chain(it)[1]:
+            return it
+        for each in inner:
+            kind = getattr(kind, "element")
+            made = Index(kind, made, each)
+        return placed(made, it)
 
     def flattened(self, variable: Variable) -> Variable:
         """The array of one dimension in the place of another."""

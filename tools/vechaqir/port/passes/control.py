@@ -48,11 +48,13 @@ class Control:
         return None
 
     def picked(self, it: "Assign | Step", target: Choose) -> Sequence[Statement]:
-        """An assignment to one of two places."""
+        """An assignment to one of two places, whose value is computed before the test."""
+        front: List[Statement] = []
         if isinstance(it, Assign) and not is_pure(it.value):
-            raise Refused(it.at, "an assignment to one of several variables, by a value with effects", "`if` with `else`")
+            kept = Variable("value", it.value.kind)
+            front, it = [declare(kept, it.value)], replaced(it, value=name(kept))
         self.program.note(it.at, "an assignment to one of several variables", "`if` with `else`")
-        return [If(target.test, block([Evaluate(replaced(it, target=target.then))]), block([Evaluate(replaced(it, target=target.other))]))]
+        return [*front, If(target.test, block([Evaluate(replaced(it, target=target.then))]), block([Evaluate(replaced(it, target=target.other))]))]
 
     def loop(self, it: For) -> Optional[Sequence[Statement]]:
         """The first step stays in the head, or the last where they need one another; the others go to the end of the body, and all starts but the last before the loop."""

@@ -1,11 +1,12 @@
 """Assignments and `++` within expressions become statements of their own; operations on streams and memories leave the right operands of `&&` and `||` and the arms of `?:`, where the language has none."""
 from typing import List, Optional, Set
 
-from ..tree.kinds import Record
-from ..tree.making import assign, declare, name, stepped
+from ..faults import Refused
+from ..tree.kinds import BOOL, Record
+from ..tree.making import assign, block, choose, declare, name, stepped
 from ..tree.nodes import Assign, Binary, Choose, Comma, Expression, Index, Name, Node, Operation, Step
 from ..tree.program import Function, Program
-from ..tree.statements import Evaluate, For, Statement
+from ..tree.statements import Evaluate, For, If, Statement
 from ..tree.walking import counted, replaced, statements, walk
 from .hoisted import Hoister
 from .hoisting import is_operation, is_pure
@@ -47,6 +48,8 @@ class Effects(Hoister):
         return super().statement(it)
 
     def part(self, it: Expression, before: List[Statement]) -> Optional[Expression]:
+        if isinstance(it, (Assign, Step)) and isinstance(it.target, Choose):
+            return self.picked(it, it.target, before)
         if isinstance(it, Assign):
             self.program.note(it.at, "an assignment within an expression", "a statement of its own")
             new = self.assigned(it, before)
@@ -56,6 +59,19 @@ class Effects(Hoister):
             self.program.note(it.at, f"`{it.sign}` within an expression", "a statement of its own")
             return self.stepped(it, before)
         return None
+
+    def picked(self, it: "Assign | Step", target: Choose, before: List[Statement]) -> Expression:
+        """An assignment to one of two places, whose value is that place."""
+        if not is_pure(target.then) or not is_pure(target.other) or isinstance(it, Step) and not it.is_prefix:
+            raise Refused(it.at, "an assignment to one of several variables within an expression", "`if` with `else`")
+        self.program.note(it.at, "an assignment to one of several variables", "`if` with `else`")
+        *value, test = self.sequence([*([it.value] if isinstance(it, Assign) else []), target.test], before)
+        if isinstance(it, Assign):
+            it = replaced(it, value=self.once_only(value[0], before))
+        flag = self.fresh(BOOL, "is_so")
+        before.append(declare(flag, test))
+        before.append(If(name(flag), block([Evaluate(replaced(it, target=target.then))]), block([Evaluate(replaced(it, target=target.other))])))
+        return choose(name(flag), target.then, target.other, it.kind)
 
     def assigned(self, it: Assign, before: List[Statement]) -> Assign:
         from .hoisting import indices, with_indices

@@ -76,9 +76,7 @@ class Hoister(Parts):
         if not self.has(it):
             return False
         before: List[Statement] = []
-        after, self.after = self.after, None
-        made = self.expression(it, before)
-        self.after = after
+        made = self.apart(it, before)
         return bool(before) or self.needs_guard(made)
 
     def branches(self, it: Choose, use: Callable[[Expression], List[Statement]]) -> List[Statement]:

@@ -124,6 +124,13 @@ class Parts:
             return self.expression(it.right, before)
         return self.with_parts(it, before)
 
+    def apart(self, it: Expression, before: List[Statement]) -> Expression:
+        """An expression that is computed only in some cases, so that nothing of it follows the whole statement."""
+        after, self.after = self.after, None
+        made = self.expression(it, before)
+        self.after = after
+        return made
+
     def with_parts(self, it: Expression, before: List[Statement]) -> Expression:
         """An expression with its operands anew."""
         inner = [each for each in children(it) if isinstance(each, Expression)]
@@ -134,7 +141,7 @@ class Parts:
         """`a && b` where something leaves b: b is computed only where a holds."""
         left = self.expression(it.left, before)
         inner: List[Statement] = []
-        right = self.expression(it.right, inner)
+        right = self.apart(it.right, inner)
         if not inner and not self.needs_guard(right):
             return replaced(it, left=left, right=right)
         flag = self.fresh(BOOL, "is_so")
@@ -145,7 +152,7 @@ class Parts:
     def conditional(self, it: Choose, before: List[Statement]) -> Expression:
         test = self.expression(it.test, before)
         then, other = [], []  # type: List[Statement], List[Statement]
-        first, second = self.expression(it.then, then), self.expression(it.other, other)
+        first, second = self.apart(it.then, then), self.apart(it.other, other)
         if not then and not other and not self.needs_guard(first) and not self.needs_guard(second):
             return replaced(it, test=test, then=first, other=second)
         variable = self.fresh(it.kind)

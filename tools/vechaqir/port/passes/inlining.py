@@ -4,6 +4,7 @@ from typing import Dict, List, Optional, Sequence
 
 from ..faults import Refused
 from ..tree.kinds import VOID, Array, Carrier, Record
+from ..tree.lists import zero
 from ..tree.making import assign, cast, choose, declare, name, number
 from ..tree.nodes import Assign, Braces, Call, Expression, Name, Node, This
 from ..tree.program import Function, Program, Variable
@@ -146,7 +147,7 @@ class Inliner(Hoister):
         assert isinstance(kind, Record) and function.body is not None
         binding = Binding(self, function, before)
         filled = dict(function.filled)
-        values = Braces(kind, tuple(filled.get(each.name, initial(each.kind, each.first)) for each in kind.members))
+        values = Braces(kind, tuple(filled[each.name] if each.name in filled else zero(each.kind, each.first, it.at) for each in kind.members))
         is_whole = not function.body.parts and not has(values, This)
         binding.bind(None, made, values if is_whole else None)
         first = self.expression(binding.put(values), before)
@@ -199,20 +200,6 @@ class Inliner(Hoister):
         if not isinstance(it, Declare) or not any(local.variable is variable for local in it.locals):
             return [it]
         return [assign(name(variable), local.first) if local.variable is variable and local.first is not None else Declare((local,)) for local in it.locals if local.variable is not variable or local.first is not None]
-
-
-def initial(kind: object, first: int) -> Expression:
-    """The value with which a field begins."""
-    from ..tree.kinds import Floating, Kind, Narrow, Whole
-    if isinstance(kind, (Whole, Floating)):
-        return Number(kind, first)
-    if isinstance(kind, Narrow):
-        return Number(kind.whole(), first)
-    assert isinstance(kind, Kind)
-    return Braces(kind, ())
-
-
-from ..tree.nodes import Number  # noqa: E402
 
 
 def run(program: Program) -> None:

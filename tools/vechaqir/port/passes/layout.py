@@ -9,14 +9,13 @@ MOST_LEAVES = 4096
 
 
 class Leaf(NamedTuple):
-    """A field of numbers: its way from the outside, its kind, the word where it begins, the shift there, its bits, and the value with which it begins. Its upper bits may be in the next word."""
+    """A field of numbers: its way from the outside, its kind, the word where it begins, the shift there, and its bits. Its upper bits may be in the next word."""
 
     path: Path
     kind: Kind
     word: int
     shift: int
     bits: int
-    first: int
 
     @property
     def over(self) -> int:
@@ -46,7 +45,7 @@ class Layout:
     def __init__(self, kind: Kind) -> None:
         self.kind, self.why = kind, ""
         self.leaves: List[Leaf] = []
-        self.add(kind, 0, (), 0, None)
+        self.add(kind, 0, (), None)
         self.by_path: Dict[Path, Leaf] = {it.path: it for it in self.leaves}
         self.count = max(1, (bits_of(kind) + 63) // 64) if not self.why else 1
         if not self.leaves and not self.why:
@@ -55,20 +54,20 @@ class Layout:
             self.why = f"it has {bits_of(kind)} bits, and at most {64 * MOST_WORDS} become words"
         self.words = [self.word_kind(number) for number in range(self.count)] if not self.why else []
 
-    def add(self, kind: Kind, at: int, path: Path, first: int, width: "int | None") -> None:
+    def add(self, kind: Kind, at: int, path: Path, width: "int | None") -> None:
         if isinstance(kind, Record):
             self.why = self.why or kind.why
             for it in kind.members:
-                self.add(it.kind, at + it.offset, (*path, it.name), it.first, it.bits)
+                self.add(it.kind, at + it.offset, (*path, it.name), it.bits)
         elif isinstance(kind, Array):
             if kind.length * max(1, len(path)) > MOST_LEAVES or len(self.leaves) > MOST_LEAVES:
                 self.why = self.why or f"it has more than {MOST_LEAVES} cells"
                 return
             for number in range(kind.length):
-                self.add(kind.element, at + number * bits_of(kind.element), (*path, number), 0, None)
+                self.add(kind.element, at + number * bits_of(kind.element), (*path, number), None)
         elif isinstance(kind, (Whole, Floating, Narrow)):
             size = width if width is not None else whole(kind).bits
-            self.leaves.append(Leaf(path, kind, at // 64, at % 64, size, first))
+            self.leaves.append(Leaf(path, kind, at // 64, at % 64, size))
             if isinstance(kind, Narrow) and kind.bits > 64:
                 self.why = self.why or f"a field of {kind.bits} bits"
         else:

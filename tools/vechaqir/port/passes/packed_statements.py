@@ -4,6 +4,7 @@ from typing import List, Optional, Sequence
 from ..faults import Refused
 
 from ..tree.kinds import INT, Array, Carrier, Record
+from ..tree.lists import is_zero
 from ..tree.making import assign, binary, cast, declare, name
 from ..tree.nodes import Assign, Bit, Braces, Choose, Expression, Field, Index, Name, Number, Operation, Step
 from ..tree.program import Function, Program, Variable
@@ -64,8 +65,8 @@ class Words(Packer):
                 continue
             else:
                 first = local.first
-                is_zero = isinstance(first, Braces) and not first.values and not any(leaf.first for leaf in self.layout(first.kind, it.at).leaves)
-                news = [declare(each, None if is_zero else value) for each, value in zip(made, self.words(first, before))]
+                is_empty = isinstance(first, Braces) and not first.values and is_zero(first)
+                news = [declare(each, None if is_empty else value) for each, value in zip(made, self.words(first, before))]
             out += [*before, *self.at_place(news, it)]
         return out if len(out) > 1 or not isinstance(out[0], Declare) else [replaced(out[0], text=None)]
 

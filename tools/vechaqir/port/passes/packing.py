@@ -4,6 +4,7 @@ from typing import Dict, List, Optional, Sequence, Tuple
 from ..faults import Refused
 
 from ..tree.kinds import INT, Array, Carrier, Kind, Record
+from ..tree.lists import spread
 from ..tree.making import assign, binary, cast, choose, declare, name
 from ..tree.nodes import Braces, Choose, Expression, Field, Index, Name, Node, Null, Number, Operation
 from ..tree.program import Program, Variable
@@ -13,7 +14,6 @@ from . import words as fields
 from .hoisted import Hoister
 from .hoisting import is_pure
 from .layout import Layout, Leaf, is_packed
-from .lists import spread
 
 
 def inner_kind(kind: Kind) -> Optional[Kind]:

@@ -4,6 +4,7 @@ from typing import Dict, List, Optional, Sequence, Set
 from ..faults import Refused
 from ..tree.folding import constant
 from ..tree.kinds import Array, Record, innermost
+from ..tree.lists import is_zero, spread
 from ..tree.making import assign, declare, name, number
 from ..tree.nodes import Assign, Braces, Expression, Field, Index, Name, Node, Operation
 from ..tree.program import Function, Program, Variable
@@ -11,7 +12,6 @@ from ..tree.statements import Block, Declare, Evaluate, Local, Statement
 from ..tree.walking import from_above, has, statements, used, walk
 from .layout import Layout
 from .unrolling import MOST_CELLS
-from .lists import spread
 from .marking import marked
 
 
@@ -90,12 +90,12 @@ class Splitter:
         if not isinstance(it.first, Braces):
             return [*(declare(each) for each in members.values()), *self.assigned(it.variable, it.first)]
         values = spread(it.first)
-        has_values = bool(it.first.values) or any(each.first for each in kind.members)
+        has_values = bool(it.first.values) or not is_zero(it.first)
         out: List[Statement] = []
         for variable, value in zip(members.values(), values):
             value = from_above(value, self.field)
             is_array = named_array(value) is not None
-            out.append(declare(variable, value if has_values and not is_array and not (isinstance(value, Braces) and not value.values) else None))
+            out.append(declare(variable, value if has_values and not is_array and not (isinstance(value, Braces) and not value.values and is_zero(value)) else None))
             out += copied(name(variable), value) if is_array else []
         return out
 

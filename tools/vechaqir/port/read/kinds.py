@@ -1,10 +1,12 @@
 """Kinds of Clang's types."""
 import re
+from dataclasses import replace
 from typing import Any, Dict, List, Optional, Tuple
 
 from ..source.clang import kids, library, value
 from ..tree.kinds import (BOOL, DOUBLE, FLOAT, FUNCTION, INT, INT8, INT16, INT64, LAMBDA, MANY, MEMORIES, SEQ, STREAMS, TASK, TEXT, UINT8, UINT16, UINT32, UINT64, VOID, Array, Carrier, Kind, Member,
                           Narrow, Plain, Record, Whole)
+from .firsts import Firsts
 
 WHOLE: Dict[str, Whole] = {"BOOL": BOOL, "CHAR_S": INT8, "CHAR_U": UINT8, "SCHAR": INT8, "UCHAR": UINT8, "SHORT": INT16, "USHORT": UINT16, "INT": INT, "UINT": UINT32, "LONG": INT64,
                            "ULONG": UINT64, "LONGLONG": INT64, "ULONGLONG": UINT64}
@@ -56,6 +58,7 @@ class Kinds:
     def __init__(self) -> None:
         self.records: Dict[str, Record] = {}
         self.cursors: Dict[str, Any] = {}
+        self.firsts = Firsts()
 
     def of(self, kind: Any) -> Kind:
         it = bare(kind)
@@ -112,17 +115,15 @@ class Kinds:
             members = tuple(self.member(it, each) for each in fields)
             self.records[name] = Record(name, members, 8 * it.get_size() if it.get_size() > 0 else 0, self.why_not(it, declaration, fields))
             self.cursors[name] = declaration
+            self.records[name] = replace(self.records[name], first=self.firsts.of_struct(self.records[name], declaration))
         return self.records[name]
 
     def member(self, it: Any, field: Any) -> Member:
-        first = [value(each) for each in kids(field) if each.kind.is_expression() and each.extent.start.offset > field.location.offset]
         bits = field.get_bitfield_width() if field.is_bitfield() else None
-        if bits is not None or isinstance(self.of(field.type), Array):
-            first = first[1:] if len(first) > 1 and bits is not None else []
         kind = self.of(field.type)
         if bits is not None and isinstance(kind, Whole) and bits < kind.bits:   # it is cut at each assignment, as an `ap_uint` is
             kind = Narrow(bits, kind.is_signed)
-        return Member(field.spelling, kind, it.get_offset(field.spelling), bits, int(first[-1] or 0) if first else 0)
+        return Member(field.spelling, kind, it.get_offset(field.spelling), bits, self.firsts.of_field(field, kind))
 
     def why_not(self, it: Any, declaration: Any, fields: List[Any]) -> str:
         """What of a struct cannot be ported."""

@@ -36,6 +36,7 @@ def library() -> Any:
     lib.clang_Cursor_Evaluate.argtypes, lib.clang_Cursor_Evaluate.restype = [cindex.Cursor], ctypes.c_void_p
     lib.clang_EvalResult_getKind.argtypes = [ctypes.c_void_p]
     lib.clang_EvalResult_getAsLongLong.argtypes, lib.clang_EvalResult_getAsLongLong.restype = [ctypes.c_void_p], ctypes.c_longlong
+    lib.clang_EvalResult_getAsDouble.argtypes, lib.clang_EvalResult_getAsDouble.restype = [ctypes.c_void_p], ctypes.c_double
     lib.clang_EvalResult_dispose.argtypes, lib.clang_EvalResult_dispose.restype = [ctypes.c_void_p], None
     lib.clang_getSkippedRanges.argtypes, lib.clang_getSkippedRanges.restype = [cindex.TranslationUnit, cindex.File], ctypes.POINTER(Ranges)
     return cindex
@@ -102,14 +103,26 @@ def walk(cursor: Any) -> Iterator[Any]:
     return found
 
 
-def value(cursor: Any) -> Optional[int]:
-    """The value of a constant expression of whole numbers."""
+def evaluated(cursor: Any, kind: int, read: str) -> Any:
+    """What a constant expression is, where its value is of a kind of libclang."""
     if not cursor.kind.is_expression() or cursor.kind.is_reference():
         return None
     lib = library().conf.lib
     found = lib.clang_Cursor_Evaluate(cursor)
     if not found:
         return None
-    number = int(lib.clang_EvalResult_getAsLongLong(found)) if lib.clang_EvalResult_getKind(found) == 1 else None
+    number = getattr(lib, read)(found) if lib.clang_EvalResult_getKind(found) == kind else None
     lib.clang_EvalResult_dispose(found)
     return number
+
+
+def value(cursor: Any) -> Optional[int]:
+    """The value of a constant expression of whole numbers."""
+    found: Optional[int] = evaluated(cursor, 1, "clang_EvalResult_getAsLongLong")
+    return found
+
+
+def real(cursor: Any) -> Optional[float]:
+    """The value of a constant expression of floats."""
+    found: Optional[float] = evaluated(cursor, 2, "clang_EvalResult_getAsDouble")
+    return found

@@ -1,6 +1,9 @@
 """Kinds of values: those of the language, and those of C++ that become some of them."""
 from dataclasses import dataclass
-from typing import Optional, Tuple
+from typing import Any, Optional, Tuple, Union
+
+# The value with which a field begins: a number, a tuple with one for each field or cell, or None where it is not known.
+First = Union[None, int, float, Tuple[Any, ...]]
 
 
 @dataclass(frozen=True)
@@ -58,17 +61,18 @@ class Member:
     kind: Kind
     offset: int
     bits: Optional[int] = None
-    first: int = 0
+    first: First = 0
 
 
 @dataclass(frozen=True)
 class Record(Kind):
-    """A struct; `why` says what of it cannot be ported."""
+    """A struct; `why` says what of it cannot be ported, and `first` is what its own constructor without arguments gives."""
 
     name: str
     members: Tuple[Member, ...]
     bits: int
     why: str = ""
+    first: First = 0
 
     def member(self, name: str) -> Optional[Member]:
         return next((it for it in self.members if it.name == name), None)

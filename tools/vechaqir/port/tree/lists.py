@@ -2,14 +2,20 @@
 from typing import List
 
 from ..faults import Refused
-from ..tree.kinds import Array, Floating, Kind, Narrow, Record, Whole
-from ..tree.nodes import Braces, Expression, Number
+from .kinds import Array, First, Floating, Kind, Narrow, Record, Whole
+from .nodes import Braces, Expression, Number
 
 MOST = 65536
 
 
-def zero(kind: Kind, first: int = 0) -> Expression:
+def zero(kind: Kind, first: First = 0, at: int = -1) -> Expression:
     """The value with which something begins that has none of its own."""
+    first = kind.first if isinstance(kind, Record) and first == 0 else first
+    if first is None:
+        raise Refused(at, "a field that begins with no constant", "a value for it where the struct is declared")
+    if isinstance(first, tuple):
+        kinds = [each.kind for each in kind.members] if isinstance(kind, Record) else [getattr(kind, "element", kind)] * len(first)
+        return Braces(kind, tuple(zero(inner, each, at) for inner, each in zip(kinds, first)))
     if isinstance(kind, (Whole, Floating)):
         return Number(kind, first)
     if isinstance(kind, Narrow):
@@ -33,7 +39,7 @@ def taken(kind: Kind, given: List[Expression], at: int) -> List[Expression]:
     out: List[Expression] = []
     for inner, first in parts:
         if not given:
-            out.append(zero(inner, first))
+            out.append(zero(inner, first, at))
         elif isinstance(inner, (Record, Array)) and not isinstance(given[0], Braces) and given[0].kind != inner:
             out.append(Braces(inner, tuple(taken(inner, given, at))))
         else:
@@ -46,4 +52,8 @@ def is_zero(it: Expression) -> bool:
     """Whether a value is that of a variable without one."""
     if isinstance(it, Number):
         return it.value == 0
-    return isinstance(it, Braces) and all(is_zero(each) for each in it.values) and not (isinstance(it.kind, Record) and any(each.first for each in it.kind.members) and not it.values)
+    if not isinstance(it, Braces):
+        return False
+    if isinstance(it.kind, Record):
+        return not it.kind.members or all(is_zero(each) for each in spread(it))
+    return all(is_zero(each) for each in it.values) and (not isinstance(it.kind, Array) or is_zero(zero(it.kind.element)))
