@@ -194,18 +194,13 @@ def examples():
                 yield (*file.readline().split()[3:], None)[:3]
 
 
-def words():
-    asked = script.Words(__doc__)
-    asked.add_argument("program", metavar="PROGRAM", help="the built `tapa`")
-    asked.add_argument("source", metavar="SRC", nargs="?", help="a source, in place of the examples that end")
-    asked.add_argument("top", metavar="TOP", nargs="?", help="its top task")
-    asked.add_argument("data", metavar="DATA", nargs="?", help="its data")
-    asked.add_argument("--text", metavar="F.v", help="the circuit, in place of the one that is built of the source")
-    asked.add_argument("--memories", choices=("all", *MEMORIES), default="all", help="all memories, or those of one kind alone")
-    asked.add_argument("--page", metavar="F.md", default=PAGE, help="the page with the lines, in place of docs/CIRCUIT.md")
-    return asked
-
-
+@script.word("program", metavar="PROGRAM", help="the built `tapa`")
+@script.word("source", metavar="SRC", nargs="?", help="a source, in place of the examples that end")
+@script.word("top", metavar="TOP", nargs="?", help="its top task")
+@script.word("data", metavar="DATA", nargs="?", help="its data")
+@script.word("--text", metavar="F.v", help="the circuit, in place of the one that is built of the source")
+@script.word("--memories", choices=("all", *MEMORIES), default="all", help="all memories, or those of one kind alone")
+@script.word("--page", metavar="F.md", default=PAGE, help="the page with the lines, in place of docs/CIRCUIT.md")
 def main(asked):
     if asked.source and not asked.top or asked.text and not asked.source:
         raise script.Usage("a text needs its source, and a source its top task")
@@ -224,4 +219,4 @@ def main(asked):
 
 
 if __name__ == "__main__":
-    script.run(words(), main)
+    script.call(main)

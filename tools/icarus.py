@@ -19,17 +19,12 @@ from vechaqir.host import data as inputs  # noqa: E402
 from vechaqir.measure import icarus  # noqa: E402
 
 
-def words():
-    asked = script.Words(__doc__)
-    asked.add_argument("text", metavar="VTEXT", help="the circuit")
-    asked.add_argument("data", metavar="DATA", nargs="?", help="a data file (docs/DATA.md)")
-    asked.add_argument("--cycles", metavar="N", type=script.number(), default=10_000_000, help="the most cycles, 10 million if not given")
-    asked.add_argument("--dump", metavar="F.vcd", help="writes a waveform")
-    asked.add_argument("--bench", metavar="F.v", help="writes the testbench")
-    asked.add_argument("--beside", metavar="F.vcd", help="compares each net in each cycle with this dump of `tapa cosim --vcd`")
-    return asked
-
-
+@script.word("text", metavar="VTEXT", help="the circuit")
+@script.word("data", metavar="DATA", nargs="?", help="a data file (docs/DATA.md)")
+@script.word("--cycles", metavar="N", type=script.number(), default=10_000_000, help="the most cycles, 10 million if not given")
+@script.word("--dump", metavar="F.vcd", help="writes a waveform")
+@script.word("--bench", metavar="F.v", help="writes the testbench")
+@script.word("--beside", metavar="F.vcd", help="compares each net in each cycle with this dump of `tapa cosim --vcd`")
 def main(asked):
     text = Path(asked.text).read_text(encoding="utf-8")
     found = inputs.read(asked.data) if asked.data else inputs.Data()
@@ -53,4 +48,4 @@ def main(asked):
 
 
 if __name__ == "__main__":
-    script.run(words(), main)
+    script.call(main)

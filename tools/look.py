@@ -17,12 +17,6 @@ from vechaqir.measure import tries  # noqa: E402
 from vechaqir.show import contents, page, report as reports  # noqa: E402
 
 
-def words():
-    asked = script.Words(__doc__).design(data=True).device().cycles()
-    asked.add_argument("--no-tries", action="store_true", help="looks for no changes that make the circuit faster")
-    return asked
-
-
 def planned(tapa, asked, network):
     """What the page shows of the plan."""
     command = ["plan", asked.source, asked.top, asked.device, *(["--plan", asked.plan] if asked.plan else [])]
@@ -40,6 +34,8 @@ def uses(tapa, asked):
         return None
 
 
+@script.words(*script.DESIGN, *script.DATA, *script.DEVICE, *script.CYCLES)
+@script.word("--no-tries", action="store_true", help="looks for no changes that make the circuit faster")
 def main(asked):
     read = source.read(asked.source)
     network = source.network(read, asked.top)
@@ -59,4 +55,4 @@ def main(asked):
 
 
 if __name__ == "__main__":
-    script.run(words(), main)
+    script.call(main)

@@ -20,17 +20,13 @@ from vechaqir.host import device, inputs  # noqa: E402
 from vechaqir.place import attempts, placement, progress  # noqa: E402
 
 
-def words():
-    asked = script.Words(__doc__).design()
-    asked.add_argument("device", metavar="DEV", help="the device file")
-    asked.add_argument("--seconds", metavar="N", type=script.number(1, 86_400), default=10, help="how long to look, 10 if not given, and at least one attempt")
-    asked.add_argument("--attempts", metavar="N", type=script.number(1, 1_000_000), help="how many attempts to make, however long that takes")
-    asked.add_argument("--seed", metavar="N", type=script.number(0, 2**63), default=1, help="where the chance of all attempts begins, 1 if not given")
-    asked.add_argument("--workers", metavar="N", type=script.number(1, 64), default=min(64, attempts.processors()), help="processors, all if not given")
-    asked.add_argument("--levels", action="store_true", help="the fewest registers, those of the balance too, in place of the least cost")
-    return asked
-
-
+@script.words(*script.DESIGN)
+@script.word("device", metavar="DEV", help="the device file")
+@script.word("--seconds", metavar="N", type=script.number(1, 86_400), default=10, help="how long to look, 10 if not given, and at least one attempt")
+@script.word("--attempts", metavar="N", type=script.number(1, 1_000_000), help="how many attempts to make, however long that takes")
+@script.word("--seed", metavar="N", type=script.number(0, 2**63), default=1, help="where the chance of all attempts begins, 1 if not given")
+@script.word("--workers", metavar="N", type=script.number(1, 64), default=min(64, attempts.processors()), help="processors, all if not given")
+@script.word("--levels", action="store_true", help="the fewest registers, those of the balance too, in place of the least cost")
 def main(asked):
     tells = progress.Progress()
     try:
@@ -46,4 +42,4 @@ def main(asked):
 
 
 if __name__ == "__main__":
-    script.run(words(), main)
+    script.call(main)

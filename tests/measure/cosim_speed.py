@@ -193,16 +193,12 @@ def measure(program, folder, only, simulators):
     print("\n".join(ends(found)))
 
 
-def words():
-    asked = script.Words(__doc__).program()
-    asked.add_argument("--median", metavar="N", type=script.number(1), help="the median of N calls in place of the best of three")
-    asked.add_argument("--only", metavar="WORD", default="", help="the circuits whose name has the word")
-    asked.add_argument("--no-verilator", action="store_true", help="leaves Verilator out")
-    asked.add_argument("--g++-O3", dest="more", action="store_const", const=OPTIMISED, default=(), help="Verilator's program is compiled with -O3")
-    asked.add_argument("--counted", action="store_true", help="counts instructions")
-    return asked
-
-
+@script.words(*script.PROGRAM)
+@script.word("--median", metavar="N", type=script.number(1), help="the median of N calls in place of the best of three")
+@script.word("--only", metavar="WORD", default="", help="the circuits whose name has the word")
+@script.word("--no-verilator", action="store_true", help="leaves Verilator out")
+@script.word("--g++-O3", dest="more", action="store_const", const=OPTIMISED, default=(), help="Verilator's program is compiled with -O3")
+@script.word("--counted", action="store_true", help="counts instructions")
 def main(asked):
     with tempfile.TemporaryDirectory() as folder:
         if asked.counted:
@@ -212,4 +208,4 @@ def main(asked):
 
 
 if __name__ == "__main__":
-    script.run(words(), main)
+    script.call(main)

@@ -233,14 +233,6 @@ def loops(program, wanted):
     return 0
 
 
-def words():
-    asked = script.Words(__doc__).program()
-    asked.add_argument("word", metavar="WORD", nargs="?", default="", help="those whose name has the word, all if not given")
-    for name, way in (("--workers", by_workers), ("--counted", counted), ("--loops", loops)):
-        asked.add_argument(name, dest="way", action="store_const", const=way, default=rows, help=way.__doc__)
-    return asked
-
-
 def rows(program, wanted):
     """Each program beside its anchor."""
     print("| what | ticks | time | ticks a second | memory | g++ -O2 |\n|---|---|---|---|---|---|")
@@ -255,9 +247,14 @@ def rows(program, wanted):
             print(f"| {name} | {ticks:,} | {seconds:.2f} s | {ticks / max(seconds, 0.001) / 1e6:.0f} million | {megabytes:.0f} MB | {beside} |", flush=True)
 
 
+@script.words(*script.PROGRAM)
+@script.word("word", metavar="WORD", nargs="?", default="", help="those whose name has the word, all if not given")
+@script.word("--workers", dest="way", action="store_const", const=by_workers, default=rows, help=by_workers.__doc__)
+@script.word("--counted", dest="way", action="store_const", const=counted, default=rows, help=counted.__doc__)
+@script.word("--loops", dest="way", action="store_const", const=loops, default=rows, help=loops.__doc__)
 def main(asked):
     return asked.way(asked.program, asked.word)
 
 
 if __name__ == "__main__":
-    script.run(words(), main)
+    script.call(main)

@@ -53,12 +53,8 @@ def try_programs(program, count):
     return tried, wrong
 
 
-def words():
-    asked = script.Words(__doc__).program()
-    asked.add_argument("--programs", metavar="N", type=script.number(1), default=100, help="how many programs, 100 if not given, of which those count that end")
-    return asked
-
-
+@script.words(*script.PROGRAM)
+@script.word("--programs", metavar="N", type=script.number(1), default=100, help="how many programs, 100 if not given, of which those count that end")
 def main(asked):
     tried, wrong = try_programs(asked.program, asked.programs)
     print("\n".join([*wrong, f"{tried} circuits, {len(wrong)} runs otherwise"]))
@@ -66,4 +62,4 @@ def main(asked):
 
 
 if __name__ == "__main__":
-    script.run(words(), main)
+    script.call(main)

@@ -23,14 +23,10 @@ GROUPS = {
 }
 
 
-def words():
-    asked = script.Words(__doc__).program()
-    asked.add_argument("group", metavar="GROUP", choices=GROUPS, help="one of " + ", ".join(GROUPS))
-    asked.add_argument("count", metavar="COUNT", nargs="?", type=script.number(1), help="how many inputs: 10,000 messages to the editor's server, 3,000 sources of the grammar, 1,000 others")
-    asked.add_argument("seed", metavar="SEED", nargs="?", type=script.number(), default=2, help="where their chance begins, 2 if not given")
-    return asked
-
-
+@script.words(*script.PROGRAM)
+@script.word("group", metavar="GROUP", choices=GROUPS, help="one of " + ", ".join(GROUPS))
+@script.word("count", metavar="COUNT", nargs="?", type=script.number(1), help="how many inputs: 10,000 messages to the editor's server, 3,000 sources of the grammar, 1,000 others")
+@script.word("seed", metavar="SEED", nargs="?", type=script.number(), default=2, help="where their chance begins, 2 if not given")
 def main(asked):
     trial, (tries, count) = Trial(asked.program, is_whole=False), GROUPS[asked.group]
     trial.begin(asked.group)
@@ -41,4 +37,4 @@ def main(asked):
 
 
 if __name__ == "__main__":
-    script.run(words(), main)
+    script.call(main)

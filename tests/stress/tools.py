@@ -150,7 +150,7 @@ def load(name):
     spec = importlib.util.spec_from_file_location(f"tool_{name}", path)
     module = importlib.util.module_from_spec(spec)
     spec.loader.exec_module(module)
-    module.words()
+    script.words_of(module.main)
     return path, module
 
 
@@ -168,7 +168,7 @@ def called(path, module, words, given):
     sys.argv = [path, *words]
     status = 1
     try:
-        script.run(module.words(), module.main)
+        script.call(module.main)
     except SystemExit as end:
         status = end.code if isinstance(end.code, int) else 0 if end.code is None else 1
     except BaseException:
@@ -221,15 +221,11 @@ def try_tool(name, asked, good):
     return asked.count - failed, failed
 
 
-def words():
-    asked = script.Words(__doc__).program()
-    asked.add_argument("--only", metavar="NAME,..", default=",".join(CALLS), help="the scripts, without `.py`")
-    asked.add_argument("--count", metavar="N", type=script.number(1), default=2000, help="how many inputs of each, 2000 if not given")
-    asked.add_argument("--first", metavar="N", type=script.number(), default=0, help="the number of the first input")
-    asked.add_argument("--seed", metavar="S", default="1", help="another seed makes other inputs")
-    return asked
-
-
+@script.words(*script.PROGRAM)
+@script.word("--only", metavar="NAME,..", default=",".join(CALLS), help="the scripts, without `.py`")
+@script.word("--count", metavar="N", type=script.number(1), default=2000, help="how many inputs of each, 2000 if not given")
+@script.word("--first", metavar="N", type=script.number(), default=0, help="the number of the first input")
+@script.word("--seed", metavar="S", default="1", help="another seed makes other inputs")
 def main(asked):
     sys.argv[0] = os.path.abspath(sys.argv[0])
     os.environ["TAPA"] = asked.program
@@ -241,4 +237,4 @@ def main(asked):
 
 
 if __name__ == "__main__":
-    script.run(words(), main)
+    script.call(main)
