@@ -5,6 +5,7 @@ It takes what it recognises and leaves out the rest, so that tools can also spea
 from typing import List, Optional, Sequence, Tuple
 
 from . import kinds, lexemes
+from .expressions import evaluated
 from .kinds import Kind
 from .lexemes import Lexeme, Lines, Place
 from .network import Channel, Instance, Network, network
@@ -63,7 +64,7 @@ class Reader:
             return None
         kind, name = found
         end = next((it for it in range(name, len(self.words)) if self.text(it) == ";"), len(self.words))
-        value = kinds.evaluated(self.words[name + 2:end], self.source.values)
+        value = evaluated(self.words[name + 2:end], self.source.values)
         if value and self.text(name) not in self.source.values:
             self.source.values[self.text(name)] = kinds.converted(value[0], kind), kind
             number = self.decimal(name + 2)
@@ -143,7 +144,7 @@ class Reader:
     # ---- upper-level tasks
 
     def number(self, begin: int, end: int) -> Optional[int]:
-        value = kinds.evaluated(self.words[begin:end], self.source.values)
+        value = evaluated(self.words[begin:end], self.source.values)
         return value[0] if value else None
 
     def count(self, begin: int, end: int) -> Optional[int]:

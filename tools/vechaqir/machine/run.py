@@ -11,9 +11,9 @@ from ..host.dump import Dump, Value
 from ..language.kinds import Kind
 from ..language.network import Instance, Network
 from ..language.source import Source
+from ..language.values import Evaluator, evaluator
 from .code import State
 from .states import MEMORY, READS, WRITES, Machine, machines
-from .values import Evaluator, evaluator
 
 TICK, WAITS, ENDED, BAD = "tick", "waits", "ended", "bad token"
 

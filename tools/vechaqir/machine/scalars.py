@@ -1,8 +1,8 @@
 """The scalar parameters of each leaf instance: those of the top task, and constants, with the conversions on their way."""
-from typing import Dict, List, Mapping, Tuple
+from typing import Dict, List, Mapping
 
 from ..language import kinds, lexemes
-from ..language.kinds import Kind
+from ..language.expressions import evaluated
 from ..language.network import LEVELS
 from ..language.source import Source
 from ..language.syntax import Task
@@ -37,5 +37,5 @@ def _value(source: Source, text: str, known: Mapping[str, int]) -> int:
     """The value of an argument: a scalar of the task that invokes, or a constant expression."""
     if text in known:
         return known[text]
-    value: "Tuple[int, Kind] | None" = kinds.evaluated(lexemes.words(lexemes.every(text.encode("latin-1", "replace"))), source.values)
+    value = evaluated(lexemes.words(lexemes.every(text.encode("latin-1", "replace"))), source.values)
     return value[0] if value else 0
