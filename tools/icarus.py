@@ -33,7 +33,7 @@ def main(asked):
     with tempfile.TemporaryDirectory(prefix="tapa-icarus-") as folder:
         made, ran = os.path.join(folder, "bench.v"), os.path.join(folder, "bench")
         dump = asked.dump or (os.path.join(folder, "bench.vcd") if asked.beside else None)
-        Path(made).write_text("\n".join(icarus.bench(text, data, asked.cycles, dump)) + "\n", encoding="utf-8")
+        Path(made).write_text(icarus.bench(text, data, asked.cycles, dump), encoding="utf-8")
         if asked.bench:
             shutil.copyfile(made, asked.bench)
         compiled = subprocess.run(["iverilog", "-g2005", "-gno-xtypes", "-o", ran, asked.text, made], check=False)

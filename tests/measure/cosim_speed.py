@@ -134,7 +134,7 @@ def verilated(folder, more):
 def measured(program, folder, text, data, simulators):
     """The cycles of a circuit, and the processor seconds of `cosim`, of Icarus and, where it is wanted and there, of Verilator."""
     with_verilator, more, times, middle = simulators
-    Path(folder, "bench.v").write_text("\n".join(icarus.bench(text, data, CYCLES)) + "\n", encoding="utf-8")
+    Path(folder, "bench.v").write_text(icarus.bench(text, data, CYCLES), encoding="utf-8")
     subprocess.run(["iverilog", "-g2005", "-gno-xtypes", "-o", "bench", "x.v", "bench.v"], cwd=folder, check=True)
     compiled = verilated(folder, more) if with_verilator else None
     calls = [[program, "cosim", "x.v", "d.json", "--cycles", str(CYCLES)], ["vvp", "-n", "bench"], *([compiled] if compiled else [])]

@@ -1,7 +1,7 @@
 """Tables in files beside the modules: a row a line, two blanks or more between its fields, `-` for an empty one; a line that begins with `# ` is a comment. And texts with places for values."""
 import os
 import re
-from typing import Dict, List
+from typing import Dict, Iterable, List, Mapping
 
 
 def rows(name: str) -> List[List[str]]:
@@ -20,3 +20,8 @@ def texts(name: str) -> Dict[str, str]:
 def filled(text: str, **values: object) -> str:
     """A text with these values in place of their names, each between two `@`."""
     return re.sub(r"@(\w+)@", lambda it: str(values[it[1]]), text)
+
+
+def repeated(text: str, each: Iterable[Mapping[str, object]]) -> str:
+    """A text once for each of these, with its values."""
+    return "".join(filled(text, **values) for values in each)
