@@ -24,32 +24,10 @@ sys.path.insert(0, os.path.dirname(os.path.dirname(os.path.abspath(__file__))))
 from runner.made import mutants  # noqa: E402
 from runner.trial import ROOT, Trial, first_words, read  # noqa: E402
 import vechaqir  # noqa: E402
-from vechaqir import script  # noqa: E402
+from vechaqir import script, tables  # noqa: E402
 
 # The words of each script. A word in capitals is a file of that sort, and a last one after `<` is standard input.
-CALLS = {
-    "board": ("CIRCUIT --seeds 1",),
-    "check_memories": ("PROGRAM SRC TOP DATA", "PROGRAM SRC TOP DATA --text CIRCUIT", "PROGRAM SRC TOP DATA --page PAGE"),
-    "estimate": ("SRC TOP", "SRC TOP DEV", "SRC TOP DEV --json"),
-    "explain": ("< TOLD", "--places < TOLD", "< TOLD -- run SRC TOP DATA", "< TOLD -- plan SRC TOP DEV", "--run PROGRAM run SRC TOP DATA --steps 20000", "--run PROGRAM plan SRC TOP DEV", "--run PROGRAM cosim CIRCUIT DATA --cycles 500"),
-    "floorplan": ("PLAN DEV", "PLAN DEV SRC TOP", "PLAN DEV SRC TOP"),
-    "graph": ("CIRCUIT", "CIRCUIT TOLD"),
-    "icarus": ("CIRCUIT DATA --cycles 300", "CIRCUIT DATA --cycles 300 --beside DUMP"),
-    "look": ("SRC TOP DATA --cycles 2000 --no-tries", "SRC TOP DATA --cycles 2000 --no-tries --device DEV"),
-    "lsp": ("< SPOKEN",),
-    "manual": ("html PAGE", "html PAGE", "man NAME"),
-    "names": ("SRC TOP", "SRC TOP --json", "SRC TOP --waves DUMP", "SRC TOP --waves DUMP", "SRC TOP --gtkw OUT --dump DUMP"),
-    "place": ("SRC TOP DEV --attempts 1 --seconds 1 --workers 1", "SRC TOP DEV --attempts 1 --seconds 1 --workers 1 --levels"),
-    "port": ("SRC", "SRC TOP", "SRC TOP --write OUT"),
-    "profile": ("SRC TOP DATA --cycles 2000 --no-tries", "SRC TOP --dump DUMP", "SRC TOP --dump DUMP --json"),
-    "release_page": ("FOLDER proved x y",),
-    "report": ("SRC TOP DATA --cycles 2000", "SRC TOP --from REPORT", "SRC TOP --from REPORT --json --expect DATA", "SRC TOP --from - --cosim --long < REPORT"),
-    "signed": ("SRC TOP < REPORT",),
-    "template": ("SRC TOP", "SRC TOP 3"),
-    "testbench": ("SRC TOP DATA", "SRC TOP DATA --waits data", "SRC TOP DATA --device DEV"),
-    "waves": ("DUMP", "DUMP --fill", "DUMP --nets s_a_q_wr,done --from 2 --to 30", "WAVES"),
-    "written_out": ("SRC", "SRC 2 30"),
-}
+CALLS = {name: calls for name, *calls in tables.rows(os.path.join(ROOT, "tests/stress/tools.rows"))}
 EXAMPLES = ("vector_add", "run_length", "lanes", "two_ways", "too_shallow", "bad_token")
 ENDS = {"SRC": "cpp", "DATA": "json", "DEV": "dev.json", "CIRCUIT": "v", "DUMP": "vcd", "WAVES": "vcd", "PAGE": "md"}
 WORDS = ["", "-", "--", "-h", "--help", "--json", "--x=y", "-1", "0", "9" * 25, "a" * 5000, "\udcff", "T\n", "--from", "--nets", "$", "a=b", "..", "/", "/dev/null", "/dev/full", "/proc/self/mem", "é", "{}", "[", "*", "--device", "--plan", "exact"]

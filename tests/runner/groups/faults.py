@@ -5,11 +5,9 @@ import os
 from runner import ends
 from runner.ends import is_told, is_unwritten
 from runner.made import refusals
+from runner.trial import read
 
-SOURCE = """void P(tapa::mmap<const int> a, tapa::ostream<int>& q) { for (int i = 0; i < 3; ++i) q << a[i]; }
-void C(tapa::istream<int>& q) { q.read(); q.read(); q.read(); }
-void T(tapa::mmap<const int> a) { tapa::stream<int> q; tapa::task().invoke(P, a, q).invoke(C, q); }
-"""
+SOURCE = read("tests/cases/files/faults.cpp")
 DATA = '{"memories": {"a": [7, 8, 9]}}'
 DEVICE = '{"rows": 1, "cols": 2, "slots": [{"LUT": 900, "FF": 900}, {"LUT": 900, "FF": 900}], "pins": {"P$0": [0, 0], "C$1": [0, 1]}}'
 SMALL = '{"rows": 1, "cols": 1, "slots": [{}]}'

@@ -1,6 +1,6 @@
 """The flat network of a top task: its leaf instances, streams and memories, by the names that the program prints."""
 from dataclasses import dataclass, field
-from typing import Dict, List, Mapping, NamedTuple, Optional, Tuple
+from typing import Dict, List, NamedTuple, Optional, Tuple
 
 from .kinds import Kind
 from .syntax import Invoke, Parameter, Source, Stream, Task
@@ -116,7 +116,7 @@ class Flattening:
                 channel.reader = channel.reader or instance.label
 
 
-def circle(following: Mapping[str, Optional[str]]) -> List[str]:
+def circle(following: Dict[str, Optional[str]]) -> List[str]:
     """Labels each of which is followed by the next one, and the last one by the first; none if there is no such circle."""
     for first in following:
         way: List[str] = []

@@ -90,7 +90,12 @@ def bound(way: List[Step]) -> Bound:
             found.turns[step.line] = max(found.turns[step.line], passed[step.name, step.state])
         elif step.what != "memory":
             (found.rooms if step.what == "room" else found.tokens)[step.name] += 1
-    return Bound(*(Counter(dict(part.most_common())) for part in (found.tasks, found.lines, found.memories, found.streams, found.rooms, found.tokens)), found.turns)  # type: ignore[arg-type]
+    for part in (found.tasks, found.memories, found.streams, found.rooms, found.tokens):
+        greatest = part.most_common()
+        part.clear()
+        part.update(dict(greatest))
+    found.lines = Counter(dict(found.lines.most_common()))
+    return found
 
 
 # ---- a run that stands still
