@@ -26,8 +26,7 @@ def write_save_file(table, path, dumped):
     folder, stem = os.path.dirname(os.path.abspath(path)), os.path.splitext(os.path.basename(path))[0]
     for module, text in names.translations(table):
         Path(folder, f"{stem}.{module}.states").write_text(text, encoding="utf-8")
-    with open(path, "w", encoding="utf-8") as file:
-        file.writelines(f"{line}\n" for line in names.save_file(table, dumped, folder, stem))
+    Path(path).write_text("".join(f"{line}\n" for line in names.save_file(table, dumped, folder, stem)), encoding="utf-8")
 
 
 @script.words(*script.DESIGN)

@@ -29,7 +29,7 @@ from pathlib import Path
 sys.dont_write_bytecode = True
 HERE = os.path.dirname(os.path.abspath(__file__))
 sys.path.insert(0, os.path.dirname(HERE))
-from runner.timed import timed  # noqa: E402
+from runner.timed import by_turns, instructions, timed  # noqa: E402
 from runner.trial import first_words, read, sources  # noqa: E402
 from vechaqir import script  # noqa: E402
 from vechaqir.measure import icarus  # noqa: E402
@@ -104,12 +104,6 @@ def once(words, folder):
     return seconds, Path(folder, "said").read_text(encoding="utf-8").split("\n")
 
 
-def by_turns(calls, folder, times, middle):
-    """For each of the calls, which take turns: the least or the middle of its processor seconds, and the lines that it printed."""
-    made = [[once(words, folder) for words in calls] for _ in range(times)]
-    return [((statistics.median if middle else min)(seconds for seconds, _ in own), own[-1][1]) for own in zip(*made)]
-
-
 def build(program, folder, source, top, data):
     """Writes the source, its data and its circuit into a folder, and gives the text of the circuit."""
     for name, text in (("r.cpp", source), ("d.json", json.dumps(data))):
@@ -138,7 +132,8 @@ def measured(program, folder, text, data, simulators):
     subprocess.run(["iverilog", "-g2005", "-gno-xtypes", "-o", "bench", "x.v", "bench.v"], cwd=folder, check=True)
     compiled = verilated(folder, more) if with_verilator else None
     calls = [[program, "cosim", "x.v", "d.json", "--cycles", str(CYCLES)], ["vvp", "-n", "bench"], *([compiled] if compiled else [])]
-    (own, lines), (other, same), *beside = by_turns(calls, folder, times, middle)
+    chosen = statistics.median if middle else min
+    (own, lines), (other, same), *beside = [(chosen(seconds for seconds, _ in it), it[-1][1]) for it in by_turns(calls, times, lambda words: once(words, folder))]
     last = lines[-2]
     if last != same[-2]:
         sys.exit(f"they differ: {last}, {same[-2]}")
@@ -148,11 +143,9 @@ def measured(program, folder, text, data, simulators):
     return int(last.split()[1]), own, other, beside[0][0] if beside else None
 
 
-def instructions(program, folder, cycles):
-    """The instructions of `cosim` for so many cycles, and the cycles that it came to."""
-    words = ["valgrind", "--tool=callgrind", "--callgrind-out-file=counts", program, "cosim", "x.v", "d.json", "--cycles", str(cycles)]
-    ran = subprocess.run(words, cwd=folder, capture_output=True, text=True, check=False)
-    return int(re.search(r"Collected : (\d+)", ran.stderr)[1]), int(ran.stdout.split("\n")[-2].split()[1])
+def ticks_of(report):
+    """The cycles that a report comes to."""
+    return int(report.split("\n")[-2].split()[1])
 
 
 def count(program, folder, only):
@@ -162,8 +155,8 @@ def count(program, folder, only):
     for name, source, top, data in cases():
         if only in name:
             build(program, folder, source, top, data)
-            (few, before), (many, after) = (instructions(program, folder, cycles) for cycles in COUNTED)
-            found.append((many - few) / (after - before))
+            (few, before), (many, after) = (instructions([program, "cosim", "x.v", "d.json", "--cycles", str(cycles)], folder) for cycles in COUNTED)
+            found.append((many - few) / (ticks_of(after) - ticks_of(before)))
             print(f"| {name} | {found[-1]:,.0f} |", flush=True)
     print(f"| geometric mean of {len(found)} | {statistics.geometric_mean(found):,.0f} |")
 

@@ -16,7 +16,6 @@ each task says something on a machine that has nothing else to do.
 """
 import json
 import os
-import re
 import shutil
 import statistics
 import subprocess
@@ -27,7 +26,7 @@ from pathlib import Path
 sys.dont_write_bytecode = True
 sys.path.insert(0, os.path.dirname(os.path.dirname(os.path.abspath(__file__))))
 from runner.made.programs import apart, by_phases, chain, hub, one_heavy, pair, queue, uneven  # noqa: E402
-from runner.timed import timed  # noqa: E402
+from runner.timed import by_turns, instructions, timed  # noqa: E402
 from vechaqir import script  # noqa: E402
 
 HERE = os.path.dirname(os.path.abspath(__file__))
@@ -146,15 +145,6 @@ def by_workers(program, wanted):
     return 0
 
 
-def instructions(words, folder):
-    """The instructions of one call, and what it writes."""
-    ran = subprocess.run(["valgrind", "--tool=callgrind", "--callgrind-out-file=/dev/null", *words], cwd=folder, capture_output=True, text=True, check=False)
-    counted = re.search(r"Collected : (\d+)", ran.stderr)
-    if not counted:
-        sys.exit(f"{words}: {ran.stderr[:300].strip()}")
-    return int(counted[1]), ran.stdout
-
-
 def counted(program, wanted):
     """The instructions of a turn and of a tick of each loop, and those of a turn of its anchor: what two thousand further turns take."""
     print("| what | ticks a turn | instructions a turn | a tick | g++ -O2, a turn |\n|---|---|---|---|---|")
@@ -174,12 +164,6 @@ def counted(program, wanted):
             more = turns[1] - turns[0]
             print(f"| {name} | {ticks / more:.2f} | {count / more:.0f} | {count / ticks:.1f} | {(most - least) / more:.0f} |", flush=True)
     return 0
-
-
-def by_turns(calls, folder):
-    """What each of the calls used, seven times; they take turns, so that a slow minute of the machine strikes them alike."""
-    made = [[used(call, folder) for call in calls] for _ in range(REPEATS)]
-    return list(zip(*made))
 
 
 def median(spent, by_clock=False):
@@ -225,7 +209,7 @@ def loops(program, wanted):
         if wanted in name:
             put_one(folder, "chain", chain(10, TOKENS), {})
             calls += [called(program, "chain", "T"), [anchor("chain", folder), str(PLAIN * TOKENS)], [anchor("chain_threads", folder, "-pthread"), str(TOKENS)]]
-        spent = by_turns(calls, folder)
+        spent = by_turns(calls, REPEATS, lambda words: used(words, folder))
         if rows:
             tell_loops(rows, spent)
         if wanted in name:

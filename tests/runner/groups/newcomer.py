@@ -21,8 +21,7 @@ def try_told(trial, name):
     trial.check(f"{name}: its first refusal is explained by its construct", "docs/FROM_TAPA.md" in told and "tools/port.py" in told and GENERAL not in told and NEVER not in told, f"   {told}")
     place = re.match(r"tapa: .*?:\d+:\d+: ([A-Z]\d+)", told)
     says = next((line for line in told.splitlines() if line.startswith("      = ") and "arrays written out" not in line), "")
-    with open(os.path.join(CASES, "newcomer", f"{name}.told"), encoding="utf-8") as file:
-        trial.check_equal(f"{name}: how its first refusal is explained", f"{place[1] if place else told} {says[8:]}\n", file.read())
+    trial.check_equal(f"{name}: how its first refusal is explained", f"{place[1] if place else told} {says[8:]}\n", read(f"tests/cases/newcomer/{name}.told"))
 
 
 def try_ported(trial, name):

@@ -2,6 +2,7 @@
 
 It takes what it recognises and leaves out the rest, so that tools can also speak of sources that the program refuses. What is right is what `tapa` says.
 """
+from pathlib import Path
 from typing import List, Optional, Sequence, Tuple
 
 from . import kinds, lexemes
@@ -227,5 +228,4 @@ def parse(text: bytes, path: Optional[str] = None) -> Source:
 
 def read(path: str) -> Source:
     """What the source of a file declares; OSError where it can't be read."""
-    with open(path, "rb") as file:
-        return parse(file.read(), path)
+    return parse(Path(path).read_bytes(), path)

@@ -4,6 +4,7 @@ from __future__ import annotations
 import html
 import json
 import os
+from pathlib import Path
 from typing import Any, Dict
 
 FOLDER = os.path.join(os.path.dirname(os.path.abspath(__file__)), "look")
@@ -11,8 +12,8 @@ FOLDER = os.path.join(os.path.dirname(os.path.abspath(__file__)), "look")
 
 def page(data: Dict[str, Any]) -> str:
     """The text of the page."""
-    parts = {"TITLE": html.escape(f"{data['top']}: {data['path']}"), "STYLE": _read("page.css"), "SCRIPT": _read("page.js"), "DATA": _script_safe(data)}
-    made = _read("page.html")
+    made, style, code = (Path(FOLDER, f"page.{end}").read_text(encoding="utf-8") for end in ("html", "css", "js"))
+    parts = {"TITLE": html.escape(f"{data['top']}: {data['path']}"), "STYLE": style, "SCRIPT": code, "DATA": _script_safe(data)}
     for name, text in parts.items():
         made = made.replace(f"@{name}@", text, 1)
     return made
@@ -21,8 +22,3 @@ def page(data: Dict[str, Any]) -> str:
 def _script_safe(data: Dict[str, Any]) -> str:
     """The data as JSON in which no character can end the element that holds it."""
     return json.dumps(data, separators=(",", ":"), ensure_ascii=True).replace("<", "\\u003c")
-
-
-def _read(name: str) -> str:
-    with open(os.path.join(FOLDER, name), encoding="utf-8") as file:
-        return file.read()
