@@ -56,7 +56,7 @@ def main(asked):
     if asked.words[:1] == ["write"]:
         return write("".join(asked.words[1:2]), asked.words[2:])
     if asked.words == ["house"]:
-        return house.main(["--shrink"] if asked.shrink else [])
+        return house.main(asked.shrink)
     if len(asked.words) > 1:
         raise script.Usage("there is one program")
     names = chosen(asked)
