@@ -17,12 +17,12 @@ import sys
 
 sys.dont_write_bytecode = True
 from runner import groups, rounds  # noqa: E402
-from runner.write import chain, crates, house, laws, lists, mistakes, reference, rooms  # noqa: E402
+from runner.write import chain, crates, house, laws, lists, recorded, rooms  # noqa: E402
 from vechaqir import script  # noqa: E402
 from vechaqir.host import program  # noqa: E402
 
 WRITTEN = {"crates": crates, "rooms": rooms, "groups": groups, "laws": laws}
-DRAWN = {"chain": chain.main, "mistakes": mistakes.main, "reference": reference.main}
+DRAWN = {"chain": chain.main, "mistakes": recorded.record_mistakes, "reference": recorded.record_circuits}
 
 
 def write(name, more):

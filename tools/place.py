@@ -16,7 +16,7 @@ import sys
 
 sys.dont_write_bytecode = True
 from vechaqir import script  # noqa: E402
-from vechaqir.host import device, inputs  # noqa: E402
+from vechaqir.host import device, plan  # noqa: E402
 from vechaqir.place import attempts, placement, progress  # noqa: E402
 
 
@@ -30,7 +30,7 @@ from vechaqir.place import attempts, placement, progress  # noqa: E402
 def main(asked):
     tells = progress.Progress()
     try:
-        program = inputs.program_for(asked.source, asked.top, asked.device)
+        program = plan.program_for(asked.source, asked.top, asked.device)
         request = placement.read_request(program, asked.source, asked.top, device.read(asked.device))
         limits = attempts.Limits(asked.seconds, asked.attempts, asked.workers)
         found = placement.place(request, asked.seed, limits, asked.levels, tells.tell)

@@ -1,4 +1,4 @@
-"""The list of crates, the rooms in the page How it is verified, names of definitions and laws, and links between pages."""
+"""The list of crates, the rooms in the page How it is verified, names of definitions and laws, links between pages, and the files that the page Recipes names."""
 import os
 import re
 from pathlib import Path
@@ -111,3 +111,11 @@ def try_links(trial):
     for page in pages:
         for path in sorted(set(re.findall(r"\b(?:docs|examples|tests|tools|crates)/[\w./]*\w", read(page)))):
             trial.check(f"{page}: {path} is there", "/out/" in path or os.path.exists(os.path.join(ROOT, path)))
+
+
+def try_recipes(trial):
+    """Each file and folder that a recipe names exists: what has a slash, and an end by which one knows a file or a folder."""
+    paths = [path for path in re.findall(r"`([\w./]+)`", read("docs/RECIPES.md")) if "/" in path and (path.endswith("/") or re.search(r"\.\w+$", path))]
+    trial.check("the recipes name files", len(paths) > 40)
+    for path in sorted(set(paths)):
+        trial.check(f"recipe: {path}", any(os.path.exists(os.path.join(ROOT, folder, path)) for folder in ("crates", "")))
