@@ -14,7 +14,7 @@ from vechaqir import script  # noqa: E402
 from vechaqir.host import device, estimate, plan  # noqa: E402
 from vechaqir.language import source  # noqa: E402
 from vechaqir.measure import tries  # noqa: E402
-from vechaqir.show import contents, page, report as reports  # noqa: E402
+from vechaqir.show import contents, report as reports  # noqa: E402
 
 
 def planned(tapa, asked, network):
@@ -51,7 +51,7 @@ def main(asked):
     made["uses"] = uses(bench.program, asked)
     if asked.device:
         made["plan"] = planned(bench.program, asked, network)
-    sys.stdout.write(page.page(made))
+    sys.stdout.write(contents.page(made))
 
 
 if __name__ == "__main__":
