@@ -17,23 +17,12 @@ import sys
 
 sys.dont_write_bytecode = True
 from runner import groups, rounds  # noqa: E402
-from runner.write import chain, crates, house, laws, lists, mistakes, reference, rooms  # noqa: E402
+from runner.write import chain, crates, house, laws, lists, recorded, rooms  # noqa: E402
 from vechaqir import script  # noqa: E402
 from vechaqir.host import program  # noqa: E402
 
 WRITTEN = {"crates": crates, "rooms": rooms, "groups": groups, "laws": laws}
-DRAWN = {"chain": chain.main, "mistakes": mistakes.main, "reference": reference.main}
-
-
-def words():
-    asked = script.Words(__doc__)
-    asked.add_argument("words", metavar="PROGRAM | write NAME | house", nargs="*", help="the program, or what is written or told")
-    asked.add_argument("--only", metavar="W", default="", help="tries the groups whose name has W")
-    asked.add_argument("--failed", action="store_true", help="tries the groups that failed when they were tried last")
-    asked.add_argument("-j", dest="jobs", metavar="N", type=script.number(1, 64), default=1, help="tries N groups at once; some measure time, and may fail beside others")
-    asked.add_argument("--list", action="store_true", help="prints the groups")
-    asked.add_argument("--shrink", action="store_true", help="with house: takes exceptions away that hold no more")
-    return asked
+DRAWN = {"chain": chain.main, "mistakes": recorded.record_mistakes, "reference": recorded.record_circuits}
 
 
 def write(name, more):
@@ -54,6 +43,12 @@ def chosen(asked):
     return found
 
 
+@script.word("words", metavar="PROGRAM | write NAME | house", nargs="*", help="the program, or what is written or told")
+@script.word("--only", metavar="W", default="", help="tries the groups whose name has W")
+@script.word("--failed", action="store_true", help="tries the groups that failed when they were tried last")
+@script.word("-j", dest="jobs", metavar="N", type=script.number(1, 64), default=1, help="tries N groups at once; some measure time, and may fail beside others")
+@script.word("--list", action="store_true", help="prints the groups")
+@script.word("--shrink", action="store_true", help="with house: takes exceptions away that hold no more")
 def main(asked):
     if asked.list:
         print("\n".join(f"{name:12} {groups.row(name)}" for name in groups.names()))
@@ -61,7 +56,7 @@ def main(asked):
     if asked.words[:1] == ["write"]:
         return write("".join(asked.words[1:2]), asked.words[2:])
     if asked.words == ["house"]:
-        return house.main(["--shrink"] if asked.shrink else [])
+        return house.main(asked.shrink)
     if len(asked.words) > 1:
         raise script.Usage("there is one program")
     names = chosen(asked)
@@ -69,4 +64,4 @@ def main(asked):
 
 
 if __name__ == "__main__":
-    script.run(words(), main)
+    script.call(main)

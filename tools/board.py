@@ -16,14 +16,6 @@ from vechaqir.host import files  # noqa: E402
 from vechaqir.measure import board  # noqa: E402
 
 
-def words():
-    asked = script.Words(__doc__)
-    asked.add_argument("text", metavar="VTEXT", help="the circuit")
-    asked.add_argument("--seeds", metavar="N", type=script.number(1, 100), default=3, help="the clock is the median of N placements, of 3 if not given")
-    asked.add_argument("--keep", metavar="FOLDER", help="where the wrapper, the netlist and the routed design are left")
-    return asked
-
-
 def tell(folder, text, top, seeds):
     """Prints what the circuit takes by itself, and what nextpnr makes of it in its wrapper."""
     alone = board.ice40(folder, text, top)
@@ -37,6 +29,9 @@ def tell(folder, text, top, seeds):
     print(f"with its wrapper: {cells} of 7680 logic cells, {sorted(clocks)[len(clocks) // 2]:.1f} MHz")
 
 
+@script.word("text", metavar="VTEXT", help="the circuit")
+@script.word("--seeds", metavar="N", type=script.number(1, 100), default=3, help="the clock is the median of N placements, of 3 if not given")
+@script.word("--keep", metavar="FOLDER", help="where the wrapper, the netlist and the routed design are left")
 def main(asked):
     lacking = board.missing()
     if lacking:
@@ -50,4 +45,4 @@ def main(asked):
 
 
 if __name__ == "__main__":
-    script.run(words(), main)
+    script.call(main)

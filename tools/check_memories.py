@@ -21,13 +21,14 @@ import tempfile
 from pathlib import Path
 
 sys.dont_write_bytecode = True
-from vechaqir import script  # noqa: E402
+from vechaqir import script, tables  # noqa: E402
 from vechaqir.host import data as inputs, files  # noqa: E402
 from vechaqir.measure.icarus import missing, report, simulated, top_of  # noqa: E402
 
 ROOT = script.ROOT
 PAGE = os.path.join(ROOT, "docs", "CIRCUIT.md")
 LIMIT = 20_000
+TEXTS = tables.texts("measure/memories.texts")
 
 
 def page_lines(page, begin):
@@ -54,39 +55,12 @@ def bus(page, name, bits, size):
     """
     lines = page_lines(page, "reg is_asking;").replace("[31:0]", f"[{bits - 1}:0]").replace("m_a_", f"m_{name}_")
     lines = re.sub(r"\b(is_asking|is_answered|asked_we|asked_addr|asked_wdata|answer|bus_\w+)\b", rf"\1_{name}", lines)
-    return f"""reg [{bits - 1}:0] cells_{name} [0:{max(1, size) - 1}]; reg [2:0] left_{name}; reg [63:0] noise_{name};
-wire bus_request_{name}; wire bus_we_{name}; wire [63:0] bus_addr_{name}; wire [{bits - 1}:0] bus_wdata_{name}; wire bus_reply_{name}; wire [{bits - 1}:0] bus_rdata_{name};
-{lines}assign bus_reply_{name} = !rst && bus_request_{name} && left_{name} == 0;
-assign bus_rdata_{name} = !bus_reply_{name} || bus_we_{name} ? noise_{name} : bus_addr_{name} < 64'd{size} ? cells_{name}[bus_addr_{name}] : {bits}'d0;
-always @(posedge clk) begin
-  if (bus_reply_{name} && bus_we_{name} && bus_addr_{name} < 64'd{size}) cells_{name}[bus_addr_{name}] <= bus_wdata_{name};
-  left_{name} <= bus_request_{name} === 1 && left_{name} !== 0 ? left_{name} - 1 : $random; noise_{name} <= {{$random, $random}};
-end
-"""
+    return tables.filled(TEXTS["bus"], lines=lines, name=name, bits=bits, high=bits - 1, size=size, most=max(1, size) - 1)
 
 
 def random_memory(_page, name, bits, size):
     """A memory that is ready when `ready_NAME` says so, outside of reset, and shows noise where it is not ready or a value is stored."""
-    return f"""reg [{bits - 1}:0] cells_{name} [0:{max(1, size) - 1}]; reg ready_{name}; reg [63:0] noise_{name};
-assign m_{name}_ack = !rst && ready_{name};
-assign m_{name}_rdata = !m_{name}_ack || m_{name}_we ? noise_{name} : m_{name}_addr < 64'd{size} ? cells_{name}[m_{name}_addr] : {bits}'d0;
-always @(posedge clk) begin
-  if (m_{name}_we && m_{name}_ack && m_{name}_addr < 64'd{size}) cells_{name}[m_{name}_addr] <= m_{name}_wdata;
-  ready_{name} <= $random; noise_{name} <= {{$random, $random}};
-end
-"""
-
-
-def held(name, owner):
-    """Two lines that look at what the circuit asks of a memory: after a cycle in which the memory was not ready, a task that stays in its state asks for the same."""
-    before = " ".join(f"reg {'[63:0] ' * (part in ('addr', 'wdata', 'state'))}was_{part}_{name};" for part in ("asked", "we", "addr", "wdata", "state"))
-    same = f"m_{name}_we === was_we_{name} && m_{name}_addr === was_addr_{name} && (m_{name}_wdata === was_wdata_{name} || !m_{name}_we)"
-    return f"""{before}
-always @(posedge clk) begin
-  if (!rst && was_asked_{name} === 1 && {owner}.state === was_state_{name} && !({same})) $display("bad {name} is asked for something else while it waits");
-  was_asked_{name} <= !rst && !m_{name}_ack; was_state_{name} <= {owner}.state; was_we_{name} <= m_{name}_we; was_addr_{name} <= m_{name}_addr; was_wdata_{name} <= m_{name}_wdata;
-end
-"""
+    return tables.filled(TEXTS["random"], name=name, bits=bits, high=bits - 1, size=size, most=max(1, size) - 1)
 
 
 MEMORIES = {"ram": block_ram, "bus": bus, "random": random_memory}
@@ -99,50 +73,33 @@ def owners_of(text):
 
 
 def bench(text, data, memory, resets):
-    """A testbench with memories by `memory`, that resets the circuit in these cycles, each with how many cycles the reset takes; the first one is in cycle 0."""
+    """A testbench with memories by `memory`, that resets the circuit in these cycles, each with how many cycles the reset takes; the first one is in cycle 0. It looks at what
+    the circuit asks of a memory, too: after a cycle in which the memory was not ready, a task that stays in its state asks for the same."""
     name, ports, wires = top_of(text)
-    bits_of = {port: bits for _, bits, port in ports}
-    memories = [(port[2:-4], bits_of[port[:-3] + "rdata"], data.get("memories", {})[port[2:-4]]) for _, _, port in ports if port.endswith("_ack")]
-    streams = [wire[2:-4] for wire in wires if wire.startswith("s_") and wire.endswith("_din")]
-    owners = owners_of(text)
-    values = data.get("scalars", {})
-    yield "module bench; reg clk; reg rst; wire done; integer cycle; integer begun; integer at;"
-    for _, bits, port in ports:
-        if port.startswith("v_"):
-            yield f"wire [{bits - 1}:0] {port} = {bits}'d{int(values[port[2:]]) % 2**bits};"
-    for label, bits, cells in memories:
-        yield f"wire m_{label}_ack; wire m_{label}_we; wire [63:0] m_{label}_addr; wire [{bits - 1}:0] m_{label}_wdata; wire [{bits - 1}:0] m_{label}_rdata;"
-        yield memory(label, bits, len(cells))
-    yield f"{name} top (" + ", ".join(f".{port}({port})" for _, _, port in ports) + ");"
-    yield from (held(label, f"top.{owners[label]}") for label, _, _ in memories if label in owners)
-    yield "task fill; begin"
-    yield from (f"  cells_{label}[{at}] = {bits}'d{cell % 2**bits};" for label, bits, cells in memories for at, cell in enumerate(cells))
-    yield "end endtask task look; begin"
-    for label, bits, cells in memories:
-        yield f"  if (m_{label}_ack !== 0) $display(\"bad {label} is ready in reset\");"
-        yield from (f"  if (cells_{label}[{at}] !== {bits}'d{cell % 2**bits}) $display(\"bad {label} changes in reset\");" for at, cell in enumerate(cells))
-    yield "end endtask"
-    yield "initial begin clk = 0; cycle = 0; begun = 0; rst = 0; #1; while (1) begin"
-    yield from (f"  if (cycle == {moment}) begin fill; rst = 1; begun = {moment + length}; $display(\"again\"); end" for moment, length in resets)
-    yield "  if (cycle == begun) begin fill; rst = 0; end"
-    yield "  #4; if (rst) look;"
-    yield "  else begin"
-    for label in streams:
-        bits = wires[f"s_{label}_din"]
-        yield f'    if (top.s_{label}_wr === 1 && top.s_{label}_rdy === 1) $display("stream {label} %0d {bits}", top.s_{label}_din);'
-    yield f"    if (cycle > {resets[-1][0]} && (done === 1 || cycle == {LIMIT})) begin"
-    for label, _, cells in memories:
-        yield f'      for (at = 0; at < {len(cells)}; at = at + 1) $display("memory {label} %0d", cells_{label}[at]);'
-    yield '      if (done === 1) $display("done"); else $display("running"); $finish; end'
-    yield "  end"
-    yield "  clk = 1; #5; clk = 0; if (rst) look; cycle = cycle + 1; end end"
-    yield "endmodule"
+    bits_of, owners, values = {port: bits for _, bits, port in ports}, owners_of(text), data.get("scalars", {})
+    memories, cells = [], []
+    for label in [port[2:-4] for port in bits_of if port.endswith("_ack")]:
+        bits, held = bits_of[f"m_{label}_rdata"], data.get("memories", {})[label]
+        own = [{"name": label, "bits": bits, "at": at, "cell": cell % 2**bits} for at, cell in enumerate(held)]
+        memories.append({"name": label, "bits": bits, "high": bits - 1, "size": len(held), "owner": f"top.{owners.get(label)}", "cells": own})
+        cells += own
+    streams = [{"name": wire[2:-4], "bits": wires[wire]} for wire in wires if wire.startswith("s_") and wire.endswith("_din")]
+    return tables.filled(
+        TEXTS["bench"], name=name, last=resets[-1][0], limit=LIMIT, ports=", ".join(f".{port}({port})" for port in bits_of),
+        scalars="".join(f"wire [{bits - 1}:0] {port} = {bits}'d{int(values[port[2:]]) % 2**bits};\n" for _, bits, port in ports if port.startswith("v_")),
+        memories="".join(tables.filled(TEXTS["memory"], **it) + memory(it["name"], it["bits"], it["size"]) for it in memories),
+        held=tables.repeated(TEXTS["held"], [it for it in memories if it["name"] in owners]),
+        cells="".join(f"  cells_{it['name']}[{it['at']}] = {it['bits']}'d{it['cell']};\n" for it in cells),
+        looks="".join(tables.filled(TEXTS["looks"], **it) + tables.repeated(TEXTS["look"], it["cells"]) for it in memories),
+        resets=tables.repeated(TEXTS["reset"], [{"moment": moment, "end": moment + length} for moment, length in resets]),
+        streams=tables.repeated(TEXTS["stream"], streams), shown=tables.repeated(TEXTS["shown"], memories),
+    )
 
 
 def shown_in_icarus(folder, text, data, memory, resets):
     """The report of a run from its last reset on, without the number of cycles, and what was bad."""
     paths = [os.path.join(folder, name) for name in ("design.v", "bench.v", "bench")]
-    for path, lines in zip(paths, (text, "\n".join(bench(text, data, memory, resets)) + "\n")):
+    for path, lines in zip(paths, (text, bench(text, data, memory, resets))):
         Path(path).write_text(lines, encoding="utf-8")
     said = ["again", *simulated(paths[2], paths[:2], "the circuit")]
     bad = sorted({line for line in said if line.startswith("bad ")})
@@ -199,18 +156,13 @@ def examples():
                 yield (*file.readline().split()[3:], None)[:3]
 
 
-def words():
-    asked = script.Words(__doc__)
-    asked.add_argument("program", metavar="PROGRAM", help="the built `tapa`")
-    asked.add_argument("source", metavar="SRC", nargs="?", help="a source, in place of the examples that end")
-    asked.add_argument("top", metavar="TOP", nargs="?", help="its top task")
-    asked.add_argument("data", metavar="DATA", nargs="?", help="its data")
-    asked.add_argument("--text", metavar="F.v", help="the circuit, in place of the one that is built of the source")
-    asked.add_argument("--memories", choices=("all", *MEMORIES), default="all", help="all memories, or those of one kind alone")
-    asked.add_argument("--page", metavar="F.md", default=PAGE, help="the page with the lines, in place of docs/CIRCUIT.md")
-    return asked
-
-
+@script.word("program", metavar="PROGRAM", help="the built `tapa`")
+@script.word("source", metavar="SRC", nargs="?", help="a source, in place of the examples that end")
+@script.word("top", metavar="TOP", nargs="?", help="its top task")
+@script.word("data", metavar="DATA", nargs="?", help="its data")
+@script.word("--text", metavar="F.v", help="the circuit, in place of the one that is built of the source")
+@script.word("--memories", choices=("all", *MEMORIES), default="all", help="all memories, or those of one kind alone")
+@script.word("--page", metavar="F.md", default=PAGE, help="the page with the lines, in place of docs/CIRCUIT.md")
 def main(asked):
     if asked.source and not asked.top or asked.text and not asked.source:
         raise script.Usage("a text needs its source, and a source its top task")
@@ -230,4 +182,4 @@ def main(asked):
 
 
 if __name__ == "__main__":
-    script.run(words(), main)
+    script.call(main)

@@ -11,18 +11,14 @@ import sys
 
 sys.dont_write_bytecode = True
 from vechaqir import script  # noqa: E402
-from vechaqir.host import device, estimate, inputs, slot_groups, table  # noqa: E402
+from vechaqir.host import device, estimate, plan, slot_groups, table  # noqa: E402
 
 
-def words():
-    asked = script.Words(__doc__).design()
-    asked.add_argument("device", metavar="DEV", nargs="?", help="a device file")
-    asked.add_argument("--json", action="store_true", help="prints one object of JSON")
-    return asked
-
-
+@script.words(*script.DESIGN)
+@script.word("device", metavar="DEV", nargs="?", help="a device file")
+@script.word("--json", action="store_true", help="prints one object of JSON")
 def main(asked):
-    called = inputs.program_for(asked.source, asked.top, asked.device)
+    called = plan.program_for(asked.source, asked.top, asked.device)
     known = device.read(asked.device) if asked.device else None
     found = estimate.estimate(called, asked.source, asked.top, known.tasks if known else None)
     groups = slot_groups.groups(found.labels, slot_groups.links(asked.source, asked.top, found.labels, found.widths))
@@ -30,4 +26,4 @@ def main(asked):
 
 
 if __name__ == "__main__":
-    script.run(words(), main)
+    script.call(main)

@@ -23,14 +23,9 @@ def out(text):
     sys.stdout.buffer.flush()
 
 
-def words():
-    asked = script.Words(__doc__)
-    asked.add_argument("words", metavar="-- WORDS", nargs="*", help="the words with which `tapa` was called")
-    asked.add_argument("--places", action="store_true", help="puts places in the source into the messages")
-    asked.add_argument("--run", metavar="PROGRAM WORDS", nargs=REMAINDER, help="runs the program with these words")
-    return asked
-
-
+@script.word("words", metavar="-- WORDS", nargs="*", help="the words with which `tapa` was called")
+@script.word("--places", action="store_true", help="puts places in the source into the messages")
+@script.word("--run", metavar="PROGRAM WORDS", nargs=REMAINDER, help="runs the program with these words")
 def main(asked):
     if asked.run:
         run.run(asked.run[0], asked.run[1:])
@@ -43,4 +38,4 @@ def main(asked):
 
 
 if __name__ == "__main__":
-    script.run(words(), main)
+    script.call(main)

@@ -15,15 +15,10 @@ from vechaqir.host import device, plan, slot_groups  # noqa: E402
 from vechaqir.show import floorplan  # noqa: E402
 
 
-def words():
-    asked = script.Words(__doc__)
-    asked.add_argument("plan", metavar="F.plan", help="what `tapa plan` printed")
-    asked.add_argument("device", metavar="DEV", help="the device file")
-    asked.add_argument("source", metavar="SRC", nargs="?", help="the source")
-    asked.add_argument("top", metavar="TOP", nargs="?", help="its top task")
-    return asked
-
-
+@script.word("plan", metavar="F.plan", help="what `tapa plan` printed")
+@script.word("device", metavar="DEV", help="the device file")
+@script.word("source", metavar="SRC", nargs="?", help="the source")
+@script.word("top", metavar="TOP", nargs="?", help="its top task")
 def main(asked):
     if asked.source and not asked.top:
         raise script.Usage("a source needs its top task")
@@ -37,4 +32,4 @@ def main(asked):
 
 
 if __name__ == "__main__":
-    script.run(words(), main)
+    script.call(main)

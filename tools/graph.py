@@ -15,13 +15,8 @@ from vechaqir.host import files  # noqa: E402
 from vechaqir.show import networks  # noqa: E402
 
 
-def words():
-    asked = script.Words(__doc__)
-    asked.add_argument("circuit", metavar="F.v", help="what `tapa build` printed")
-    asked.add_argument("told", metavar="F.told", nargs="?", help="the messages of a run that has stopped")
-    return asked
-
-
+@script.word("circuit", metavar="F.v", help="what `tapa build` printed")
+@script.word("told", metavar="F.told", nargs="?", help="the messages of a run that has stopped")
 def main(asked):
     network, facts, late = networks.of_circuit(files.text(asked.circuit))
     if asked.told:
@@ -30,4 +25,4 @@ def main(asked):
 
 
 if __name__ == "__main__":
-    script.run(words(), main)
+    script.call(main)

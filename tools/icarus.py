@@ -18,17 +18,12 @@ from vechaqir.host import data as inputs, files  # noqa: E402
 from vechaqir.measure import icarus  # noqa: E402
 
 
-def words():
-    asked = script.Words(__doc__)
-    asked.add_argument("text", metavar="VTEXT", help="the circuit")
-    asked.add_argument("data", metavar="DATA", nargs="?", help="a data file (docs/DATA.md)")
-    asked.add_argument("--cycles", metavar="N", type=script.number(), default=10_000_000, help="the most cycles, 10 million if not given")
-    asked.add_argument("--dump", metavar="F.vcd", help="writes a waveform")
-    asked.add_argument("--bench", metavar="F.v", help="writes the testbench")
-    asked.add_argument("--beside", metavar="F.vcd", help="compares each net in each cycle with this dump of `tapa cosim --vcd`")
-    return asked
-
-
+@script.word("text", metavar="VTEXT", help="the circuit")
+@script.word("data", metavar="DATA", nargs="?", help="a data file (docs/DATA.md)")
+@script.word("--cycles", metavar="N", type=script.number(), default=10_000_000, help="the most cycles, 10 million if not given")
+@script.word("--dump", metavar="F.vcd", help="writes a waveform")
+@script.word("--bench", metavar="F.v", help="writes the testbench")
+@script.word("--beside", metavar="F.vcd", help="compares each net in each cycle with this dump of `tapa cosim --vcd`")
 def main(asked):
     text = files.text(asked.text)
     found = inputs.read(asked.data) if asked.data else inputs.Data()
@@ -37,7 +32,7 @@ def main(asked):
     with tempfile.TemporaryDirectory(prefix="tapa-icarus-") as folder:
         made, ran = os.path.join(folder, "bench.v"), os.path.join(folder, "bench")
         dump = asked.dump or (os.path.join(folder, "bench.vcd") if asked.beside else None)
-        Path(made).write_text("\n".join(icarus.bench(text, data, asked.cycles, dump)) + "\n", encoding="utf-8")
+        Path(made).write_text(icarus.bench(text, data, asked.cycles, dump), encoding="utf-8")
         if asked.bench:
             shutil.copyfile(made, asked.bench)
         said = icarus.simulated(ran, (asked.text, made), asked.text)
@@ -49,4 +44,4 @@ def main(asked):
 
 
 if __name__ == "__main__":
-    script.run(words(), main)
+    script.call(main)

@@ -176,13 +176,8 @@ def compile_parts(kit, words, source, made):
     return subprocess.run([f"{kit}/toolchain/bin/ld.lld", "-r", "-o", made, *objects], check=False).returncode == 0
 
 
-def words():
-    asked = script.Words(__doc__)
-    asked.add_argument("kit", metavar="KIT", help="the folder of the kit")
-    asked.add_argument("words", metavar="WORDS", nargs=REMAINDER, help="those of `clang`")
-    return asked
-
-
+@script.word("kit", metavar="KIT", help="the folder of the kit")
+@script.word("words", metavar="WORDS", nargs=REMAINDER, help="those of `clang`")
 def main(asked):
     words = words_for(asked.words)
     if "-c" in words and "-x" in words[:-2] and "-o" in words[:-1]:
@@ -193,4 +188,4 @@ def main(asked):
 
 
 if __name__ == "__main__":
-    script.run(words(), main)
+    script.call(main)

@@ -14,13 +14,7 @@ from vechaqir import script  # noqa: E402
 from vechaqir.host import device, estimate, plan  # noqa: E402
 from vechaqir.language import source  # noqa: E402
 from vechaqir.measure import tries  # noqa: E402
-from vechaqir.show import contents, page, report as reports  # noqa: E402
-
-
-def words():
-    asked = script.Words(__doc__).design(data=True).device().cycles()
-    asked.add_argument("--no-tries", action="store_true", help="looks for no changes that make the circuit faster")
-    return asked
+from vechaqir.show import contents, report as reports  # noqa: E402
 
 
 def planned(tapa, asked, network):
@@ -40,6 +34,8 @@ def uses(tapa, asked):
         return None
 
 
+@script.words(*script.DESIGN, *script.DATA, *script.DEVICE, *script.CYCLES)
+@script.word("--no-tries", action="store_true", help="looks for no changes that make the circuit faster")
 def main(asked):
     read = source.read(asked.source)
     network = source.network(read, asked.top)
@@ -55,8 +51,8 @@ def main(asked):
     made["uses"] = uses(bench.program, asked)
     if asked.device:
         made["plan"] = planned(bench.program, asked, network)
-    sys.stdout.write(page.page(made))
+    sys.stdout.write(contents.page(made))
 
 
 if __name__ == "__main__":
-    script.run(words(), main)
+    script.call(main)

@@ -13,14 +13,10 @@ sys.dont_write_bytecode = True
 from vechaqir import script  # noqa: E402
 
 
-def words():
-    return script.Words(__doc__)
-
-
 def main(_):
     from vechaqir.editor import server
     return server.serve()
 
 
 if __name__ == "__main__":
-    script.run(words(), main)
+    script.call(main)

@@ -35,13 +35,8 @@ def manual(text, name):
     return "\n".join([*lines, ".SH SEE ALSO", SEE, ""])
 
 
-def words():
-    asked = script.Words(__doc__)
-    asked.add_argument("form", metavar="FORM", choices=("man", "html"), help="man or html")
-    asked.add_argument("what", metavar="NAME|PAGE.md", nargs="?", help="what the command is called, `tapa` if not given; or a page")
-    return asked
-
-
+@script.word("form", metavar="FORM", choices=("man", "html"), help="man or html")
+@script.word("what", metavar="NAME|PAGE.md", nargs="?", help="what the command is called, `tapa` if not given; or a page")
 def main(asked):
     if asked.form == "man":
         name = asked.what or "tapa"
@@ -55,4 +50,4 @@ def main(asked):
 
 
 if __name__ == "__main__":
-    script.run(words(), main)
+    script.call(main)

@@ -21,24 +21,19 @@ from vechaqir.language import source  # noqa: E402
 from vechaqir.machine import names, run, waveform  # noqa: E402
 
 
-def words():
-    asked = script.Words(__doc__).design()
-    asked.add_argument("--json", action="store_true", help="prints the table as JSON")
-    asked.add_argument("--gtkw", metavar="F.gtkw", help="writes a save file of GTKWave for the dump of --dump")
-    asked.add_argument("--dump", metavar="D", help="a dump")
-    asked.add_argument("--waves", metavar="D", help="prints the waveform of a dump by the source's names")
-    return asked
-
-
 def write_save_file(table, path, dumped):
     """Writes the save file, and a translate file for each task beside it."""
     folder, stem = os.path.dirname(os.path.abspath(path)), os.path.splitext(os.path.basename(path))[0]
     for module, text in names.translations(table):
         Path(folder, f"{stem}.{module}.states").write_text(text, encoding="utf-8")
-    with open(path, "w", encoding="utf-8") as file:
-        file.writelines(f"{line}\n" for line in names.save_file(table, dumped, folder, stem))
+    Path(path).write_text("".join(f"{line}\n" for line in names.save_file(table, dumped, folder, stem)), encoding="utf-8")
 
 
+@script.words(*script.DESIGN)
+@script.word("--json", action="store_true", help="prints the table as JSON")
+@script.word("--gtkw", metavar="F.gtkw", help="writes a save file of GTKWave for the dump of --dump")
+@script.word("--dump", metavar="D", help="a dump")
+@script.word("--waves", metavar="D", help="prints the waveform of a dump by the source's names")
 def main(asked):
     if bool(asked.gtkw) != bool(asked.dump):
         raise script.Usage("--gtkw and --dump go together")
@@ -58,4 +53,4 @@ def main(asked):
 
 
 if __name__ == "__main__":
-    script.run(words(), main)
+    script.call(main)

@@ -19,14 +19,10 @@ from vechaqir.machine import run  # noqa: E402
 from vechaqir.measure import bounds, profile, text, tries  # noqa: E402
 
 
-def words():
-    asked = script.Words(__doc__).design(data=True).device().cycles()
-    asked.add_argument("--dump", metavar="F.vcd", help="reads a dump of `tapa cosim --vcd` or of `tools/icarus.py --dump` in place of a simulation")
-    asked.add_argument("--json", action="store_true", help="prints one object of JSON")
-    asked.add_argument("--no-tries", action="store_true", help="tries no changes")
-    return asked
-
-
+@script.words(*script.DESIGN, *script.DATA, *script.DEVICE, *script.CYCLES)
+@script.word("--dump", metavar="F.vcd", help="reads a dump of `tapa cosim --vcd` or of `tools/icarus.py --dump` in place of a simulation")
+@script.word("--json", action="store_true", help="prints one object of JSON")
+@script.word("--no-tries", action="store_true", help="tries no changes")
 def main(asked):
     if asked.dump and asked.data:
         raise script.Usage("a dump has its data in it")
@@ -43,4 +39,4 @@ def main(asked):
 
 
 if __name__ == "__main__":
-    script.run(words(), main)
+    script.call(main)

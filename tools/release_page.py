@@ -18,15 +18,10 @@ PAGE = Path(script.ROOT, "tools", "release.text").read_text(encoding="utf-8")
 STATES = dict(tables.rows(os.path.join(script.ROOT, "tools", "release.rows")))
 
 
-def words():
-    asked = script.Words(__doc__)
-    asked.add_argument("folder", metavar="FOLDER", help="the folder of the release")
-    asked.add_argument("state", metavar="STATE", choices=STATES, help="proved or unproved")
-    asked.add_argument("commit", metavar="COMMIT", help="the commit of the repository")
-    asked.add_argument("kit", metavar="KIT", help="what `rt version` says")
-    return asked
-
-
+@script.word("folder", metavar="FOLDER", help="the folder of the release")
+@script.word("state", metavar="STATE", choices=STATES, help="proved or unproved")
+@script.word("commit", metavar="COMMIT", help="the commit of the repository")
+@script.word("kit", metavar="KIT", help="what `rt version` says")
 def main(asked):
     program = Path(asked.folder, "program", "tapa").read_bytes()
     versions = [tuple(map(int, it.split(b"."))) for it in re.findall(rb"GLIBC_([0-9]{1,4}\.[0-9]{1,4})", program)]
@@ -36,4 +31,4 @@ def main(asked):
 
 
 if __name__ == "__main__":
-    script.run(words(), main)
+    script.call(main)

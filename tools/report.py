@@ -21,17 +21,6 @@ from vechaqir.measure import tries  # noqa: E402
 from vechaqir.show import report  # noqa: E402
 
 
-def words():
-    asked = script.Words(__doc__).design(data=True).cycles()
-    asked.add_argument("--long", action="store_true", help="shows all values of each stream and memory")
-    asked.add_argument("--json", action="store_true", help="prints one object of JSON")
-    asked.add_argument("--expect", metavar="F.json", help="a file of what the run should leave")
-    asked.add_argument("--no-circuit", action="store_true", help="runs no circuit")
-    asked.add_argument("--from", dest="kept", metavar="REPORT", help="a report in place of a run; `-` is standard input")
-    asked.add_argument("--cosim", action="store_true", help="the report is one of `cosim`")
-    return asked
-
-
 def ran(asked, read):
     """A run, or the report that is there: its outputs and its status, and the profile of its circuit where it has one."""
     if asked.kept:
@@ -55,6 +44,13 @@ def expected(path):
     return found
 
 
+@script.words(*script.DESIGN, *script.DATA, *script.CYCLES)
+@script.word("--long", action="store_true", help="shows all values of each stream and memory")
+@script.word("--json", action="store_true", help="prints one object of JSON")
+@script.word("--expect", metavar="F.json", help="a file of what the run should leave")
+@script.word("--no-circuit", action="store_true", help="runs no circuit")
+@script.word("--from", dest="kept", metavar="REPORT", help="a report in place of a run; `-` is standard input")
+@script.word("--cosim", action="store_true", help="the report is one of `cosim`")
 def main(asked):
     if asked.kept and asked.data:
         raise script.Usage("a report that is there needs no data")
@@ -78,4 +74,4 @@ def main(asked):
 
 
 if __name__ == "__main__":
-    script.run(words(), main)
+    script.call(main)

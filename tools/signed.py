@@ -15,10 +15,7 @@ from vechaqir.language import source  # noqa: E402
 from vechaqir.show import report  # noqa: E402
 
 
-def words():
-    return script.Words(__doc__).design()
-
-
+@script.words(*script.DESIGN)
 def main(asked):
     network = source.network(source.read(asked.source), asked.top)
     for line in sys.stdin.buffer:
@@ -26,4 +23,4 @@ def main(asked):
 
 
 if __name__ == "__main__":
-    script.run(words(), main)
+    script.call(main)

@@ -13,12 +13,8 @@ from vechaqir.language import source  # noqa: E402
 MOST_CELLS = 65_536
 
 
-def words():
-    asked = script.Words(__doc__).design()
-    asked.add_argument("cells", metavar="CELLS", nargs="?", type=script.number(0, MOST_CELLS), default=4, help="the cells of each memory, 4 if not given: the list's length is the memory's size (docs/DATA.md)")
-    return asked
-
-
+@script.words(*script.DESIGN)
+@script.word("cells", metavar="CELLS", nargs="?", type=script.number(0, MOST_CELLS), default=4, help="the cells of each memory, 4 if not given: the list's length is the memory's size (docs/DATA.md)")
 def main(asked):
     read = source.read(asked.source)
     source.network(read, asked.top)
@@ -29,4 +25,4 @@ def main(asked):
 
 
 if __name__ == "__main__":
-    script.run(words(), main)
+    script.call(main)

@@ -21,13 +21,6 @@ from vechaqir.language import source  # noqa: E402
 from vechaqir.measure import testbench, tries  # noqa: E402
 
 
-def words():
-    asked = script.Words(__doc__).design(data=True).device()
-    asked.add_argument("--waits", metavar="WAITS", choices=testbench.WAITS, default="none", help="how memories answer")
-    asked.add_argument("--alone", action="store_true", help="leaves the circuit out, for a text of its ports and streams that is simulated in its place")
-    return asked
-
-
 def shown(design, command):
     """What the run shows, with unsigned numbers. script.Told where it does not end."""
     outcome = design.program.call(command)
@@ -45,6 +38,9 @@ def cycles_of(circuit, given, waits, ticks):
         raise script.Fault(f"the circuit is {late}") from None
 
 
+@script.words(*script.DESIGN, *script.DATA, *script.DEVICE)
+@script.word("--waits", metavar="WAITS", choices=testbench.WAITS, default="none", help="how memories answer")
+@script.word("--alone", action="store_true", help="leaves the circuit out, for a text of its ports and streams that is simulated in its place")
 def main(asked):
     if asked.plan and asked.plan not in MODES:
         raise script.Usage(f"--plan is {asked.plan}, and has to be {', '.join(MODES[:-1])} or {MODES[-1]}")
@@ -64,4 +60,4 @@ def main(asked):
 
 
 if __name__ == "__main__":
-    script.run(words(), main)
+    script.call(main)

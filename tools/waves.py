@@ -16,16 +16,11 @@ from vechaqir.host import dump  # noqa: E402
 from vechaqir.show import waves  # noqa: E402
 
 
-def words():
-    asked = script.Words(__doc__)
-    asked.add_argument("dump", metavar="F.vcd", help="the dump")
-    asked.add_argument("--nets", metavar="A,B,..", default="", help=f"the nets, the first {waves.MOST} if not given")
-    asked.add_argument("--fill", action="store_true", help="draws how full streams are")
-    asked.add_argument("--from", dest="first", metavar="N", type=script.number(), default=0, help="the first cycle")
-    asked.add_argument("--to", dest="last", metavar="N", type=script.number(), help="the last cycle")
-    return asked
-
-
+@script.word("dump", metavar="F.vcd", help="the dump")
+@script.word("--nets", metavar="A,B,..", default="", help=f"the nets, the first {waves.MOST} if not given")
+@script.word("--fill", action="store_true", help="draws how full streams are")
+@script.word("--from", dest="first", metavar="N", type=script.number(), default=0, help="the first cycle")
+@script.word("--to", dest="last", metavar="N", type=script.number(), help="the last cycle")
 def main(asked):
     read = dump.read(asked.dump)
     if asked.fill:
@@ -39,4 +34,4 @@ def main(asked):
 
 
 if __name__ == "__main__":
-    script.run(words(), main)
+    script.call(main)

@@ -12,13 +12,8 @@ from vechaqir import script  # noqa: E402
 from vechaqir.language import arrays, strict  # noqa: E402
 
 
-def words():
-    asked = script.Words(__doc__)
-    asked.add_argument("source", metavar="SRC", help="the source")
-    asked.add_argument("place", metavar="LINE COL", nargs="*", default=[], type=script.number(0, 10**9), help="a line and a column of the written-out text")
-    return asked
-
-
+@script.word("source", metavar="SRC", help="the source")
+@script.word("place", metavar="LINE COL", nargs="*", default=[], type=script.number(0, 10**9), help="a line and a column of the written-out text")
 def main(asked):
     if len(asked.place) not in (0, 2):
         raise script.Usage("a place is a line and a column")
@@ -35,4 +30,4 @@ def main(asked):
 
 
 if __name__ == "__main__":
-    script.run(words(), main)
+    script.call(main)

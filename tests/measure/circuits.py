@@ -69,14 +69,10 @@ def try_modules(circuits, only):
                 tell([circuits.row(f"the same by hand, {said}", hand_text(top[2:]).replace("module hand_", "module t_"), top)])
 
 
-def words():
-    asked = script.Words(__doc__).program()
-    asked.add_argument("--seeds", metavar="N", type=script.number(1, 100), default=5, help="of how many seeds the clock is the median, 5 if not given")
-    asked.add_argument("--no-clocks", action="store_true", help="leaves the clocks out")
-    asked.add_argument("--only", metavar="W", default="", help="the examples and modules whose name has W")
-    return asked
-
-
+@script.words(*script.PROGRAM)
+@script.word("--seeds", metavar="N", type=script.number(1, 100), default=5, help="of how many seeds the clock is the median, 5 if not given")
+@script.word("--no-clocks", action="store_true", help="leaves the clocks out")
+@script.word("--only", metavar="W", default="", help="the examples and modules whose name has W")
 def main(asked):
     lacking = board.missing()
     if lacking:
@@ -92,4 +88,4 @@ def main(asked):
 
 
 if __name__ == "__main__":
-    script.run(words(), main)
+    script.call(main)

@@ -29,7 +29,7 @@ from pathlib import Path
 sys.dont_write_bytecode = True
 HERE = os.path.dirname(os.path.abspath(__file__))
 sys.path.insert(0, os.path.dirname(HERE))
-from runner.timed import timed  # noqa: E402
+from runner.timed import by_turns, instructions, timed  # noqa: E402
 from runner.trial import first_words, read, sources  # noqa: E402
 from vechaqir import script  # noqa: E402
 from vechaqir.measure import icarus  # noqa: E402
@@ -104,12 +104,6 @@ def once(words, folder):
     return seconds, Path(folder, "said").read_text(encoding="utf-8").split("\n")
 
 
-def by_turns(calls, folder, times, middle):
-    """For each of the calls, which take turns: the least or the middle of its processor seconds, and the lines that it printed."""
-    made = [[once(words, folder) for words in calls] for _ in range(times)]
-    return [((statistics.median if middle else min)(seconds for seconds, _ in own), own[-1][1]) for own in zip(*made)]
-
-
 def build(program, folder, source, top, data):
     """Writes the source, its data and its circuit into a folder, and gives the text of the circuit."""
     for name, text in (("r.cpp", source), ("d.json", json.dumps(data))):
@@ -134,11 +128,12 @@ def verilated(folder, more):
 def measured(program, folder, text, data, simulators):
     """The cycles of a circuit, and the processor seconds of `cosim`, of Icarus and, where it is wanted and there, of Verilator."""
     with_verilator, more, times, middle = simulators
-    Path(folder, "bench.v").write_text("\n".join(icarus.bench(text, data, CYCLES)) + "\n", encoding="utf-8")
+    Path(folder, "bench.v").write_text(icarus.bench(text, data, CYCLES), encoding="utf-8")
     subprocess.run(["iverilog", "-g2005", "-gno-xtypes", "-o", "bench", "x.v", "bench.v"], cwd=folder, check=True)
     compiled = verilated(folder, more) if with_verilator else None
     calls = [[program, "cosim", "x.v", "d.json", "--cycles", str(CYCLES)], ["vvp", "-n", "bench"], *([compiled] if compiled else [])]
-    (own, lines), (other, same), *beside = by_turns(calls, folder, times, middle)
+    chosen = statistics.median if middle else min
+    (own, lines), (other, same), *beside = [(chosen(seconds for seconds, _ in it), it[-1][1]) for it in by_turns(calls, times, lambda words: once(words, folder))]
     last = lines[-2]
     if last != same[-2]:
         sys.exit(f"they differ: {last}, {same[-2]}")
@@ -148,11 +143,9 @@ def measured(program, folder, text, data, simulators):
     return int(last.split()[1]), own, other, beside[0][0] if beside else None
 
 
-def instructions(program, folder, cycles):
-    """The instructions of `cosim` for so many cycles, and the cycles that it came to."""
-    words = ["valgrind", "--tool=callgrind", "--callgrind-out-file=counts", program, "cosim", "x.v", "d.json", "--cycles", str(cycles)]
-    ran = subprocess.run(words, cwd=folder, capture_output=True, text=True, check=False)
-    return int(re.search(r"Collected : (\d+)", ran.stderr)[1]), int(ran.stdout.split("\n")[-2].split()[1])
+def ticks_of(report):
+    """The cycles that a report comes to."""
+    return int(report.split("\n")[-2].split()[1])
 
 
 def count(program, folder, only):
@@ -162,8 +155,8 @@ def count(program, folder, only):
     for name, source, top, data in cases():
         if only in name:
             build(program, folder, source, top, data)
-            (few, before), (many, after) = (instructions(program, folder, cycles) for cycles in COUNTED)
-            found.append((many - few) / (after - before))
+            (few, before), (many, after) = (instructions([program, "cosim", "x.v", "d.json", "--cycles", str(cycles)], folder) for cycles in COUNTED)
+            found.append((many - few) / (ticks_of(after) - ticks_of(before)))
             print(f"| {name} | {found[-1]:,.0f} |", flush=True)
     print(f"| geometric mean of {len(found)} | {statistics.geometric_mean(found):,.0f} |")
 
@@ -193,16 +186,12 @@ def measure(program, folder, only, simulators):
     print("\n".join(ends(found)))
 
 
-def words():
-    asked = script.Words(__doc__).program()
-    asked.add_argument("--median", metavar="N", type=script.number(1), help="the median of N calls in place of the best of three")
-    asked.add_argument("--only", metavar="WORD", default="", help="the circuits whose name has the word")
-    asked.add_argument("--no-verilator", action="store_true", help="leaves Verilator out")
-    asked.add_argument("--g++-O3", dest="more", action="store_const", const=OPTIMISED, default=(), help="Verilator's program is compiled with -O3")
-    asked.add_argument("--counted", action="store_true", help="counts instructions")
-    return asked
-
-
+@script.words(*script.PROGRAM)
+@script.word("--median", metavar="N", type=script.number(1), help="the median of N calls in place of the best of three")
+@script.word("--only", metavar="WORD", default="", help="the circuits whose name has the word")
+@script.word("--no-verilator", action="store_true", help="leaves Verilator out")
+@script.word("--g++-O3", dest="more", action="store_const", const=OPTIMISED, default=(), help="Verilator's program is compiled with -O3")
+@script.word("--counted", action="store_true", help="counts instructions")
 def main(asked):
     with tempfile.TemporaryDirectory() as folder:
         if asked.counted:
@@ -212,4 +201,4 @@ def main(asked):
 
 
 if __name__ == "__main__":
-    script.run(words(), main)
+    script.call(main)

@@ -192,6 +192,7 @@ def slowest(program, folder, shape):
     return row + (f" status {worst}: {[run[1][:200] for run in runs if run[0]]}" if worst else ""), worst
 
 
+@script.words(*script.PROGRAM)
 def main(asked):
     print("| what | time | memory |\n|---|---|---|")
     worst = 0
@@ -209,4 +210,4 @@ def main(asked):
 
 
 if __name__ == "__main__":
-    script.run(script.Words(__doc__).program(), main)
+    script.call(main)

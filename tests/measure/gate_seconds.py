@@ -125,17 +125,12 @@ def table(log):
     return 0
 
 
-def words():
-    asked = script.Words(__doc__)
-    asked.add_argument("what", metavar="watch|table", choices=("watch", "table"), help="runs a command and writes a log, or makes the table of it")
-    asked.add_argument("log", metavar="LOG", help="the log")
-    asked.add_argument("command", metavar="COMMAND", nargs=REMAINDER, help="the command")
-    return asked
-
-
+@script.word("what", metavar="watch|table", choices=("watch", "table"), help="runs a command and writes a log, or makes the table of it")
+@script.word("log", metavar="LOG", help="the log")
+@script.word("command", metavar="COMMAND", nargs=REMAINDER, help="the command")
 def main(asked):
     return watch(asked.log, asked.command) if asked.what == "watch" else table(asked.log)
 
 
 if __name__ == "__main__":
-    script.run(words(), main)
+    script.call(main)

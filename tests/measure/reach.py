@@ -36,12 +36,7 @@ def reach(crate, below):
         found += more
 
 
-def words():
-    asked = script.Words(__doc__)
-    asked.add_argument("crates", metavar="CRATE", nargs="*", help="the crates, all if none is given")
-    return asked
-
-
+@script.word("crates", metavar="CRATE", nargs="*", help="the crates, all if none is given")
 def main(asked):
     below, spent = {name: words.split() for name, words in re.findall(r"^(\w+):(.*)$", read("crates.txt"), re.M)}, seconds()
     for crate in asked.crates:
@@ -56,4 +51,4 @@ def main(asked):
 
 
 if __name__ == "__main__":
-    script.run(words(), main)
+    script.call(main)

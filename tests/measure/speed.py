@@ -16,7 +16,6 @@ each task says something on a machine that has nothing else to do.
 """
 import json
 import os
-import re
 import shutil
 import statistics
 import subprocess
@@ -27,7 +26,7 @@ from pathlib import Path
 sys.dont_write_bytecode = True
 sys.path.insert(0, os.path.dirname(os.path.dirname(os.path.abspath(__file__))))
 from runner.made.programs import apart, by_phases, chain, hub, one_heavy, pair, queue, uneven  # noqa: E402
-from runner.timed import timed  # noqa: E402
+from runner.timed import by_turns, instructions, timed  # noqa: E402
 from vechaqir import script  # noqa: E402
 
 HERE = os.path.dirname(os.path.abspath(__file__))
@@ -146,15 +145,6 @@ def by_workers(program, wanted):
     return 0
 
 
-def instructions(words, folder):
-    """The instructions of one call, and what it writes."""
-    ran = subprocess.run(["valgrind", "--tool=callgrind", "--callgrind-out-file=/dev/null", *words], cwd=folder, capture_output=True, text=True, check=False)
-    counted = re.search(r"Collected : (\d+)", ran.stderr)
-    if not counted:
-        sys.exit(f"{words}: {ran.stderr[:300].strip()}")
-    return int(counted[1]), ran.stdout
-
-
 def counted(program, wanted):
     """The instructions of a turn and of a tick of each loop, and those of a turn of its anchor: what two thousand further turns take."""
     print("| what | ticks a turn | instructions a turn | a tick | g++ -O2, a turn |\n|---|---|---|---|---|")
@@ -174,12 +164,6 @@ def counted(program, wanted):
             more = turns[1] - turns[0]
             print(f"| {name} | {ticks / more:.2f} | {count / more:.0f} | {count / ticks:.1f} | {(most - least) / more:.0f} |", flush=True)
     return 0
-
-
-def by_turns(calls, folder):
-    """What each of the calls used, seven times; they take turns, so that a slow minute of the machine strikes them alike."""
-    made = [[used(call, folder) for call in calls] for _ in range(REPEATS)]
-    return list(zip(*made))
 
 
 def median(spent, by_clock=False):
@@ -225,20 +209,12 @@ def loops(program, wanted):
         if wanted in name:
             put_one(folder, "chain", chain(10, TOKENS), {})
             calls += [called(program, "chain", "T"), [anchor("chain", folder), str(PLAIN * TOKENS)], [anchor("chain_threads", folder, "-pthread"), str(TOKENS)]]
-        spent = by_turns(calls, folder)
+        spent = by_turns(calls, REPEATS, lambda words: used(words, folder))
         if rows:
             tell_loops(rows, spent)
         if wanted in name:
             tell_chain(name, *spent[-3:])
     return 0
-
-
-def words():
-    asked = script.Words(__doc__).program()
-    asked.add_argument("word", metavar="WORD", nargs="?", default="", help="those whose name has the word, all if not given")
-    for name, way in (("--workers", by_workers), ("--counted", counted), ("--loops", loops)):
-        asked.add_argument(name, dest="way", action="store_const", const=way, default=rows, help=way.__doc__)
-    return asked
 
 
 def rows(program, wanted):
@@ -255,9 +231,14 @@ def rows(program, wanted):
             print(f"| {name} | {ticks:,} | {seconds:.2f} s | {ticks / max(seconds, 0.001) / 1e6:.0f} million | {megabytes:.0f} MB | {beside} |", flush=True)
 
 
+@script.words(*script.PROGRAM)
+@script.word("word", metavar="WORD", nargs="?", default="", help="those whose name has the word, all if not given")
+@script.word("--workers", dest="way", action="store_const", const=by_workers, default=rows, help=by_workers.__doc__)
+@script.word("--counted", dest="way", action="store_const", const=counted, default=rows, help=counted.__doc__)
+@script.word("--loops", dest="way", action="store_const", const=loops, default=rows, help=loops.__doc__)
 def main(asked):
     return asked.way(asked.program, asked.word)
 
 
 if __name__ == "__main__":
-    script.run(words(), main)
+    script.call(main)

@@ -131,14 +131,9 @@ KINDS["open"] = open_comment, "tapa: FILE:4:1: V1 no text of the subset"
 KINDS["cut"] = opened_ifs, f"tapa: FILE:4:{len(OPENED) * MILLION + 1}: V1 no text of the subset"
 
 
-def words():
-    asked = script.Words(__doc__)
-    asked.add_argument("kind", metavar="KIND", choices=KINDS, nargs="?", help="what the text has")
-    asked.add_argument("file", metavar="FILE", nargs="?", help="where it is written")
-    asked.add_argument("--list", action="store_true", help="prints the kinds, with the answer that each is to get")
-    return asked
-
-
+@script.word("kind", metavar="KIND", choices=KINDS, nargs="?", help="what the text has")
+@script.word("file", metavar="FILE", nargs="?", help="where it is written")
+@script.word("--list", action="store_true", help="prints the kinds, with the answer that each is to get")
 def main(asked):
     if asked.list:
         print("\n".join(f"{kind:9} {answer}" for kind, (_, answer) in KINDS.items()))
@@ -150,4 +145,4 @@ def main(asked):
 
 
 if __name__ == "__main__":
-    script.run(words(), main)
+    script.call(main)

@@ -4,6 +4,7 @@ import resource
 import socket
 import subprocess
 import threading
+from pathlib import Path
 
 
 def is_told(said, status, line, out=b""):
@@ -48,8 +49,7 @@ def cut(trial, words, most):
     path = os.path.join(trial.folder.name, "cut")
     with open(path, "wb") as file:
         said = trial.run(words, stdout=file, before=limit(resource.RLIMIT_FSIZE, most))
-    with open(path, "rb") as file:
-        said.out = file.read()
+    said.out = Path(path).read_bytes()
     return said
 
 

@@ -1,4 +1,5 @@
 """A built program, and what has been found of it."""
+import json
 import os
 import shlex
 import subprocess
@@ -27,6 +28,11 @@ def sources(*folders):
 def first_words(path):
     """The words of `tapa run` in the first line of an example: its source, its top task, and its data."""
     return shlex.split(read(path).split("\n")[0].removeprefix("// tapa run "))
+
+
+def data_of(words):
+    """The data of a command's words, if they name a data file."""
+    return next((json.loads(read(it)) for it in words if it.endswith(".json")), {})
 
 
 def each(of):

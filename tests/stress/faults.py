@@ -269,12 +269,8 @@ def try_limits(faults):
 GROUPS = [("calls", try_calls), ("allocations", try_allocations), ("files", try_files), ("outputs", try_outputs), ("limits", try_limits)]
 
 
-def words():
-    asked = script.Words(__doc__).program()
-    asked.add_argument("--only", metavar="W", default="", help="the groups whose name has W, all if not given")
-    return asked
-
-
+@script.words(*script.PROGRAM)
+@script.word("--only", metavar="W", default="", help="the groups whose name has W, all if not given")
 def main(asked):
     faults = Faults(asked.program)
     put_files(faults.trial)
@@ -292,4 +288,4 @@ def main(asked):
 
 
 if __name__ == "__main__":
-    script.run(words(), main)
+    script.call(main)

@@ -243,13 +243,9 @@ def try_input(caller, judge, found, given):
         found.finding(given, wrong)
 
 
-def words():
-    asked = script.Words(__doc__).program()
-    asked.add_argument("--seconds", metavar="N", type=script.number(1), default=60, help="how long, 60 seconds if not given")
-    asked.add_argument("--seed", metavar="S", type=script.number(), default=1, help="where the chance of the inputs begins, 1 if not given")
-    return asked
-
-
+@script.words(*script.PROGRAM)
+@script.word("--seconds", metavar="N", type=script.number(1), default=60, help="how long, 60 seconds if not given")
+@script.word("--seed", metavar="S", type=script.number(), default=1, help="where the chance of the inputs begins, 1 if not given")
 def main(asked):
     found = Found(tempfile.mkdtemp(prefix="tapa-floods-"))
     print(f"what is found is kept in {found.folder}; seed {asked.seed}", flush=True)
@@ -267,4 +263,4 @@ def main(asked):
 
 
 if __name__ == "__main__":
-    script.run(words(), main)
+    script.call(main)

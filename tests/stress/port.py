@@ -23,7 +23,7 @@ TOGETHER = 20
 
 
 def words():
-    asked = script.Words(__doc__).program()
+    asked = script.Words(__doc__, *script.PROGRAM)
     asked.add_argument("--count", metavar="N", type=script.number(1), default=500, help="how many sources, 500 if not given")
     asked.add_argument("--seed", metavar="S", default="1", help="another seed makes other sources")
     asked.add_argument("--first", metavar="N", type=script.number(0), default=0, help="the number of the first source")

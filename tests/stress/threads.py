@@ -91,13 +91,9 @@ def load():
     return [subprocess.Popen([sys.executable, "-c", "while True: pass"]) for _ in range(2 * len(os.sched_getaffinity(0)))]
 
 
-def words():
-    asked = script.Words(__doc__).program()
-    asked.add_argument("--runs", metavar="N", type=script.number(1), default=1000, help="how many runs, 1,000 if not given")
-    asked.add_argument("--seed", metavar="S", type=script.number(), default=1, help="where their chance begins, 1 if not given")
-    return asked
-
-
+@script.words(*script.PROGRAM)
+@script.word("--runs", metavar="N", type=script.number(1), default=1000, help="how many runs, 1,000 if not given")
+@script.word("--seed", metavar="S", type=script.number(), default=1, help="where their chance begins, 1 if not given")
 def main(asked):
     with tempfile.TemporaryDirectory(prefix="tapa-threads-") as folder:
         runs, busy = Runs(asked.program, folder, asked.seed), load()
@@ -113,4 +109,4 @@ def main(asked):
 
 
 if __name__ == "__main__":
-    script.run(words(), main)
+    script.call(main)

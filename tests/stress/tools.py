@@ -26,32 +26,10 @@ sys.path.insert(0, os.path.dirname(os.path.dirname(os.path.abspath(__file__))))
 from runner.made import mutants  # noqa: E402
 from runner.trial import ROOT, Trial, first_words, read  # noqa: E402
 import vechaqir  # noqa: E402
-from vechaqir import script  # noqa: E402
+from vechaqir import script, tables  # noqa: E402
 
 # The words of each script. A word in capitals is a file of that sort, and a last one after `<` is standard input.
-CALLS = {
-    "board": ("CIRCUIT --seeds 1",),
-    "check_memories": ("PROGRAM SRC TOP DATA", "PROGRAM SRC TOP DATA --text CIRCUIT", "PROGRAM SRC TOP DATA --page PAGE"),
-    "estimate": ("SRC TOP", "SRC TOP DEV", "SRC TOP DEV --json"),
-    "explain": ("< TOLD", "--places < TOLD", "< TOLD -- run SRC TOP DATA", "< TOLD -- plan SRC TOP DEV", "--run PROGRAM run SRC TOP DATA --steps 20000", "--run PROGRAM plan SRC TOP DEV", "--run PROGRAM cosim CIRCUIT DATA --cycles 500"),
-    "floorplan": ("PLAN DEV", "PLAN DEV SRC TOP", "PLAN DEV SRC TOP"),
-    "graph": ("CIRCUIT", "CIRCUIT TOLD"),
-    "icarus": ("CIRCUIT DATA --cycles 300", "CIRCUIT DATA --cycles 300 --beside DUMP"),
-    "look": ("SRC TOP DATA --cycles 2000 --no-tries", "SRC TOP DATA --cycles 2000 --no-tries --device DEV"),
-    "lsp": ("< SPOKEN",),
-    "manual": ("html PAGE", "html PAGE", "man NAME"),
-    "names": ("SRC TOP", "SRC TOP --json", "SRC TOP --waves DUMP", "SRC TOP --waves DUMP", "SRC TOP --gtkw OUT --dump DUMP"),
-    "place": ("SRC TOP DEV --attempts 1 --seconds 1 --workers 1", "SRC TOP DEV --attempts 1 --seconds 1 --workers 1 --levels"),
-    "port": ("SRC", "SRC TOP", "SRC TOP --write OUT"),
-    "profile": ("SRC TOP DATA --cycles 2000 --no-tries", "SRC TOP --dump DUMP", "SRC TOP --dump DUMP --json"),
-    "release_page": ("FOLDER proved x y",),
-    "report": ("SRC TOP DATA --cycles 2000", "SRC TOP --from REPORT", "SRC TOP --from REPORT --json --expect DATA", "SRC TOP --from - --cosim --long < REPORT"),
-    "signed": ("SRC TOP < REPORT",),
-    "template": ("SRC TOP", "SRC TOP 3"),
-    "testbench": ("SRC TOP DATA", "SRC TOP DATA --waits data", "SRC TOP DATA --device DEV"),
-    "waves": ("DUMP", "DUMP --fill", "DUMP --nets s_a_q_wr,done --from 2 --to 30", "WAVES"),
-    "written_out": ("SRC", "SRC 2 30"),
-}
+CALLS = {name: calls for name, *calls in tables.rows(os.path.join(ROOT, "tests/stress/tools.rows"))}
 EXAMPLES = ("vector_add", "run_length", "lanes", "two_ways", "too_shallow", "bad_token")
 ENDS = {"SRC": "cpp", "DATA": "json", "DEV": "dev.json", "CIRCUIT": "v", "DUMP": "vcd", "WAVES": "vcd", "PAGE": "md"}
 WORDS = ["", "-", "--", "-h", "--help", "--json", "--x=y", "-1", "0", "9" * 25, "a" * 5000, "\udcff", "T\n", "--from", "--nets", "$", "a=b", "..", "/", "/dev/null", "/dev/full", "/proc/self/mem", "é", "{}", "[", "*", "--device", "--plan", "exact"]
@@ -157,7 +135,7 @@ def load(name):
     spec = importlib.util.spec_from_file_location(f"tool_{name}", path)
     module = importlib.util.module_from_spec(spec)
     spec.loader.exec_module(module)
-    module.words()
+    script.words_of(module.main)
     return path, module
 
 
@@ -175,7 +153,7 @@ def called(path, module, words, given):
     sys.argv = [path, *words]
     status = 1
     try:
-        script.run(module.words(), module.main)
+        script.call(module.main)
     except SystemExit as end:
         status = end.code if isinstance(end.code, int) else 0 if end.code is None else 1
     except BaseException:
@@ -234,15 +212,11 @@ def try_tool(name, asked, good):
     return asked.count - failed, failed
 
 
-def words():
-    asked = script.Words(__doc__).program()
-    asked.add_argument("--only", metavar="NAME,..", default=",".join(CALLS), help="the scripts, without `.py`")
-    asked.add_argument("--count", metavar="N", type=script.number(1), default=2000, help="how many inputs of each, 2000 if not given")
-    asked.add_argument("--first", metavar="N", type=script.number(), default=0, help="the number of the first input")
-    asked.add_argument("--seed", metavar="S", default="1", help="another seed makes other inputs")
-    return asked
-
-
+@script.words(*script.PROGRAM)
+@script.word("--only", metavar="NAME,..", default=",".join(CALLS), help="the scripts, without `.py`")
+@script.word("--count", metavar="N", type=script.number(1), default=2000, help="how many inputs of each, 2000 if not given")
+@script.word("--first", metavar="N", type=script.number(), default=0, help="the number of the first input")
+@script.word("--seed", metavar="S", default="1", help="another seed makes other inputs")
 def main(asked):
     sys.argv[0] = os.path.abspath(sys.argv[0])
     os.environ["TAPA"] = asked.program
@@ -254,4 +228,4 @@ def main(asked):
 
 
 if __name__ == "__main__":
-    script.run(words(), main)
+    script.call(main)

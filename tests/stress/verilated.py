@@ -15,12 +15,8 @@ from runner.trial import Trial  # noqa: E402
 from vechaqir import script  # noqa: E402
 
 
-def words():
-    asked = script.Words(__doc__).program()
-    asked.add_argument("names", metavar="NAME", nargs="*", help="examples, all if none is given")
-    return asked
-
-
+@script.words(*script.PROGRAM)
+@script.word("names", metavar="NAME", nargs="*", help="examples, all if none is given")
 def main(asked):
     trial = Trial(asked.program)
     trial.begin("verilated")
@@ -31,4 +27,4 @@ def main(asked):
 
 
 if __name__ == "__main__":
-    script.run(words(), main)
+    script.call(main)

@@ -12,13 +12,19 @@ import os  # noqa: E402
 import re  # noqa: E402
 import sys  # noqa: E402
 import traceback  # noqa: E402
-from typing import Callable, List, NoReturn, Optional, Sequence, TextIO, Union, cast  # noqa: E402
+from typing import Any, Callable, Dict, List, NoReturn, Optional, Sequence, TextIO, Tuple, Union, cast  # noqa: E402
 
 from .host.faults import Fault, Told  # noqa: E402
 
 ROOT = os.path.dirname(os.path.dirname(os.path.dirname(os.path.realpath(__file__))))
 # How the line begins that reports an exception that is neither of this module nor of the system.
 UNEXPECTED = "this script has a fault"
+
+
+# A word or an option, by the arguments of `add_argument`; what a script does with its words, and the words that each of them takes.
+Word = Tuple[Tuple[str, ...], Dict[str, Any]]
+Main = Callable[[argparse.Namespace], Optional[int]]
+TAKEN: Dict[Main, List[Word]] = {}
 
 
 class Usage(Exception):
@@ -59,8 +65,10 @@ def executable(path: str) -> str:
 class Words(argparse.ArgumentParser):
     """The words of a script, whose page `--help` prints with what each word is. Wrong ones raise Usage."""
 
-    def __init__(self, page: Optional[str]) -> None:
+    def __init__(self, page: Optional[str], *taken: Word) -> None:
         super().__init__(called(), argparse.SUPPRESS, as_called((page or "").strip()), formatter_class=argparse.RawDescriptionHelpFormatter, allow_abbrev=False)
+        for names, given in taken:
+            self.add_argument(*names, **given)
 
     def error(self, message: str) -> NoReturn:
         raise Usage(message)
@@ -73,28 +81,27 @@ class Words(argparse.ArgumentParser):
                 raise Usage(f"`--` is in the place of {action.metavar}")
         return found
 
-    def program(self) -> "Words":
-        """A built `tapa`."""
-        self.add_argument("program", metavar="PROGRAM", type=executable, help="the built `tapa`")
-        return self
 
-    def design(self, data: bool = False) -> "Words":
-        """A source and its top task, and maybe a data file."""
-        self.add_argument("source", metavar="SRC", help="the source")
-        self.add_argument("top", metavar="TOP", help="its top task")
-        if data:
-            self.add_argument("data", metavar="DATA", nargs="?", help="a data file (docs/DATA.md)")
-        return self
+# What several scripts take: a built `tapa`; a source and its top task; maybe its data; for which device a circuit is built, and how it is planned; how many cycles are simulated.
+PROGRAM: List[Word] = [(("program",), {"metavar": "PROGRAM", "type": executable, "help": "the built `tapa`"})]
+DESIGN: List[Word] = [(("source",), {"metavar": "SRC", "help": "the source"}), (("top",), {"metavar": "TOP", "help": "its top task"})]
+DATA: List[Word] = [(("data",), {"metavar": "DATA", "nargs": "?", "help": "a data file (docs/DATA.md)"})]
+DEVICE: List[Word] = [(("--device",), {"metavar": "DEV", "help": "a device file: the circuit is built for it"}),
+                      (("--plan",), {"metavar": "MODE", "help": "how it is planned on the device, fit if not given"})]
+CYCLES: List[Word] = [(("--cycles",), {"metavar": "N", "type": number(1), "default": 0, "help": "the most cycles that are simulated; as many as a run needs if not given"})]
 
-    def device(self) -> "Words":
-        """For which device a circuit is built, and how it is planned."""
-        self.add_argument("--device", metavar="DEV", help="a device file: the circuit is built for it")
-        self.add_argument("--plan", metavar="MODE", help="how it is planned on the device, fit if not given")
-        return self
 
-    def cycles(self) -> "Words":
-        self.add_argument("--cycles", metavar="N", type=number(1), default=0, help="the most cycles that are simulated; as many as a run needs if not given")
-        return self
+def words(*taken: Word) -> Callable[[Main], Main]:
+    """Has a script's function take these words; those of the decorator above come first."""
+    def marked(main: Main) -> Main:
+        TAKEN[main] = [*taken, *TAKEN.get(main, [])]
+        return main
+    return marked
+
+
+def word(*names: str, **given: Any) -> Callable[[Main], Main]:
+    """Has a script's function take one more word or option, as `add_argument` of argparse describes it."""
+    return words((names, given))
 
 
 def shown(messages: str, words: Sequence[str]) -> str:
@@ -158,7 +165,7 @@ def put_streams() -> None:
     sys.stderr = sys.stderr or open(2, "w", encoding="utf-8", errors="backslashreplace", closefd=False)
 
 
-def ended(words: Words, main: Callable[[argparse.Namespace], Optional[int]], given: Optional[List[str]]) -> Union[int, str, None]:
+def ended(words: Words, main: Main, given: Optional[List[str]]) -> Union[int, str, None]:
     """The status of a script: its function's, 0 if that gives none, 1 for a fault and 2 for wrong words."""
     try:
         return main(words.taken(given))
@@ -184,9 +191,19 @@ def ended(words: Words, main: Callable[[argparse.Namespace], Optional[int]], giv
         return 1
 
 
-def run(words: Words, main: Callable[[argparse.Namespace], Optional[int]], given: Optional[List[str]] = None) -> NoReturn:
+def run(words: Words, main: Main, given: Optional[List[str]] = None) -> NoReturn:
     """Runs a script by its words and ends: `--help` prints the page, a fault is told in a line, and nothing ends in a traceback."""
     put_streams()
     if signal.getsignal(signal.SIGINT) == signal.SIG_DFL:
         signal.signal(signal.SIGINT, signal.default_int_handler)
     leave(ended(words, main, given))
+
+
+def words_of(main: Main) -> Words:
+    """The words that a script's function takes, with the page of its module."""
+    return Words(getattr(main, "__globals__")["__doc__"], *TAKEN.get(main, []))
+
+
+def call(main: Main) -> NoReturn:
+    """Runs a script by its function."""
+    run(words_of(main), main)

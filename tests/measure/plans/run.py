@@ -195,13 +195,9 @@ def write(suite, names):
             suite.put(f"{front}_{part}.json", prepared.device(part).text())
 
 
-def words():
-    asked = script.Words(__doc__).program()
-    asked.add_argument("what", metavar="WHAT", choices=("check", "random", "table", "write"), help="check, random, table or write")
-    asked.add_argument("words", metavar="COUNT|SECONDS|FOLDER|NAME", nargs="*", help="its words; NAME is the name of a design, all if none is given")
-    return asked
-
-
+@script.words(*script.PROGRAM)
+@script.word("what", metavar="WHAT", choices=("check", "random", "table", "write"), help="check, random, table or write")
+@script.word("words", metavar="COUNT|SECONDS|FOLDER|NAME", nargs="*", help="its words; NAME is the name of a design, all if none is given")
 def main(asked):
     first, names = (None, asked.words) if asked.what == "check" else (asked.words[0] if asked.words else "", asked.words[1:])
     unknown = [name for name in names if name not in DESIGNS]
@@ -222,4 +218,4 @@ def main(asked):
 
 
 if __name__ == "__main__":
-    script.run(words(), main)
+    script.call(main)

@@ -4,14 +4,11 @@ import collections
 import random
 import re
 
+from runner.trial import read
 from vechaqir.language import arrays as WRITTEN, strict
 
 SOURCES = 200
-LEAVES = """void P(tapa::ostream<int>& q) { q << 1 << 2; }
-void F(tapa::istream<int>& p, tapa::ostream<int>& q, int n) { q << p.read() + n << p.read() * n; }
-void C(tapa::istream<int>& q) { q.read(); q.read(); }
-void S(int n) { }
-"""
+LEAVES = read("tests/cases/files/array_leaves.cpp")
 GAPS = [" ", " ", " ", "  ", "\t", "\n", "\r\n", " // ( , [ 3 ]\n", " /* s_0, */ ", "\n#pragma HLS x\n", ""]
 # Words that stand in for others: parts of forms, counts that are good and bad, names of arrays and of other things.
 WORDS = ("tapa :: streams stream < > , ; ( ) [ ] { } . = + 0 1 2 3 512 513 2u 02 0x2 ONE TWO FAR NONE SUM join detach invoke task s t u s_0 x P F C S T int bool const constexpr void "

@@ -1,12 +1,10 @@
 """The circuit of each example: in a simulation it carries what the run shows, also with memories that are not always ready."""
 import json
-import os
 import random
 import re
-import shlex
 
 from runner.groups.examples import names
-from runner.trial import ROOT, each, read
+from runner.trial import ROOT, data_of, each, first_words, read
 
 # The cycles after which an example that comes to a stop carries nothing more.
 ENOUGH = "2000"
@@ -51,7 +49,7 @@ def try_text(trial, name, words, data, ran, about):
 
 @each(lambda: names())
 def try_circuit(trial, name):
-    words = shlex.split(read(f"{name}.cpp").split("\n")[0].removeprefix("// tapa "))
+    words = ["run", *first_words(f"{name}.cpp")]
     ran = trial.run(words, ROOT)
     built = trial.run(["build", words[1], words[2]], ROOT)
     if ran.status not in (0, 8):
@@ -60,8 +58,7 @@ def try_circuit(trial, name):
     whole = (built.status, built.err) == (0, b"") and built.out.endswith(b"endmodule\n")
     trial.check(f"{name} is built", whole, f"   {built}")
     trial.put("x.v", built.out)
-    path = os.path.join(ROOT, words[3]) if len(words) > 3 and words[3].endswith(".json") else ""
-    data = json.loads(read(words[3])) if path else {}
+    data = data_of(words)
     try_text(trial, name, words, data, ran, "simulated")
     for seed in SEEDS if data.get("memories") else ():
         try_text(trial, name, words, with_waits(data, seed), ran, f"with memories that are not always ready, {seed}")
@@ -72,7 +69,7 @@ def try_legend(trial):
     legend = read("docs/CIRCUIT.md").partition("## A task's nets")[2].partition("\n## ")[0]
     known = {re.sub(r"_[A-Z]\b|_[A-Z](?=_)", "_#", name) for name in re.findall(r"`([a-z]+(?:_[A-Z])*)`", legend)}
     for source, top in [(f"examples/{it}.cpp", None) for it in ("vector_add", "stencil", "run_length")] + [("tests/cases/circuits/features.cpp", "Top"), ("tests/cases/circuits/states.cpp", "T")]:
-        top = top or read(source).split("\n")[0].split()[4]
+        top = top or first_words(source)[1]
         leaves = re.findall(r"^module t_.*?^endmodule$", trial.run(["build", source, top], ROOT).out.decode(), re.M | re.S)[:-1]
         nets = {re.sub(r"_\d+\b|_\d+(?=_)", "_#", name) for leaf in leaves for name in re.findall(r"(?:wire|reg|input|output) (?:\[[^]]*\] )?([a-z]\w*)", leaf)}
         trial.check_equal(f"nets of {source} that are not in the legend", nets - known - {"clk", "rst"}, set())

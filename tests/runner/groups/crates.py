@@ -1,6 +1,7 @@
-"""The list of crates, the rooms in the page How it is verified, names of definitions and laws, and links between pages."""
+"""The list of crates, the rooms in the page How it is verified, names of definitions and laws, links between pages, and the files that the page Recipes names."""
 import os
 import re
+from pathlib import Path
 
 from runner.trial import ROOT, read
 from runner.write import chain, crates as listed, laws, lists
@@ -11,14 +12,8 @@ OF_NAMES = ("docs/PROMISES.md", "docs/READING.md")
 
 def texts_of_crates(crate=""):
     """All sources and definitions of the crates, or of one, as one text."""
-    parts = []
-    for folder, below, files in os.walk(os.path.join(ROOT, "crates", crate)):
-        below[:] = [it for it in below if it not in ("out", "must-fail")]
-        for name in files:
-            if name.endswith((".rt", ".antt")):
-                with open(os.path.join(folder, name), encoding="utf-8") as file:
-                    parts.append(file.read())
-    return "\n".join(parts)
+    paths = [path for path in Path(ROOT, "crates", crate).rglob("*") if path.suffix in (".rt", ".antt") and not {"out", "must-fail"} & set(path.parts)]
+    return "\n".join(path.read_text(encoding="utf-8") for path in paths)
 
 
 def try_lists(trial):
@@ -98,8 +93,7 @@ def text_of(path):
     """The text of a file, or of all definitions in a folder."""
     if path.endswith(".antt"):
         return read(path)
-    names = [os.path.join(folder, name) for folder, _, names in os.walk(os.path.join(ROOT, path)) for name in names if name.endswith(".antt")]
-    return "\n".join(read(os.path.relpath(name, ROOT)) for name in sorted(names))
+    return "\n".join(it.read_text(encoding="utf-8") for it in sorted(Path(ROOT, path).rglob("*.antt")))
 
 
 def try_clauses(trial):
@@ -117,3 +111,11 @@ def try_links(trial):
     for page in pages:
         for path in sorted(set(re.findall(r"\b(?:docs|examples|tests|tools|crates)/[\w./]*\w", read(page)))):
             trial.check(f"{page}: {path} is there", "/out/" in path or os.path.exists(os.path.join(ROOT, path)))
+
+
+def try_recipes(trial):
+    """Each file and folder that a recipe names exists: what has a slash, and an end by which one knows a file or a folder."""
+    paths = [path for path in re.findall(r"`([\w./]+)`", read("docs/RECIPES.md")) if "/" in path and (path.endswith("/") or re.search(r"\.\w+$", path))]
+    trial.check("the recipes name files", len(paths) > 40)
+    for path in sorted(set(paths)):
+        trial.check(f"recipe: {path}", any(os.path.exists(os.path.join(ROOT, folder, path)) for folder in ("crates", "")))

@@ -4,10 +4,7 @@ import re
 from runner.trial import read
 
 STDIN, STDOUT = "crates/report_tests/stdin", "crates/report_tests/stdout"
-BODY = """void P(tapa::ostream<{kind}>& q) {{ {body} q.close(); }}
-void C(tapa::istream<{kind}>& q) {{ TAPA_WHILE_NOT_EOT(q) {{ q.read(); }} q.open(); }}
-void T() {{ tapa::stream<{kind}> q; tapa::task().invoke(P, q).invoke(C, q); }}
-"""
+BODY = read("tests/cases/files/body.template")
 
 
 def programs(stdin):

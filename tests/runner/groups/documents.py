@@ -103,12 +103,8 @@ def try_texts(trial):
 
 
 # The programs around the data and device files of docs/REFUSALS.md.
-OF_DATA = """void F(tapa::mmap<int> a, int n) { }
-void T(tapa::mmap<int> a, int n) { tapa::task().invoke(F, a, n); }
-"""
-OF_DEVICE = """void A(tapa::istream<int>& r, tapa::ostream<int>& q) { q << 1; r.read(); } void B(tapa::istream<int>& q, tapa::ostream<int>& r) { r << q.read(); } void S(int n) { }
-void T() { tapa::stream<int> q, r; tapa::task().invoke(A, r, q).invoke(B, q, r).invoke(S, 1); }
-"""
+OF_DATA = read("tests/cases/files/page_data.cpp")
+OF_DEVICE = read("tests/cases/files/page_device.cpp")
 
 
 def command_of(trial, sort, what, text):
@@ -136,9 +132,7 @@ def try_files(trial):
 
 
 RIGHT = {"scalars": '"scalars":{"n":3}', "memories": '"memories":{"a":[1],"b":[1],"c":[1]}'}
-VECTORS = """void F(tapa::mmap<const int> a, tapa::mmap<const int> b, tapa::mmap<int> c, uint64_t n) { }
-void T(tapa::mmap<const int> a, tapa::mmap<const int> b, tapa::mmap<int> c, uint64_t n) { tapa::task().invoke(F, a, b, c, n); }
-"""
+VECTORS = read("tests/cases/files/page_vectors.cpp")
 
 
 def data_of(shown):

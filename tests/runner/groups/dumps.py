@@ -6,7 +6,7 @@ import random
 
 from runner.second import cycles, verilog
 from runner.second.dumps import NoDump, Reading, rows_of, written
-from runner.trial import ROOT, each, read
+from runner.trial import ROOT, data_of, each, first_words, read
 
 # ---- what `cosim --vcd` writes, beside the second evaluator
 
@@ -56,8 +56,8 @@ def many_nets(count):
 def examples():
     """The circuits that are dumped: sources with their tops and their data."""
     for name in ("vector_add", "two_ways", "too_shallow", "run_length"):
-        words = read(f"examples/{name}.cpp").splitlines()[0].split()
-        yield words[3], words[4], json.loads(read(words[5])) if len(words) > 5 else {}
+        words = first_words(f"examples/{name}.cpp")
+        yield words[0], words[1], data_of(words)
 
 
 def try_dumps(trial):

@@ -1,29 +1,17 @@
 """What the system does to a run: files at their limits and past them, long data, full devices, closed pipes, folders as files, words that are not UTF-8, and too little memory."""
 from runner import ends
 from runner.ends import is_told, is_unwritten
+from runner.trial import read
 
 SOURCE_LIMIT = 262_144
 DATA_LIMIT = 33_554_432
 VERILOG_LIMIT = 16_777_216
 
-PAIR = """void P(tapa::ostream<int>& q) { q << 1 << 2 << 3; }
-void C(tapa::istream<int>& q) { q.read(); q.read(); q.read(); }
-void T() { tapa::stream<int> q; tapa::stream<int> r; tapa::task().invoke(P, q).invoke(C, q).invoke(P, r).invoke(C, r); }
-"""
+PAIR = read("tests/cases/files/pair.cpp")
 PAIR_REPORT = b"stream q: 1 2 3\nstream r: 1 2 3\ndone 16\n"
-
-DONE = """module t_X ( input clk , input rst , output done ) ;
-assign done = 1'd1 ;
-endmodule
-"""
-
-STOPS = """void P(tapa::ostream<int>& q) { q << 1; q << 2; }
-void C(tapa::istream<int>& q) { q.open(); }
-void T() { tapa::stream<int, 1> q; tapa::task().invoke(P, q).invoke(C, q); }
-"""
-
-COPY = """void Copy(tapa::mmap<uint64_t> a) { a[0] = a[1]; } void T(tapa::mmap<uint64_t> a) { tapa::task().invoke(Copy, a); }
-"""
+DONE = read("tests/cases/files/done.v")
+STOPS = read("tests/cases/files/stops_at_a_token.cpp")
+COPY = read("tests/cases/files/copy.cpp")
 
 
 def padded(source, size):

@@ -17,12 +17,8 @@ from vechaqir.language.matching import View
 # What no explanation says where it knows the cause, and what none says at all.
 GENERAL, NEVER = "no source of the language goes on with", "no explanation: "
 
-DATA_TOP = """void F(int8_t n, tapa::mmap<const int> a, tapa::mmap<bool> b) { }
-void T(int8_t n, tapa::mmap<const int> a, tapa::mmap<bool> b) { tapa::task().invoke(F, n, a, b); }
-"""
-PLAN_TOP = """void P(tapa::ostream<int>& q) { q << 1; } void C(tapa::istream<int>& q) { q.read(); }
-void T() { tapa::stream<int> q; tapa::task().invoke(P, q).invoke(C, q); }
-"""
+DATA_TOP = read("tests/cases/files/of_data.cpp")
+PLAN_TOP = read("tests/cases/files/of_plan.cpp")
 
 
 def quoted(row):

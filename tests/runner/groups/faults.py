@@ -1,15 +1,14 @@
 """What the system does to `build`, `plan` and `cosim`: full and cut outputs, closed pipes, missing files, folders and pipes as files, reads that fail, and too little memory.
 `tests/stress/faults.py PROGRAM` tries more."""
+import json
 import os
 
 from runner import ends
 from runner.ends import is_told, is_unwritten
 from runner.made import refusals
+from runner.trial import read
 
-SOURCE = """void P(tapa::mmap<const int> a, tapa::ostream<int>& q) { for (int i = 0; i < 3; ++i) q << a[i]; }
-void C(tapa::istream<int>& q) { q.read(); q.read(); q.read(); }
-void T(tapa::mmap<const int> a) { tapa::stream<int> q; tapa::task().invoke(P, a, q).invoke(C, q); }
-"""
+SOURCE = read("tests/cases/files/faults.cpp")
 DATA = '{"memories": {"a": [7, 8, 9]}}'
 DEVICE = '{"rows": 1, "cols": 2, "slots": [{"LUT": 900, "FF": 900}, {"LUT": 900, "FF": 900}], "pins": {"P$0": [0, 0], "C$1": [0, 1]}}'
 SMALL = '{"rows": 1, "cols": 1, "slots": [{}]}'
@@ -19,17 +18,7 @@ REPORT = b"stream q: 7 8 9\nmemory a: 7 8 9\n"
 WHOLE = [["cosim", "x.v", "d.json"], ["build", "r.cpp", "T"], ["build", "r.cpp", "T", "--device", "v.json"], ["plan", "r.cpp", "T", "v.json"], ["plan", "r.cpp", "T", "v.json", "--plan", "exact"]]
 
 # Commands that are refused, by what they then tell.
-REFUSED = {
-    "tapa: no.v:1:1: V1 no text of the subset\n": ["cosim", "no.v"],
-    "tapa: {}: J2 memories.a\n": ["cosim", "x.v"],
-    "tapa: no.json: J2 .\n": ["cosim", "x.v", "no.json"],
-    "tapa: r.cpp:1:1: C1 unknown name\n": ["build", "r.cpp", "U"],
-    "tapa: no.cpp:1:1: P1 unexpected token\n": ["build", "no.cpp", "T"],
-    "tapa: no.json: J2 .\n ": ["build", "r.cpp", "T", "--device", "no.json"],
-    "tapa: no.json: J2 .\n  ": ["plan", "r.cpp", "T", "no.json"],
-    "tapa: no room for P$0\n": ["plan", "r.cpp", "T", "small.json"],
-    "tapa: no plan within capacity\n": ["build", "r.cpp", "T", "--device", "small.json", "--plan", "exact"],
-}
+REFUSED = dict(json.loads(read("tests/cases/files/refused.json")))
 
 
 def put_files(trial):

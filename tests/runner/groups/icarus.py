@@ -1,14 +1,12 @@
 """Circuits in Icarus Verilog, if it is installed: the report of `cosim`, and circuits with the block RAM and the bus of the page Circuit and with random memories
-(`tools/check_memories.py`). The circuits are reset in the middle of runs, and what is requested of a memory stays until it is ready. `tests/stress/memories.py PROGRAM` tries
+(`tools/check_memories.py`). The circuits are reset in the middle of runs, and what is requested of a memory stays until it is ready. `tests/stress/more.py PROGRAM memories` tries
 more random programs."""
 import re
 import shutil
 
 from runner.trial import ROOT, read
 
-STORES = """void F(tapa::mmap<int> m, int t) { int x = t; m[0] = x; x = m[0]; x += 4; m[0] = x; }
-void T(tapa::mmap<int> a, int t) { tapa::task().invoke(F, a, t); }
-"""
+STORES = read("tests/cases/files/stores.cpp")
 
 
 def try_report(trial):
@@ -41,8 +39,8 @@ def try_memories(trial):
     for words in ([], ["tests/cases/circuits/features.cpp", "Top", "tests/cases/circuits/features.json"]):
         status, out, err = trial.tool("check_memories.py", trial.program, *words)
         trial.check(f"circuits with other memories {' '.join(words)}", (status, out.endswith(", 0 runs otherwise\n")) == (0, True), out + err)
-    status, out, err = trial.tool("../tests/stress/memories.py", trial.program, "--programs", "4")
-    trial.check("random programs with other memories", (status, out) == (0, "8 circuits, 0 runs otherwise\n"), out + err)
+    status, out, err = trial.tool("../tests/stress/more.py", trial.program, "memories", "4", "0")
+    trial.check("random programs with other memories", (status, out) == (0, "8 passed, 0 failed\n"), out + err)
     words = ["examples/vector_add.cpp", "VecAdd", "examples/vector_add.json"]
     gated = re.sub(r"assign addr_0 = (.*?) ;", r"assign addr_0 = ack_0 ? \1 : 64'd0 ;", trial.run(["build", *words[:2]], ROOT).out.decode())
     status, out, err = trial.tool("check_memories.py", trial.program, *words, "--text", trial.put("gated.v", gated.encode()), "--memories", "random")

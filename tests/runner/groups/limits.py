@@ -11,10 +11,7 @@ from runner.trial import ROOT, read
 
 FEATURES = "tests/cases/circuits/features"
 
-DETACHED = """void P(tapa::ostream<int>& q) { while (true) { q << 1; } }
-void C(tapa::istream<int>& q) { while (true) { q.read(); } }
-void T() { tapa::stream<int> q; tapa::task().invoke<tapa::detach>(P, q).invoke<tapa::detach>(C, q); }
-"""
+DETACHED = read("tests/cases/files/all_detached.cpp")
 
 # A design that counts up to a number, carries its count on a stream in each cycle, and has a memory of a million cells inside.
 COUNTER = read("tests/cases/files/counter.v")

@@ -15,10 +15,7 @@ from runner.trial import first_words, read, sources
 MOST_BYTES, MOST_SECONDS = 16_777_216, 2
 LAYERS = 126
 
-COUNTS, OVERLAPS = read("tests/runner/counts.js"), read("tests/runner/overlaps.js")
-CLICK = """const task = document.querySelector('#graph .whole .task[data-name="%s"]');
-task.dispatchEvent(new MouseEvent('click', {bubbles: true}));
-return [document.querySelector('#detail').textContent, document.querySelectorAll('#graph .whole .wire.near').length, task.classList.contains('chosen')];"""
+COUNTS, OVERLAPS, CLICK = (read(f"tests/runner/{name}.js") for name in ("counts", "overlaps", "click"))
 # How a page is shown when its overlaps are looked for, each after the one before.
 STATES = {
     "as it opens": "", "unfolded": "showView('whole')", "dark, with a task selected": "changeTheme(); choose(D.tasks[D.tasks.length >> 1].label)",

@@ -22,10 +22,7 @@ PARTS = ("pipe", "terminal", "pytest")
 # Of each so many mistakes one is shown by `./tapa --explain` and on a terminal too, and not only by what they call.
 EACH = 12
 RAISED = ("vechaqir.Refused: ", "vechaqir.Stopped: ")
-TEST = """
-def test_{at}():
-    vechaqir.Design({source!r}, {top!r}).run({scalars!r}, {memories!r})
-"""
+TEST = read("tests/cases/files/mistake.template")
 
 
 class Mistake:

@@ -11,81 +11,22 @@ from vechaqir.language import source
 
 # What is left of the design that polls several streams.
 LEFT = {"butterfly": 1}
-
-
-def vector_add():
-    a, b = [1, -2, 3, 40], [10, 20, -30, 7]
-    return "VecAdd", {"scalars": {"n": 4}, "memories": {"a": a, "b": b, "c": [0] * 4}}, {"c": [x + y for x, y in zip(a, b)]}
-
-
-def fir():
-    samples, taps = [3, -1, 4, 1, -5, 9, 2, 6], [1, 4, 6, 4, 1]
-    wanted = [sum(taps[k] * (samples[i - k] if i >= k else 0) for k in range(5)) >> 4 for i in range(8)]
-    return "FirFilter", {"scalars": {"n": 8}, "memories": {"in": samples, "out": [0] * 8}}, {"out": wanted}
-
-
-def jacobi():
-    cells = [(7 * i * i + 3) % 50 for i in range(16)]
-    def at(row, column):
-        return cells[4 * row + column] if 0 <= row < 4 and 0 <= column < 4 else 0
-    wanted = [max(4 * at(r, c) + at(r, c - 1) + at(r, c + 1) + at(r - 1, c) + at(r + 1, c) >> 3, 0) for r in range(4) for c in range(4)]
-    return "Jacobi", {"memories": {"from": cells, "to": [0] * 16}}, {"to": wanted}
-
-
-def bandwidth():
-    banks = [[5, 6, 7], [1, 2, 3]]
-    data = {"scalars": {"n": 3, "flags": 3}, "memories": {"bank_0": banks[0], "bank_1": banks[1], "out": [0, 0]}}
-    return "Bandwidth", data, {"bank_0": banks[0], "bank_1": banks[1], "out": [18, 6]}
-
-
-def cannon():
-    a, b = [[(i * 5 + j) % 7 - 3 for j in range(4)] for i in range(4)], [[(i + 3 * j) % 5 for j in range(4)] for i in range(4)]
-    product = [[sum(a[i][k] * b[k][j] for k in range(4)) for j in range(4)] for i in range(4)]
-    return "Cannon", {"memories": {"a_vec": sum(a, []), "b_vec": sum(b, []), "c_vec": [0] * 16}}, {"c_vec": sum(product, [])}
-
-
-def page_rank():
-    src, dst, ranks = [0, 0, 1, 2, 3], [1, 2, 2, 0, 2], [10, 20, 30, 40]
-    wanted = [10 + sum(ranks[s] >> 1 for s, d in zip(src, dst) if d == v) for v in range(4)]
-    return "PageRank", {"scalars": {"edges": 5}, "memories": {"src": src, "dst": dst, "ranks": ranks, "out": [0] * 4}}, {"out": wanted}
-
-
-def butterfly():
-    packets = [[(i + j) % 4 + 16 * (4 * j + i) for i in range(4)] for j in range(4)]
-    def switch(bit, first, second):
-        out = [[], []]
-        for one, other in zip(first, second):
-            for packet in (one, other):
-                out[packet >> bit & 1].append(packet)
-        return out
-    a0, a2 = switch(1, packets[0], packets[2])
-    a1, a3 = switch(1, packets[1], packets[3])
-    outs = switch(0, a0, a1) + switch(0, a2, a3)
-    flat = [packets[j][i] for i in range(4) for j in range(4)]
-    return "Butterfly", {"memories": {"from": flat, "to": [0] * 16}}, {"to": [outs[j][i] for i in range(4) for j in range(4)]}
-
-
-def chain():
-    samples = [3, -1, 4, 1, -5]
-    return "Chain", {"scalars": {"n": 5}, "memories": {"samples": samples, "sums": [0] * 5}}, {"sums": [(1 + 2 + 3 + 4) * x for x in samples]}
-
-
-DESIGNS = {"vector_add": vector_add, "cannon": cannon, "bandwidth": bandwidth, "jacobi": jacobi, "page_rank": page_rank, "butterfly": butterfly, "fir": fir, "chain": chain}
+# The top task of each design, its data, and the cells of memories that the same computation in plain Python gave for them.
+DESIGNS = json.loads(read("tests/cases/newcomer/designs.json"))
 
 
 def try_told(trial, name):
     """The first refusal of a design is explained by its construct, with a place in docs/FROM_TAPA.md and the tool that ports it."""
-    _, told = explained(trial, ["run", os.path.join(CASES, "newcomer", f"{name}.cpp"), DESIGNS[name]()[0]])
+    _, told = explained(trial, ["run", os.path.join(CASES, "newcomer", f"{name}.cpp"), DESIGNS[name][0]])
     trial.check(f"{name}: its first refusal is explained by its construct", "docs/FROM_TAPA.md" in told and "tools/port.py" in told and GENERAL not in told and NEVER not in told, f"   {told}")
     place = re.match(r"tapa: .*?:\d+:\d+: ([A-Z]\d+)", told)
     says = next((line for line in told.splitlines() if line.startswith("      = ") and "arrays written out" not in line), "")
-    with open(os.path.join(CASES, "newcomer", f"{name}.told"), encoding="utf-8") as file:
-        trial.check_equal(f"{name}: how its first refusal is explained", f"{place[1] if place else told} {says[8:]}\n", file.read())
+    trial.check_equal(f"{name}: how its first refusal is explained", f"{place[1] if place else told} {says[8:]}\n", read(f"tests/cases/newcomer/{name}.told"))
 
 
 def try_ported(trial, name):
     """A design through `port.py --write`; where nothing is left it gives what Python computes."""
-    top, data, wanted = DESIGNS[name]()
+    top, data, wanted = DESIGNS[name]
     out = os.path.join(trial.folder.name, f"{name}.cpp")
     status, told, said = port.asked(trial, [os.path.join(CASES, "newcomer", f"{name}.cpp"), top, "--write", out])
     left = LEFT.get(name, 0)

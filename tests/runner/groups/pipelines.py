@@ -3,12 +3,11 @@ each plan holds."""
 import json
 import os
 import re
-import shlex
 
 from runner.groups.circuits import ENOUGH, agree, is_front, parts_of, with_waits
 from runner.groups.examples import names
 from runner.groups.plans import groups_of, is_certified
-from runner.trial import ROOT, each, read
+from runner.trial import ROOT, data_of, each, first_words, read
 
 DEVICES = {
     "a grid": {"rows": 2, "cols": 2, "levels": 3},
@@ -108,12 +107,10 @@ def try_device(trial, name, words, ran, about, tasks, data):
 
 @each(lambda: names())
 def try_example(trial, name):
-    words = shlex.split(read(f"{name}.cpp").split("\n")[0].removeprefix("// tapa "))
+    words = ["run", *first_words(f"{name}.cpp")]
     ran = trial.run(words, ROOT)
     if ran.status not in (0, 8):
         return
     tasks = [module[2:] for module in re.findall(r"\bmodule (t_\S+)", trial.run(["build", words[1], words[2]], ROOT).out.decode())[:-1]]
-    path = os.path.join(ROOT, words[3]) if len(words) > 3 and words[3].endswith(".json") else ""
-    data = json.loads(read(words[3])) if path else {}
     for about in DEVICES:
-        try_device(trial, name, words, ran, about, tasks, data)
+        try_device(trial, name, words, ran, about, tasks, data_of(words))

@@ -105,8 +105,7 @@ def try_example(trial, name, top, given, words):
     exact = cost_of(trial.run(["plan", source, top, device, "--plan", "exact"]))
     trial.check(f"{name} is placed at the cost of exact", exact is not None and f"cost {exact}," in err or "--levels" in words, f"   {exact} {err}")
     check_carried(trial, name, source, top, pinned, data)
-    with open(pinned, encoding="utf-8") as written, open(device, encoding="utf-8") as own:
-        kept, before = json.load(written), json.load(own)
+    kept, before = json.loads(read(pinned)), json.loads(read(device))
     pins = before.get("pins", {})
     holds = {**kept, "pins": pins} == {**before, "pins": pins} and pins.items() <= kept["pins"].items()
     trial.check(f"{name}: the device's own keys and pins are kept", holds, f"   {kept}")

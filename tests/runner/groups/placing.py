@@ -7,12 +7,7 @@ from runner.groups.sources import bytes_of, table
 from runner.trial import ROOT, each, read
 from vechaqir.host import device, estimate, plan, program
 
-EXAMPLES = [
-    ("vector_add", "VecAdd", "two_slots"),
-    ("two_ways", "TwoWays", "two_dies"),
-    ("systolic", "Product", "u250"),
-    ("lanes", "Squares", "u280"),
-]
+EXAMPLES = [tuple(it) for it in json.loads(read("tests/cases/devices/read.json"))]
 
 # Texts that are no device, and a part of what is told of them.
 NO_DEVICES = [*json.loads(read("tests/cases/devices/unread.json")), ("[" * 100000, "nested too deep")]

@@ -16,10 +16,7 @@ MARK = "// What `tapa build` made of the sources of tests/cases/circuits, put he
 FILLS = (0, 2**64 - 1)
 # The cycles after which a circuit that comes to a stop carries nothing more, a limit for the others, and the steps that a net may take.
 ENOUGH, MOST, STEPS = 150, 1000, 1000
-CHANNEL = """void P(tapa::ostream<KIND>& q) { q << 1; }
-void C(tapa::istream<KIND>& q) { q.read(); }
-void T() { tapa::stream<KIND, DEPTH> q; tapa::task().invoke(P, q).invoke(C, q); }
-"""
+CHANNEL = read("tests/cases/files/channel.template")
 PORT = re.compile(r"(input|output) (?:\[ (\d+) : 0 \] )?([\w$]+)")
 
 

@@ -16,14 +16,9 @@ EXPLAINED = read("tests/cases/files/conditional_read.told")
 SIGNS = read("tests/cases/files/signs.cpp")
 
 # A source whose second task is unknown, the place that is told, and what stands below the message.
-ARRAYS = """void C(tapa::istream<int>& q) { q.read(); }
-void T() { tapa::streams<int, 3> s; tapa::task().invoke<tapa::join, 3>(Q, s).invoke<tapa::join, 3>(C, s); }
-"""
+ARRAYS = read("tests/cases/files/arrays.cpp")
 ARRAYS_TOLD = "2:93"
-ARRAYS_SHOWN = """    2 | void T() { tapa::streams<int, 3> s; tapa::task().invoke<tapa::join, 3>(Q, s).invoke<tapa::join, 3>(C, s); }
-      |                                                                        ^
-      = in the text with its arrays expanded: 2:93 (`tools/written_out.py` shows it)
-"""
+ARRAYS_SHOWN = read("tests/cases/files/arrays.told")
 
 
 def try_explain(trial):

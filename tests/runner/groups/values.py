@@ -1,13 +1,9 @@
 """Operators at the bounds of each type, conversions, and the types to which operands are converted, by the tables `cases/values/*.rows`."""
 from runner.groups.data import run_on
 from runner.groups.sources import try_rows
+from runner.trial import read
 
-PROGRAM = """const {left} A = ({left}) {a}; const {right} B = ({right}) {b};
-{constants}
-void P({left} x, {right} y, tapa::ostream<{out}>& q) {{ {writes} q.close(); }}
-void C(tapa::istream<{out}>& q) {{ TAPA_WHILE_NOT_EOT(q) {{ q.read(); }} q.open(); }}
-void T({left} x, {right} y) {{ tapa::stream<{out}> q; tapa::task().invoke(P, x, y, q).invoke(C, q); }}
-"""
+PROGRAM = read("tests/cases/files/values.template")
 
 
 def check_tokens(trial, name, kinds, values, terms, wanted, constants=""):

@@ -1,14 +1,10 @@
 """Leaf tasks made at random, with every construct of the language: what their machines and their values are is tried on them."""
 import random
 
-HEAD = """void F(tapa::ostream<int>& q) { int x = -7; for (;;) { q << x; x = x * 5 + 11; if (x % 3 == 0) { q.close(); q << x; } } }
-void S(tapa::istream<int16_t>& r) { while (true) { if (r.eot(nullptr)) r.open(); else r.read(); } }
-"""
-TOP = """void T(tapa::mmap<int> m, tapa::mmap<uint64_t> w, int n, bool b) {
-  tapa::stream<int, 3> q; tapa::stream<int16_t> r;
-  tapa::task().invoke<tapa::detach>(F, q).invoke(L, q, m, n, r, w, b).invoke<tapa::detach>(S, r);
-}
-"""
+from runner.trial import read
+
+HEAD = read("tests/cases/files/leaf_head.cpp")
+TOP = read("tests/cases/files/leaf_top.cpp")
 DATA = {"scalars": {"n": -5, "b": 1}, "memories": {"m": [3, -9, 2**31 - 1, 4], "w": [2**63, 1, 7]}, "waits": {"m": [0, 1, 1, 0, 0, 1] * 20, "w": [1, 0, 0] * 30}}
 KINDS = ["bool", "int8_t", "uint8_t", "short", "unsigned short", "int", "unsigned", "long", "uint64_t", "std::int64_t", "size_t"]
 SIGNS = ["+", "-", "*", "&", "|", "^", "<<", ">>", "==", "!=", "<", "<=", ">", ">=", "&&", "||", "/", "%"]

@@ -1,31 +1,14 @@
 """Sources made at random that are about as deep, or have expressions about as long, as the grammar's limits let them be."""
+import json
 import random
 from typing import List, Tuple
 
+from runner.trial import read
+
 LEVELS, OPERATORS = 64, 1000
-# Where an expression may stand, with how many levels are open there; `@` is the expression.
-SLOTS = [
-    ("const int x = @;", 0), ("void F() { x = @; }", 1), ("void F() { int a = 1, x = @; }", 1), ("void F() { int a[(@)]; }", 2), ("void F() { a[@] += 1; }", 2),
-    ("void F() { ++a[@]; }", 3), ("void F() { a[@]--; }", 2), ("void F() { q << @; }", 1), ("void F() { q << 1 + 2 << @ << 3; }", 1), ("void F() { q >> a[@]; }", 2),
-    ("void F() { q.write(1, @); }", 2),
-    ("void F() { if (@) ; else ; }", 2), ("void F() { while (@) ; }", 2), ("void F() { for (int i = @; ; ) ; }", 2), ("void F() { for (; @; ) ; }", 2), ("void F() { for (; ; i += @) ; }", 2),
-    ("void T() { tapa::task().invoke(F, 1, @); }", 1), ("void T() { tapa::task().invoke<tapa::join>(F, @, 1 + 2); }", 1), ("void T() { tapa::stream<int, (@)> q(\"q\"); tapa::task().invoke(F); }", 1),
-]
-# What opens one level in an expression, and what closes it.
-OPENERS = [
-    ("(", ")"), ("(int)", ""), ("(unsigned long) ", ""), ("- ", ""), ("+ ", ""), ("~", ""), ("!", ""), ("a[", "]"), ("q.read(", ")"), ("q.peek(nullptr, ", ", 1)"), ("int(", ")"),
-    ("std::uint8_t(", ")"), ("static_cast<int>(", ")"), ("a ? ", " : 1"), ("1 ? 2 : ", ""),
-]
-# What opens a level for the statement behind it, and what may stand behind that.
-STATEMENTS = [
-    ("{ ", " }"), ("{ x = 1; ", " ; }"), ("if (a) ", ""), ("if (a) ", " else ;"), ("if (a) ; else ", ""), ("if (a) if (b) ; else ", " else x++;"), ("while (a) ", ""), ("for (;;) ", ""),
-    ("for (int i = 0; i < 1; ++i) ", ""), ("TAPA_WHILE_NOT_EOT(q) ", ""), ("[[tapa::pipeline(1)]] ", ""), ("[[tapa::unroll]] while (a) ", ""),
-]
-ENDS = ["x = 1;", ";", "++x;", "--a[1];", "q << 1;", "q >> a[1] >> x;", "int a[(1)];", "int a[1];", "int a[4], x = -1;", "q.close();", "if (a) ;", "x = (1);", "x = int(1);", "x = -y;", "break;",
-        "for (;;) ;", "[[tapa::a]] ;", "[[tapa::a(1)]] ;", "x = a ? 1 : 2;", "x = a[0] + static_cast<int>(1);", "x = 1 + 2 * (3);", "else ;", "{ }", "if x;", "x = int;", "x = static_cast<int 1;", "q.read 1;"]
-# What an expression may stand in that becomes one operator longer by it.
-ONE_MORE = [("-(", ")"), ("~a[", "]"), ("!q.f(", ")"), ("+q.f(x, ", ")"), ("(x ? 1 : ", ")"), ("-int(", ")"), ("+static_cast<int>(", ")")]
-MEMBERS = ["1", "x", "7u", "true", "a[1]", "q.read()", "int(x)", "(1)"]
+# Where an expression may stand, with how many levels are open there (`@` is the expression); what opens one level in an expression, and what closes it; what opens a level for the
+# statement behind it, and what may stand behind that; statements; what an expression may stand in that becomes one operator longer by it; and members of expressions.
+SLOTS, OPENERS, STATEMENTS, ENDS, ONE_MORE, MEMBERS = json.loads(read("tests/cases/files/nests.json")).values()
 SIGNS = "+ - * / % & | ^ << >> == != < <= > >= && ||".split()
 
 

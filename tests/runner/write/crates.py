@@ -8,20 +8,14 @@ import os
 import re
 from pathlib import Path
 
-from runner.trial import ROOT
+from runner.trial import ROOT, read
 from runner.write import lists
 
 
 def rooms():
     """Each room of crates.txt: its heading, and its crates in order."""
-    found = []
-    with open(os.path.join(ROOT, "crates.txt"), encoding="utf-8") as file:
-        for line in file:
-            if line.startswith("# ---- "):
-                found.append((line[len("# ---- "):].strip(), []))
-            elif re.match(r"\w+:", line):
-                found[-1][1].append(line.split(":")[0])
-    return found
+    parts = re.split(r"^# ---- (.*)\n", read("crates.txt"), flags=re.M)
+    return [(heading.strip(), re.findall(r"^(\w+):", body, re.M)) for heading, body in zip(parts[1::2], parts[2::2])]
 
 
 def what_it_is(crate):

@@ -9,22 +9,18 @@ from runner.groups import house
 from runner.trial import ROOT, read
 
 
-def main(words):
-    """Prints what is found, and how many of each kind; with --shrink, takes away from the list of exceptions what holds no more."""
-    if words not in ([], ["--shrink"]):
-        return 2
+def main(is_shrinking):
+    """Prints what is found, and how many of each kind; or takes away from the list of exceptions what holds no more."""
     are = house.found()
-    if words:
-        gone = house.without(house.listed(), are)
-        kept = []
-        for line in read(house.EXCEPTIONS).splitlines():
-            if line in gone:
-                gone.remove(line)
-            else:
-                kept.append(line)
-        Path(ROOT, house.EXCEPTIONS).write_text("\n".join(kept) + "\n", encoding="utf-8")
-        return 0
-    print("\n".join(are))
-    kinds = [line.split()[0] for line in are]
-    print(", ".join(f"{kinds.count(kind)} {kind}" for kind in sorted(set(kinds))), file=sys.stderr)
-    return 0
+    if not is_shrinking:
+        kinds = [line.split()[0] for line in are]
+        print("\n".join(are))
+        print(", ".join(f"{kinds.count(kind)} {kind}" for kind in sorted(set(kinds))), file=sys.stderr)
+        return
+    gone, kept = house.without(house.listed(), are), []
+    for line in read(house.EXCEPTIONS).splitlines():
+        if line in gone:
+            gone.remove(line)
+        else:
+            kept.append(line)
+    Path(ROOT, house.EXCEPTIONS).write_text("\n".join(kept) + "\n", encoding="utf-8")

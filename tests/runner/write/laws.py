@@ -5,6 +5,7 @@ A law is a function `law_*` that does nothing: its contract is what is proved, a
 import collections
 import os
 import re
+from pathlib import Path
 
 from runner.trial import ROOT, read
 from runner.write import crates
@@ -15,9 +16,7 @@ CONTRACT = re.compile(r"((?:^///[^\n]*\n)*)^pub fn (law_\w+)\(\)\n(.*?)^\{", re.
 
 def sources(crate):
     """The files of a crate's code."""
-    for folder, below, names in os.walk(os.path.join(ROOT, "crates", crate, "src")):
-        below.sort()
-        yield from (os.path.relpath(os.path.join(folder, name), ROOT) for name in sorted(names) if name.endswith(".rt"))
+    return [os.path.relpath(path, ROOT) for path in sorted(Path(ROOT, "crates", crate, "src").rglob("*.rt"))]
 
 
 def cited(clause):

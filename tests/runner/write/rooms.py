@@ -1,6 +1,7 @@
 """The rooms of tools/vechaqir: what each is, and which imports which, as docs/ARCHITECTURE.md draws it."""
 import ast
 import os
+from pathlib import Path
 
 from runner.trial import ROOT, read
 from runner.write import lists
@@ -11,13 +12,9 @@ PACKAGE = "tools/vechaqir"
 def modules():
     """The modules of each room, by the room's name; a module beside the rooms is one by itself."""
     found = {}
-    for folder, below, names in os.walk(os.path.join(ROOT, PACKAGE)):
-        below.sort()
-        inside = os.path.relpath(folder, os.path.join(ROOT, PACKAGE))
-        for name in sorted(names):
-            if name.endswith(".py"):
-                room = name[:-3] if inside == "." else inside.split(os.sep)[0]
-                found.setdefault(room, []).append(os.path.normpath(os.path.join(PACKAGE, inside, name)))
+    for path in sorted(Path(ROOT, PACKAGE).rglob("*.py")):
+        inside = path.relative_to(Path(ROOT, PACKAGE)).with_suffix("").parts
+        found.setdefault(inside[0], []).append(str(path.relative_to(ROOT)))
     return found
 
 

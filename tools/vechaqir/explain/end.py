@@ -2,7 +2,7 @@
 from typing import Dict, List, NamedTuple, Optional
 
 from ..language.matching import View
-from ..language.network import Channel, Network
+from ..language.network import Channel, Network, circle
 from ..machine.untimed import Running
 from . import pages
 from .base import counted, few
@@ -79,25 +79,17 @@ def state_of(other: str, message: Message, stop: Stop) -> str:
     return f"itself waits {told.text[len('waits '):]} `{told.stream}`{detached}"
 
 
-def circle(network: Network, waiting: Dict[str, Message]) -> List[str]:
-    """The labels of instances that wait for each other in a circle, in its order; none where there is no circle."""
-    for first in waiting:
-        way: List[str] = []
-        label: Optional[str] = first
-        while label in waiting and label not in way and waiting[label].text != "bad token on":
-            way.append(label)
-            channel = network.stream(waiting[label].stream)
-            label = other_end(waiting[label], channel) if channel else None
-        if label in way:
-            return way[way.index(label):]
-    return []
+def waited_for(network: Network, message: Message) -> Optional[str]:
+    """The instance that could end the wait of another one, if that waits at a stream."""
+    channel = network.stream(message.stream)
+    return other_end(message, channel) if channel and message.text != "bad token on" else None
 
 
 def stopped(stop: Stop, depths: Optional[List[str]] = None) -> List[str]:
     """The lines below the messages of a run that has stopped; `depths` says which depths end it, if there are some."""
     said = [waits_for(it, stop) for it in stop.messages]
     lines = [f"      = {it}" for it in said[:MOST]] + [f"      = .. and {len(said) - MOST} more wait"] * (len(said) > MOST)
-    way = circle(stop.network, stop.waiting)
+    way = circle({label: waited_for(stop.network, it) for label, it in stop.waiting.items()})
     if way:
         lines.append(f"      = these wait for each other in a circle: {' -> '.join(way + way[:1])}")
     lines.append(f"      = why: {reason(stop, way)}")

@@ -4,6 +4,7 @@ import re
 from typing import Dict, List, Optional, Tuple
 
 from ..language import kinds, scopes, source
+from ..language.expressions import evaluated
 from ..language.matching import SORTS, View, matches
 from ..language.scopes import Name
 from .base import Case, Why, few, listed
@@ -216,7 +217,7 @@ def divisor(case: Case) -> Why:
     """A divisor that is no constant expression, or is 0."""
     view = case.view
     words = view.words[case.at + 1:operand_end(view, case.at + 1)]
-    value = kinds.evaluated(words, view.source.values)
+    value = evaluated(words, view.source.values)
     if value and value[0] == 0:
         return Why([f"the divisor `{source.joined_words(words)}` is 0"], "write another constant", reason="a division by 0 has no value")
     names: Dict[str, Name] = scopes.visible(view, case.at)

@@ -2,6 +2,7 @@
 from typing import Dict, List, NamedTuple, Optional, Tuple
 
 from ..language import kinds
+from ..language.expressions import evaluated
 from ..language.matching import matches
 from ..language.network import Instance, elements, network
 from ..language.syntax import Argument, Invoke, Parameter, Task
@@ -266,5 +267,5 @@ def of_program(case: Case, most: str) -> Why:
 def constant_at(case: Case) -> Optional[int]:
     """The value of the constant that begins at the place."""
     view, at = case.view, case.at
-    value = kinds.evaluated(view.words[at:view.close.get(at, at) + 1], view.source.values)
+    value = evaluated(view.words[at:view.close.get(at, at) + 1], view.source.values)
     return value[0] if value else None

@@ -2,6 +2,7 @@
 import functools
 import os
 import re
+from pathlib import Path
 from typing import Dict, List, NamedTuple, Optional
 
 ROOT = os.path.dirname(os.path.dirname(os.path.dirname(os.path.dirname(os.path.abspath(__file__)))))
@@ -34,8 +35,7 @@ def porting() -> str:
 def version() -> str:
     """The version of the program, from the file VERSION; the empty text if there is none."""
     try:
-        with open(os.path.join(ROOT, "VERSION"), encoding="utf-8") as file:
-            return file.read(100).strip()
+        return Path(ROOT, "VERSION").read_text(encoding="utf-8").strip()
     except OSError:
         return ""
 
@@ -61,8 +61,7 @@ class Row(NamedTuple):
 def page(name: str) -> str:
     """A page's text; the empty one where it is not there, as in a folder that has the tools alone."""
     try:
-        with open(os.path.join(ROOT, "docs", name), encoding="utf-8") as file:
-            return file.read()
+        return Path(ROOT, "docs", name).read_text(encoding="utf-8")
     except OSError:
         return ""
 

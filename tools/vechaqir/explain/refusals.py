@@ -1,6 +1,7 @@
 """Why a source is refused at a place: by the constructs of the table and by the rules' causes."""
 from typing import Callable, Dict, List, Optional, Tuple
 
+from .. import tables
 from ..language.lexemes import Place
 from ..language.matching import View
 from ..language.source import Source
@@ -37,15 +38,7 @@ def lines_of(why: Why, code: str, ported: str = "F.cpp TOP") -> List[str]:
 
 
 # Of a Verilog text and a dump: what is wrong with the name or the place of the message, and what to write.
-OF_TEXTS: Dict[str, Tuple[str, str]] = {
-    "V1": ("from this place on the text is not of the subset that `cosim` reads", "write one operator in each `assign`, each port in the header with its direction, `<=` in `always @ ( posedge clk )`, and each number with its width: `8'd3`"),
-    "V2": ("`{}` is not declared, is declared twice, or is used as another sort of name than it is", "declare it once; set a `reg` in a block and a `wire` by `assign`; connect each port of an instance once"),
-    "V3": ("the widths at `{}` do not agree, or a literal does not fit its width", "give both sides one width, and each literal a width that holds it"),
-    "V4": ("`{}` has no driver or two, is an input that is driven, or is set in two blocks", "drive it at one place: a wire by one `assign` or one port, a register in one block"),
-    "V5": ("`{}` depends on itself within a cycle, or is a module that contains itself", "put a register into the loop"),
-    "V6": ("`{}` is not a port that a design has, or there is not exactly one top module", "give the one top module the ports `clk`, `rst` and `done`, a scalar as `v_X`, and all five ports of a memory `m_X_..`"),
-    "X1": ("from this place on the text is not a dump in the spelling of `cosim --vcd`", "read a dump that `{command} cosim F.v --vcd` writes"),
-}
+OF_TEXTS = {code: (what, instead) for code, what, instead in tables.rows("explain/texts.rows")}
 
 
 def general(code: str, name: str = "") -> List[str]:

@@ -1,14 +1,16 @@
-"""What `tapa plan` prints (docs/COMMAND.md, "The lines of a plan"), read into names and numbers; and the call that prints it."""
+"""What `tapa plan` prints (docs/COMMAND.md, "The lines of a plan"), read into names and numbers; the call that prints it, and the program that is called."""
 from __future__ import annotations
 
+import os
 import re
+import stat
 from dataclasses import dataclass, field
-from typing import Dict, List
+from typing import Dict, List, Optional
 
 from . import files
 from .device import Amounts, SlotPlace
 from .faults import Fault, Told
-from .program import Outcome, Program
+from .program import Outcome, Program, find
 
 # Where the program reads a device file that it is given on standard input.
 GIVEN = "/dev/stdin"
@@ -62,6 +64,19 @@ def ask(program: Program, source: str, top: str, device: str, mode: str = "fit")
     if outcome.status != 0:
         raise Refused(outcome, source, top)
     return parse(outcome.out.decode())
+
+
+def program_for(source: str, top: str, device: Optional[str]) -> Program:
+    """The program. Refused with its own words where it refuses a file; Fault where a file is a pipe, which can be read but once, and is needed for
+    several calls, or where there is no program."""
+    for path in [source] + ([device] if device else []):
+        if os.path.exists(path) and not stat.S_ISREG(os.stat(path).st_mode):
+            raise Fault(f"{path} is no regular file, and it is read several times")
+    called = find()
+    answer = called.call(["plan", source, top, device]) if device else None
+    if answer and answer.status not in (0, 4):
+        raise Refused(answer, source, top)
+    return called
 
 
 _NUMBER = r"([0-9]{1,20})"

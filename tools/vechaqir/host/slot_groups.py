@@ -1,6 +1,8 @@
 """The groups of a program's instances: two that reach each other along streams are one group, which a plan keeps in one slot."""
 from __future__ import annotations
 
+import bisect
+import itertools
 import re
 from collections import Counter
 from typing import Any, Dict, List, NamedTuple, Sequence, Set, Tuple
@@ -74,13 +76,8 @@ def by_structure(found: Sequence[List[str]], joined: Sequence[Link]) -> List[Lis
 
 def _ranked(keys: Sequence[Any]) -> List[int]:
     """The place of each key among all that differ."""
-    found: List[int] = [0] * len(keys)
-    rank, before = -1, None
-    for at in sorted(range(len(keys)), key=keys.__getitem__):
-        rank += keys[at] != before
-        before = keys[at]
-        found[at] = rank
-    return found
+    distinct = [key for key, _ in itertools.groupby(sorted(keys))]
+    return [bisect.bisect_left(distinct, key) for key in keys]
 
 
 def _reached(start: str, after: Dict[str, List[str]]) -> Set[str]:

@@ -121,6 +121,19 @@ class Flattening:
                 channel.reader = channel.reader or instance.label
 
 
+def circle(following: Dict[str, Optional[str]]) -> List[str]:
+    """Labels each of which is followed by the next one, and the last one by the first; none if there is no such circle."""
+    for first in following:
+        way: List[str] = []
+        label: Optional[str] = first
+        while label in following and label not in way:
+            way.append(label)
+            label = following[label]
+        if label in way:
+            return way[way.index(label):]
+    return []
+
+
 def network(source: Source, top: str) -> Network:
     """The flat network of a top task. Raises NoTask."""
     if top not in source.tasks:

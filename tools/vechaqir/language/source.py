@@ -2,9 +2,11 @@
 
 It takes what it recognises and leaves out the rest, so that tools can also speak of sources that the program refuses. What is right is what `tapa` says.
 """
+from pathlib import Path
 from typing import List, Optional, Sequence, Tuple
 
 from . import kinds, lexemes
+from .expressions import evaluated
 from .kinds import Kind
 from .lexemes import Lexeme, Lines, Place
 from .network import Channel, Instance, Network, network
@@ -63,7 +65,7 @@ class Reader:
             return None
         kind, name = found
         end = next((it for it in range(name, len(self.words)) if self.text(it) == ";"), len(self.words))
-        value = kinds.evaluated(self.words[name + 2:end], self.source.values)
+        value = evaluated(self.words[name + 2:end], self.source.values)
         if value and self.text(name) not in self.source.values:
             self.source.values[self.text(name)] = kinds.converted(value[0], kind), kind
             number = self.decimal(name + 2)
@@ -143,7 +145,7 @@ class Reader:
     # ---- upper-level tasks
 
     def number(self, begin: int, end: int) -> Optional[int]:
-        value = kinds.evaluated(self.words[begin:end], self.source.values)
+        value = evaluated(self.words[begin:end], self.source.values)
         return value[0] if value else None
 
     def count(self, begin: int, end: int) -> Optional[int]:
@@ -226,5 +228,4 @@ def parse(text: bytes, path: Optional[str] = None) -> Source:
 
 def read(path: str) -> Source:
     """What the source of a file declares; OSError where it can't be read."""
-    with open(path, "rb") as file:
-        return parse(file.read(), path)
+    return parse(Path(path).read_bytes(), path)

@@ -5,12 +5,12 @@ Each state is a place at which the task makes a tick. States are made in the ord
 from __future__ import annotations
 
 from dataclasses import dataclass, field
-from typing import Dict, List, Optional, Sequence, Tuple
+from typing import List, Mapping, Optional, Sequence, Tuple
 
-from ..language.kinds import Kind, promoted
+from ..language.expressions import Entity, Words
+from ..language.kinds import Kind, Value, promoted
 from ..language.lexemes import Lexeme
-from .values import Node, applied, converted, number, operations
-from .words import Entity, Words
+from ..language.values import Node, applied, converted, number, operations
 
 ASSIGNMENTS = ("=", "+=", "-=", "*=", "/=", "%=", "&=", "|=", "^=", "<<=", ">>=")
 
@@ -52,7 +52,7 @@ Exits = List[Tuple[State, str]]
 class Actions(Words):
     """The states of a leaf task, and the variables and arrays that it declares, in order."""
 
-    def __init__(self, words: Sequence[Lexeme], position: int, constants: Dict[str, Entity]) -> None:
+    def __init__(self, words: Sequence[Lexeme], position: int, constants: Mapping[str, Value]) -> None:
         super().__init__(words, position, constants)
         self.states: List[State] = []
         self.variables: List[Named] = []

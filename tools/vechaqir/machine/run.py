@@ -11,9 +11,9 @@ from ..host.dump import Dump, Value
 from ..language.kinds import Kind
 from ..language.network import Instance, Network
 from ..language.source import Source
+from ..language.values import Evaluator, evaluator
 from .code import State
 from .states import MEMORY, READS, WRITES, Machine, machines
-from .values import Evaluator, evaluator
 
 TICK, WAITS, ENDED, BAD = "tick", "waits", "ended", "bad token"
 
@@ -87,18 +87,18 @@ class Follower:
         elif state.act in WRITES:
             stream = self.streams[state.subject or 0]
             self.given = stream.mark if state.act == "close" else self._value(self.at)
-            self.status = TICK if values[stream.rdy] else WAITS
+            self.status = TICK if values[stream.nets["rdy"]] else WAITS
         elif state.act in MEMORY:
             memory = self.memories[state.subject or 0]
-            self.status = TICK if values[memory.ack] else WAITS
-            self.given = values[memory.rdata] or 0
+            self.status = TICK if values[memory.nets["ack"]] else WAITS
+            self.given = values[memory.nets["rdata"]] or 0
 
     def _look_at_token(self, state: State, values: Mapping[str, Value]) -> None:
         stream = self.streams[state.subject or 0]
-        if not values[stream.has]:
+        if not values[stream.nets["has"]]:
             self.status = WAITS
             return
-        token = values[stream.dout] or 0
+        token = values[stream.nets["dout"]] or 0
         is_end = token >= stream.mark
         self.given = int(is_end) if state.act == "eot" else token
         if state.act != "eot" and is_end != (state.act == "open"):
@@ -154,11 +154,11 @@ class Follower:
         for number, stream in enumerate(self.streams):
             is_here = acting == number and state.act in (*WRITES, "read", "open")
             if stream.is_output:
-                if values[stream.wr] != (is_here and state.act in WRITES):
+                if values[stream.nets["wr"]] != (is_here and state.act in WRITES):
                     return f"whether it writes {stream.name}"
-                if is_here and values[stream.din] not in (self.given, None):
+                if is_here and values[stream.nets["din"]] not in (self.given, None):
                     return f"what it writes to {stream.name}"
-            elif values[stream.take] != (is_here and self.status == TICK):
+            elif values[stream.nets["take"]] != (is_here and self.status == TICK):
                 return f"whether it takes a token of {stream.name}"
         return self._differs_at_memory(state, values)
 
@@ -166,11 +166,11 @@ class Follower:
         if state.act not in MEMORY or self.status == ENDED:
             return None
         memory = self.memories[state.subject or 0]
-        if values[memory.addr] != self.index():
+        if values[memory.nets["addr"]] != self.index():
             return f"the address in {memory.name}"
-        if values[memory.we] != (state.act == "store"):
+        if values[memory.nets["we"]] != (state.act == "store"):
             return f"whether it stores to {memory.name}"
-        return f"what it stores to {memory.name}" if state.act == "store" and values[memory.wdata] != self._value(self.at) else None
+        return f"what it stores to {memory.name}" if state.act == "store" and values[memory.nets["wdata"]] != self._value(self.at) else None
 
 
 class Wires:
@@ -190,27 +190,17 @@ class Wires:
 
 
 class _Stream:
-    def __init__(self, wires: Wires, name: str, kind: Kind, is_output: bool) -> None:
-        self.name, self.is_output = name, is_output
-        # the highest bit of a token says that it is the end of a transaction
-        self.mark = 1 << kind.bits
-        ends = ("wr", "rdy", "din") if is_output else ("has", "take", "dout")
-        for end in ends:
-            setattr(self, end, wires.net(f"s_{name}_{end}"))
+    """A stream at a port: the nets of the port's end by their names, and the highest bit of a token, which says that it is the end of a transaction."""
 
-    wr: str
-    rdy: str
-    din: str
-    has: str
-    take: str
-    dout: str
+    def __init__(self, wires: Wires, name: str, kind: Kind, is_output: bool) -> None:
+        self.name, self.is_output, self.mark = name, is_output, 1 << kind.bits
+        self.nets = {end: wires.net(f"s_{name}_{end}") for end in (("wr", "rdy", "din") if is_output else ("has", "take", "dout"))}
 
 
 class _Memory:
     def __init__(self, wires: Wires, name: str) -> None:
         self.name = name
-        self.ack, self.rdata, self.addr = wires.net(f"m_{name}_ack"), wires.net(f"m_{name}_rdata"), wires.net(f"m_{name}_addr")
-        self.we, self.wdata = wires.net(f"m_{name}_we"), wires.net(f"m_{name}_wdata")
+        self.nets = {end: wires.net(f"m_{name}_{end}") for end in ("ack", "rdata", "addr", "we", "wdata")}
 
 
 class Run:

@@ -1,19 +1,18 @@
 """From a leaf task's text to the states of its machine: blocks, branches and loops around its actions (docs/LANGUAGE.md, "Ticks")."""
 from __future__ import annotations
 
-from typing import Dict, List, Optional, Sequence, Tuple
+from typing import List, Mapping, Optional, Sequence, Tuple
 
-from ..language.kinds import BOOL
+from ..language.kinds import BOOL, Value
 from ..language.lexemes import Lexeme
+from ..language.values import Node, converted, number, prefixed
 from .code import Actions, Exits, State
-from .values import Node, converted, number, prefixed
-from .words import Entity
 
 
 class Code(Actions):
     """The states of a leaf task's statements."""
 
-    def __init__(self, words: Sequence[Lexeme], position: int, constants: Dict[str, Entity]) -> None:
+    def __init__(self, words: Sequence[Lexeme], position: int, constants: Mapping[str, Value]) -> None:
         super().__init__(words, position, constants)
         # of each open loop what leads behind it, and what leads to its step
         self.loops: List[Tuple[Exits, Exits]] = []

@@ -7,13 +7,13 @@ from __future__ import annotations
 from dataclasses import dataclass, field
 from typing import Dict, List
 
+from ..language.expressions import Entity, NotUnderstood
 from ..language.kinds import Kind
 from ..language.lexemes import Place
 from ..language.source import Source, Task
+from ..language.values import UNSIGNED
 from .code import State
 from .statements import Code
-from .values import UNSIGNED
-from .words import Entity, NotUnderstood
 
 WRITES = ("write", "close")
 READS = ("read", "peek", "eot", "open")
@@ -91,8 +91,7 @@ def machine(source: Source, task: Task) -> Machine:
 
 def _read(source: Source, task: Task) -> Machine:
     found = Machine(task, source)
-    constants = {name: Entity("constant", kind, value) for name, (value, kind) in source.values.items()}
-    code = Code(source.lexemes, source.index_at(task.body[0]) + 1, constants)
+    code = Code(source.lexemes, source.index_at(task.body[0]) + 1, source.values)
     code.scopes.append({})
     for parameter in task.parameters:
         _declare(code, found, parameter.name, parameter.direction, parameter.kind, source.lines.offset(parameter.place))

@@ -11,11 +11,13 @@ import subprocess
 from pathlib import Path
 from typing import Dict, List, Sequence, Tuple
 
+from .. import tables
 from ..host.faults import Fault
 
 PORT = re.compile(r"(input|output)\s+(?:\[\s*(\d+)\s*:\s*0\s*\]\s*)?(\w+)")
 TOOLS = {"yosys": "yosys", "nextpnr-ice40": "nextpnr-ice40"}
 SECONDS = 1_800
+TEXTS = tables.texts("measure/board.texts")
 XILINX = "synth_xilinx -family xc7 -flatten -noiopad -noclkbuf"
 # How many LUTs a cell of distributed RAM stands for.
 LUT_RAM = {"RAM32M": 4, "RAM64M": 4, "RAM32X1D": 2, "RAM64X1D": 2, "RAM128X1D": 4}
@@ -48,17 +50,15 @@ def ports_of(text: str, top: str) -> List[Port]:
     return [(way, int(most or 0) + 1, name) for way, most, name in ports]
 
 
-def folds(bits: int) -> Tuple[List[str], int]:
+def folds(bits: int) -> Tuple[str, int]:
     """The lines that fold so many bits, in `all_0`, into one, four at a time with a register after each; and the number of the last level."""
-    lines: List[str] = []
-    level = 0
+    text, level = "", 0
     while bits > 1:
-        fewer = (bits + 3) // 4
-        lines.append(f"  reg [{fewer - 1}:0] all_{level + 1};")
-        sums = [f"    all_{level + 1}[{at}] <= ^all_{level}[{min(4 * at + 3, bits - 1)}:{4 * at}];" for at in range(fewer)]
-        lines += ["  always @(posedge clk) begin", *sums, "  end"]
-        bits, level = fewer, level + 1
-    return lines, level
+        fewer, before, level = (bits + 3) // 4, level, level + 1
+        sums = [{"level": level, "before": before, "at": at, "most": min(4 * at + 3, bits - 1), "least": 4 * at} for at in range(fewer)]
+        text += tables.filled(TEXTS["fold"], high=fewer - 1, level=level, sums=tables.repeated(TEXTS["sum"], sums))
+        bits = fewer
+    return text, level
 
 
 def linked(ports: Sequence[Tuple[int, str]], net: str) -> Tuple[List[str], int]:
@@ -77,21 +77,7 @@ def wrapper(text: str, top: str, name: str = "board") -> str:
     shown, many = linked([(bits, port) for way, bits, port in ports if way == "output"], "shown")
     links += shown + ([".clk(clk)"] if ("input", 1, "clk") in ports else [])
     lines, last = folds(many)
-    return "\n".join([
-        f"module {name} (input clk, input serial, output folded);",
-        f"  reg [{max(wide, 1) - 1}:0] given;",
-        f"  wire [{max(many, 1) - 1}:0] shown;",
-        f"  reg [{max(many, 1) - 1}:0] all_0;",
-        "  always @(posedge clk) begin",
-        "    given <= {given, serial};",
-        "    all_0 <= shown;",
-        "  end",
-        f"  {top} circuit ({', '.join(links)});",
-        *lines,
-        f"  assign folded = all_{last}[0];",
-        "endmodule",
-        "",
-    ])
+    return tables.filled(TEXTS["wrapper"], name=name, top=top, given=max(wide, 1) - 1, shown=max(many, 1) - 1, links=", ".join(links), folds=lines, last=last)
 
 
 def call(words: Sequence[str], folder: str) -> str:

@@ -2,9 +2,11 @@
 from __future__ import annotations
 
 import bisect
+from collections import Counter
 from dataclasses import dataclass, field
 from typing import Dict, List, NamedTuple, Optional, Tuple
 
+from ..language import network
 from ..machine.run import WAITS
 from .profile import CODES, Profile, TaskProfile, Wait
 
@@ -63,13 +65,13 @@ class Bound:
     """What the critical way is made of: cycles by instance, by line, by memory and by stream, and of each stream how often a place or a token of it was waited for.
     `turns` has of each line how often the way passes the state at it that it passes most."""
 
-    tasks: Dict[str, int] = field(default_factory=dict)
-    lines: Dict[int, int] = field(default_factory=dict)
-    memories: Dict[str, int] = field(default_factory=dict)
-    streams: Dict[str, int] = field(default_factory=dict)
-    rooms: Dict[str, int] = field(default_factory=dict)
-    tokens: Dict[str, int] = field(default_factory=dict)
-    turns: Dict[int, int] = field(default_factory=dict)
+    tasks: "Counter[str]" = field(default_factory=Counter)
+    lines: "Counter[int]" = field(default_factory=Counter)
+    memories: "Counter[str]" = field(default_factory=Counter)
+    streams: "Counter[str]" = field(default_factory=Counter)
+    rooms: "Counter[str]" = field(default_factory=Counter)
+    tokens: "Counter[str]" = field(default_factory=Counter)
+    turns: "Counter[int]" = field(default_factory=Counter)
 
     @property
     def cycles(self) -> int:
@@ -79,27 +81,21 @@ class Bound:
 def bound(way: List[Step]) -> Bound:
     """The sums of a critical way, each with the greatest part first."""
     found = Bound()
-    passed: Dict[Tuple[str, int], int] = {}
+    passed: "Counter[Tuple[str, int]]" = Counter()
     for step in way:
-        by_name = {"tick": found.tasks, "memory": found.memories}.get(step.what, found.streams)
-        by_name[step.name] = by_name.get(step.name, 0) + step.cycles
+        {"tick": found.tasks, "memory": found.memories}.get(step.what, found.streams)[step.name] += step.cycles
         if step.what == "tick":
-            found.lines[step.line] = found.lines.get(step.line, 0) + 1
-            times_here = passed[step.name, step.state] = passed.get((step.name, step.state), 0) + 1
-            found.turns[step.line] = max(found.turns.get(step.line, 0), times_here)
+            found.lines[step.line] += 1
+            passed[step.name, step.state] += 1
+            found.turns[step.line] = max(found.turns[step.line], passed[step.name, step.state])
         elif step.what != "memory":
-            times = found.rooms if step.what == "room" else found.tokens
-            times[step.name] = times.get(step.name, 0) + 1
+            (found.rooms if step.what == "room" else found.tokens)[step.name] += 1
     for part in (found.tasks, found.memories, found.streams, found.rooms, found.tokens):
-        _greatest_first(part)
-    found.lines = dict(sorted(found.lines.items(), key=lambda it: -it[1]))
+        greatest = part.most_common()
+        part.clear()
+        part.update(dict(greatest))
+    found.lines = Counter(dict(found.lines.most_common()))
     return found
-
-
-def _greatest_first(part: Dict[str, int]) -> None:
-    for name, number in sorted(part.items(), key=lambda it: -it[1]):
-        del part[name]
-        part[name] = number
 
 
 # ---- a run that stands still
@@ -119,12 +115,4 @@ def waiting_for(found: Profile) -> Dict[str, Tuple[Wait, Optional[str]]]:
 
 def circle(waits: Dict[str, Tuple[Wait, Optional[str]]]) -> List[str]:
     """Instances each of which waits for the next, and the last one for the first; none where there is no such circle."""
-    for start in waits:
-        way: List[str] = []
-        label: Optional[str] = start
-        while label in waits and label not in way:
-            way.append(label)
-            label = waits[label][1]
-        if label in way:
-            return way[way.index(label):]
-    return []
+    return network.circle({label: other for label, (_, other) in waits.items()})

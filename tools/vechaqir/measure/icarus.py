@@ -5,6 +5,7 @@ import re
 import subprocess
 from typing import Any, Dict, Iterator, List, Mapping, Optional, Sequence, Tuple
 
+from .. import tables
 from ..host.dump import Dump
 from ..host.faults import Fault
 
@@ -13,6 +14,9 @@ Port = Tuple[str, int, str]
 Groups = Mapping[str, Mapping[str, Any]]
 
 PORT = re.compile(r"(input|output)\s*(?:\[\s*(\d+)\s*:\s*0\s*\])?\s*([\w$]+)")
+TEXTS = tables.texts("measure/icarus.texts")
+# The places of the testbench that have a text for each memory.
+OF_MEMORIES = {"memories": "memory", "acks": "ack", "shown": "shown", "kept": "kept", "stores": "store"}
 WIRE = re.compile(r"^\s*wire\s*(?:\[\s*(\d+)\s*:\s*0\s*\])?\s*([\w$]+)\s*;", re.M)
 # What a testbench prints of a token, of a cell and at the end, and what Icarus Verilog prints by itself.
 SHOWN, END = re.compile(r"(stream [\w$]+) (\w+) ([0-9]+)|(memory [\w$]+) (\w+)"), re.compile(r"(?:done|running)(?: [0-9]+)?")
@@ -53,52 +57,24 @@ def _are_numbers(given: Any) -> bool:
     return isinstance(given, list) and all(isinstance(it, int) for it in given)
 
 
-def memory_lines(name: str, bits: int, cells: List[int], ready: List[int]) -> Iterator[str]:
-    """What stands around the top for a memory: its cells, what it answers, and the store of a cycle."""
-    size = max(1, len(cells))
-    yield f"reg m_{name}_ack; wire [63:0] m_{name}_addr; wire [{bits - 1}:0] m_{name}_wdata; wire m_{name}_we;"
-    yield f"reg [{bits - 1}:0] cells_{name} [0:{size - 1}]; reg [{bits - 1}:0] data_{name}; reg [63:0] place_{name}; reg stores_{name};"
-    yield f"wire [{bits - 1}:0] m_{name}_rdata = m_{name}_addr < 64'd{len(cells)} ? cells_{name}[m_{name}_addr] : {bits}'d0;"
-    yield f"reg ready_{name} [0:{max(1, len(ready))}];"
-    yield "initial begin"
-    yield from (f"  cells_{name}[{at}] = {bits}'d{cell % 2**bits};" for at, cell in enumerate(cells))
-    yield from (f"  ready_{name}[{at}] = 1'd{bit};" for at, bit in enumerate(ready))
-    yield "end"
-
-
-def bench(text: str, data: Groups, cycles: int, dump: Optional[str] = None) -> Iterator[str]:
+def bench(text: str, data: Groups, cycles: int, dump: Optional[str] = None) -> str:
+    """The testbench of a circuit on these data, for at most so many cycles."""
     name, ports, wires = top_of(text)
-    scalars = [(bits, port[2:]) for way, bits, port in ports if port.startswith("v_")]
-    memories = [(dict((port, bits) for _, bits, port in ports)[f"m_{port[2:-4]}_rdata"], port[2:-4]) for _, _, port in ports if port.endswith("_ack")]
-    streams = [wire[2:-4] for wire in wires if wire.startswith("s_") and wire.endswith("_din") and wires.get(wire[:-3] + "wr") == wires.get(wire[:-3] + "rdy") == 1]
+    bits_of = {port: bits for _, bits, port in ports}
     values, cells, waits = (data.get(group, {}) for group in ("scalars", "memories", "waits"))
-    yield "module bench;"
-    yield "reg clk; reg rst; wire done; integer cycle; integer at;"
-    yield from (f"wire [{bits - 1}:0] v_{label} = {bits}'d{int(values[label]) % 2**bits};" for bits, label in scalars)
-    for bits, label in memories:
-        yield from memory_lines(label, bits, cells[label], waits.get(label, []))
-    yield f"{name} top (" + ", ".join(f".{port}({port})" for _, _, port in ports) + ");"
-    if dump:
-        yield f'initial begin $dumpfile("{dump}"); $dumpvars(0, bench); end'
-    yield "initial begin clk = 0; cycle = 0; while (1) begin"
-    yield "  rst = cycle == 0;"
-    for _, label in memories:
-        yield f"  m_{label}_ack = cycle == 0 ? 1'd0 : cycle <= {len(waits.get(label, []))} ? ready_{label}[cycle - 1] : 1'd1;"
-    yield "  #4;"
-    for label in streams:
-        bits = wires[f"s_{label}_din"]
-        yield f'  if (cycle > 0 && top.s_{label}_wr === 1 && top.s_{label}_rdy === 1) $display("stream {label} %0d {bits}", top.s_{label}_din);'
-    yield f"  if (cycle > 0 && (done === 1 || cycle == {cycles})) begin"
-    for _, label in memories:
-        yield f'    for (at = 0; at < {len(cells[label])}; at = at + 1) $display("memory {label} %0d", cells_{label}[at]);'
-    yield '    if (done === 1) $display("done %0d", cycle); else $display("running %0d", cycle);'
-    yield "    $finish; end"
-    for _, label in memories:
-        yield f"  stores_{label} = m_{label}_ack && m_{label}_we === 1 && m_{label}_addr < 64'd{len(cells[label])}; place_{label} = m_{label}_addr; data_{label} = m_{label}_wdata;"
-    yield "  clk = 1; #1;"
-    yield from (f"  if (stores_{label}) cells_{label}[place_{label}] = data_{label};" for _, label in memories)
-    yield "  #4; clk = 0; #1; cycle = cycle + 1; end end"
-    yield "endmodule"
+    memories: List[Dict[str, object]] = []
+    for label in [port[2:-4] for port in bits_of if port.endswith("_ack")]:
+        bits, ready = bits_of[f"m_{label}_rdata"], waits.get(label, [])
+        first = [f"  cells_{label}[{at}] = {bits}'d{cell % 2**bits};\n" for at, cell in enumerate(cells[label])] + [f"  ready_{label}[{at}] = 1'd{bit};\n" for at, bit in enumerate(ready)]
+        memories.append({"name": label, "bits": bits, "high": bits - 1, "size": len(cells[label]), "last": max(1, len(cells[label])) - 1, "count": len(ready), "waits": max(1, len(ready)), "cells": "".join(first)})
+    streams = [wire[2:-4] for wire in wires if wire.startswith("s_") and wire.endswith("_din") and wires.get(wire[:-3] + "wr") == wires.get(wire[:-3] + "rdy") == 1]
+    return tables.filled(
+        TEXTS["bench"], name=name, cycles=cycles, ports=", ".join(f".{port}({port})" for _, _, port in ports),
+        scalars="".join(f"wire [{bits - 1}:0] {port} = {bits}'d{int(values[port[2:]]) % 2**bits};\n" for _, bits, port in ports if port.startswith("v_")),
+        dump=f'initial begin $dumpfile("{dump}"); $dumpvars(0, bench); end\n' if dump else "",
+        streams=tables.repeated(TEXTS["stream"], [{"name": label, "bits": wires[f"s_{label}_din"]} for label in streams]),
+        **{place: tables.repeated(TEXTS[part], memories) for place, part in OF_MEMORIES.items()},
+    )
 
 
 def token(number: str, bits: str) -> str:

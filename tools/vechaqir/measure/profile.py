@@ -5,8 +5,9 @@ Cycles count from 1, the first behind reset. In each of them a task makes a tick
 from __future__ import annotations
 
 from array import array
+from collections import Counter
 from dataclasses import dataclass, field
-from typing import Dict, NamedTuple, Tuple
+from typing import Dict, NamedTuple
 
 from ..language.network import Channel, Instance
 from ..machine.run import BAD, ENDED, TICK, WAITS, Follower, NotOfThisSource, Run
@@ -147,10 +148,7 @@ def _take(cycle: int, follower: Follower, task: TaskProfile, streams: Dict[str, 
 
 def _sum_up(task: TaskProfile) -> None:
     lines = [task.machine.place(it).line for it in task.machine.states]
-    counts: Dict[Tuple[int, int], int] = {}
-    for pair in zip(task.states, task.statuses):
-        counts[pair] = counts.get(pair, 0) + 1
-    for (state, status), count in counts.items():
+    for (state, status), count in Counter(zip(task.states, task.statuses)).items():
         cost = task.lines.setdefault(lines[state], LineCost()) if status != CODES[ENDED] else LineCost()
         if status == CODES[TICK]:
             task.ticks += count

@@ -3,14 +3,16 @@
 It is made for circuits of `tapa build`, whose ports and wires docs/CIRCUIT.md names, and for any simulator.
 """
 from dataclasses import dataclass
-from typing import Iterator, List, Sequence, Tuple
+from typing import List, Sequence, Tuple
 
+from .. import tables
 from ..host.data import Data
 from ..host.report import Eot, Report
 from ..language.network import Network
 
 # How memories answer: within the cycle, a cycle later as a block RAM, in random cycles with noise in the others, or by the ready lists of the data.
 WAITS = ("none", "late", "random", "data")
+TEXTS = tables.texts("measure/testbench.texts")
 
 
 @dataclass(frozen=True)
@@ -62,142 +64,48 @@ def made_of(network: Network, given: Data, report: Report, limit: int) -> Bench:
     return Bench(network.top, scalars, streams, memories, report.end == "done", limit)
 
 
+def part(which: str, **values: object) -> str:
+    """A part of the text, with these values."""
+    return tables.filled(TEXTS[which], **values)
+
+
 def vector(bits: int) -> str:
     return f"[{bits - 1}:0] " if bits > 1 else ""
 
 
-def filled(name: str, bits: int, numbers: Sequence[int], least: int = 1) -> Iterator[str]:
+def filled(name: str, bits: int, numbers: Sequence[int]) -> str:
     """A memory of the bench with these numbers."""
-    size = max(least, len(numbers))
-    yield f"  reg {vector(bits)}{name} [0:{size - 1}];"
-    if numbers:
-        yield "  initial begin"
-        yield from (f"    {name}[{at}] = {bits}'d{number};" for at, number in enumerate(numbers))
-        yield "  end"
+    cells = "".join(f"    {name}[{at}] = {bits}'d{number};\n" for at, number in enumerate(numbers))
+    return f"  reg {vector(bits)}{name} [0:{max(1, len(numbers)) - 1}];\n" + (f"  initial begin\n{cells}  end\n" if numbers else "")
 
 
-def answer_lines(memory: Memory, waits: str, seed: int) -> Iterator[str]:
-    """When a memory is ready, and what it shows."""
+def memory_text(memory: Memory, waits: str, seed: int) -> str:
+    """A memory around the circuit: its cells, when it is ready, and what it shows."""
     name, bits, size = memory.name, memory.bits, len(memory.first)
-    yield f"  wire is_in_{name} = m_{name}_addr < 64'd{size};"
     index = f"m_{name}_addr[{max(1, (max(1, size) - 1).bit_length()) - 1}:0]"
-    cell = f"is_in_{name} ? cells_{name}[{index}] : {bits}'d0" if size else f"{bits}'d0"
-    stored = f"m_{name}_ack && m_{name}_we && is_in_{name}"
-    store = f"if ({stored}) cells_{name}[{index}] <= m_{name}_wdata;" if size else ""
-    if waits == "late":
-        yield f"  reg {vector(bits)}read_{name}; reg [63:0] asked_{name}; reg fresh_{name};"
-        yield f"  assign m_{name}_rdata = is_in_{name} ? read_{name} : {bits}'d0;"
-        yield f"  assign m_{name}_ack = !rst && fresh_{name} && asked_{name} == m_{name}_addr;"
-        yield "  always @(posedge clk) begin"
-        yield f"    read_{name} <= {cell}; asked_{name} <= m_{name}_addr; fresh_{name} <= !rst && !(m_{name}_we && m_{name}_ack);"
-    elif waits == "random":
-        yield f"  reg [63:0] noise_{name};"
-        yield f"  initial noise_{name} = 64'd{seed};"
-        yield f"  assign m_{name}_ack = !rst && noise_{name}[7];"
-        yield f"  assign m_{name}_rdata = m_{name}_ack ? ({cell}) : noise_{name}[{bits - 1}:0];"
-        yield "  always @(posedge clk) begin"
-        yield f"    noise_{name} <= {{noise_{name}[62:0], noise_{name}[63] ^ noise_{name}[62] ^ noise_{name}[60] ^ noise_{name}[59]}};"
-    else:
-        ready = memory.ready if waits == "data" else []
-        yield from filled(f"ready_{name}", 1, ready) if ready else ()
-        is_ready = f" && (cycle > {len(ready)} || ready_{name}[cycle - 1])" if ready else ""
-        yield f"  assign m_{name}_ack = !rst{is_ready};"
-        yield f"  assign m_{name}_rdata = {cell};"
-        yield "  always @(posedge clk) begin"
-    yield f"    {store}"
-    yield "  end"
+    ready = memory.ready if waits == "data" else []
+    given = {
+        "name": name, "bits": bits, "size": size, "seed": seed, "vector": vector(bits), "high": bits - 1,
+        "cell": f"is_in_{name} ? cells_{name}[{index}] : {bits}'d0" if size else f"{bits}'d0",
+        "store": f"if (m_{name}_ack && m_{name}_we && is_in_{name}) cells_{name}[{index}] <= m_{name}_wdata;" if size else "",
+        "ready": filled(f"ready_{name}", 1, ready) if ready else "", "is_ready": f" && (cycle > {len(ready)} || ready_{name}[cycle - 1])" if ready else "",
+        "lists": filled(f"cells_{name}", bits, memory.first) + filled(f"last_{name}", bits, memory.last),
+    }
+    return part("memory", **given, answers=part(waits if waits in ("late", "random") else "listed", **given))
 
 
-def memory_lines(memory: Memory, waits: str, seed: int) -> Iterator[str]:
-    name, bits = memory.name, memory.bits
-    yield f"  wire m_{name}_ack; wire {vector(bits)}m_{name}_rdata; wire [63:0] m_{name}_addr; wire {vector(bits)}m_{name}_wdata; wire m_{name}_we;"
-    yield from filled(f"cells_{name}", bits, memory.first)
-    yield from filled(f"last_{name}", bits, memory.last)
-    yield from answer_lines(memory, waits, seed)
-
-
-def stream_check(stream: Stream) -> Iterator[str]:
+def stream_check(stream: Stream) -> str:
     """What is looked at of a stream in a cycle, before its end."""
-    name, count = stream.name, len(stream.tokens)
-    yield f"      if (!failed && top.s_{name}_wr === 1'b1 && top.s_{name}_rdy === 1'b1) begin"
-    if count:
-        yield f"        if (carried_{name} < {count} && top.s_{name}_din !== tokens_{name}[carried_{name}]) begin"
-        yield f'          failed = 1; $display("FAIL: cycle %0d: token %0d of stream {name} is %0d, and not %0d", cycle, carried_{name}, top.s_{name}_din, tokens_{name}[carried_{name}]);'
-        yield "        end"
-    if not stream.may_go_on:
-        yield f"        if (carried_{name} >= {count}) begin"
-        yield f'          failed = 1; $display("FAIL: cycle %0d: stream {name} carries more than its {count} tokens", cycle);'
-        yield "        end"
-    yield f"        carried_{name} = carried_{name} + 1;"
-    yield "      end"
+    checks = ["token"] * bool(stream.tokens) + ["more"] * (not stream.may_go_on)
+    return part("stream", name=stream.name, checks="".join(part(it, name=stream.name, count=len(stream.tokens)) for it in checks))
 
 
-def end_check(bench: Bench) -> Iterator[str]:
-    """What is looked at when the circuit is done, and again at the end of the simulation."""
-    for stream in bench.streams:
-        yield f"        if (!failed && carried_{stream.name} < {len(stream.tokens)}) begin"
-        yield f'          failed = 1; $display("FAIL: stream {stream.name} carried %0d of its {len(stream.tokens)} tokens", carried_{stream.name});'
-        yield "        end"
-    for memory in bench.memories:
-        if memory.first:
-            yield f"        for (at = 0; at < {len(memory.first)}; at = at + 1) if (!failed && cells_{memory.name}[at] !== last_{memory.name}[at]) begin"
-            yield f'          failed = 1; $display("FAIL: cell %0d of memory {memory.name} is %0d, and not %0d", at, cells_{memory.name}[at], last_{memory.name}[at]);'
-            yield "        end"
-
-
-def clocked_lines(bench: Bench) -> Iterator[str]:
-    """The block that looks at the circuit in each cycle, and ends the simulation eight cycles behind `done`, or at the first difference."""
-    yield "  always @(posedge clk) begin"
-    yield "    if (resets < 2) begin resets <= resets + 1; rst <= resets == 0; end"
-    yield "    else begin"
-    yield "      cycle <= cycle + 1;"
-    for stream in bench.streams:
-        yield from stream_check(stream)
-    yield "      if (done_at != 0 && done !== 1'b1 && !failed) begin"
-    yield '        failed = 1; $display("FAIL: cycle %0d: done goes back to 0", cycle);'
-    yield "      end"
-    yield "      if (done_at == 0 && done === 1'b1) done_at = cycle;"
-    if bench.is_done:
-        yield f"      if (!failed && done_at == 0 && cycle >= {bench.limit}) begin"
-        yield f'        failed = 1; $display("FAIL: not done after {bench.limit} cycles");'
-        yield "      end"
-        yield "      if (!failed && done_at != 0 && (cycle == done_at || cycle == done_at + 8)) begin"
-    else:
-        yield "      if (!failed && done_at != 0) begin"
-        yield '        failed = 1; $display("FAIL: done in cycle %0d, and the run stops", cycle);'
-        yield "      end"
-        yield f"      if (!failed && cycle == {bench.limit}) begin"
-    yield from end_check(bench)
+def clocked_text(bench: Bench) -> str:
+    """What is looked at in each cycle, when the circuit is done, and again at the end of the simulation: eight cycles behind `done`, or at the first difference."""
+    ends = [part("carried", name=it.name, count=len(it.tokens)) for it in bench.streams] + [part("cells", name=it.name, size=len(it.first)) for it in bench.memories if it.first]
     told = f"{len(bench.streams)} streams, {len(bench.memories)} memories"
-    ended = f'$display("PASS: {told}, done in cycle %0d", done_at)' if bench.is_done else f'$display("PASS: {told}, not done, as the run stops")'
-    last = "cycle == done_at + 8" if bench.is_done else f"cycle == {bench.limit}"
-    yield f"        if (!failed && {last}) begin {ended}; $finish; end"
-    yield "      end"
-    yield "      if (failed) $finish;"
-    yield "    end"
-    yield "  end"
-
-
-def lines(bench: Bench, waits: str) -> Iterator[str]:
-    """The lines of the testbench's module, which is called `bench`."""
-    yield "module bench;"
-    yield "  reg clk; reg rst; wire done; integer cycle; integer done_at; integer resets; integer at; reg failed;"
-    yield from (f"  wire {vector(bits)}v_{name} = {bits}'d{number};" for name, bits, number in bench.scalars)
-    for seed, memory in enumerate(bench.memories, 1):
-        yield from memory_lines(memory, waits, 0x9E3779B97F4A7C15 * seed % 2**64)
-    for stream in bench.streams:
-        yield f"  integer carried_{stream.name};"
-        yield from filled(f"tokens_{stream.name}", stream.bits, stream.tokens)
-    ports = ["clk", "rst", "done", *(f"v_{name}" for name, _, _ in bench.scalars)]
-    ports += [f"m_{memory.name}_{part}" for memory in bench.memories for part in ("addr", "wdata", "we", "ack", "rdata")]
-    yield f"  t_{bench.top} top (" + ", ".join(f".{port}({port})" for port in ports) + ");"
-    yield "  initial begin"
-    yield "    clk = 0; rst = 1; cycle = 1; done_at = 0; resets = 0; at = 0; failed = 0;"
-    yield from (f"    carried_{stream.name} = 0;" for stream in bench.streams)
-    yield "  end"
-    yield "  always #5 clk = !clk;"
-    yield from clocked_lines(bench)
-    yield "endmodule"
+    last = part("done" if bench.is_done else "stops", limit=bench.limit, ends="".join(ends), told=told)
+    return "".join(map(stream_check, bench.streams)) + part("back") + last + part("end")
 
 
 def limit_of(cycles: int, waits: str) -> int:
@@ -207,7 +115,14 @@ def limit_of(cycles: int, waits: str) -> int:
 
 
 def text_of(bench: Bench, waits: str, command: str) -> str:
-    """The text of a testbench; `command` is what made it, for its first line."""
-    head = [f"// A testbench of {bench.top}, by {command}", "// It prints PASS, or FAIL with the first difference beside what `tapa run` shows.", "`timescale 1ns / 1ps"]
-    return "\n".join([*head, *lines(bench, waits)]) + "\n"
-
+    """The text of a testbench, whose module is called `bench`; `command` is what made it, for its first line."""
+    ports = ["clk", "rst", "done", *(f"v_{name}" for name, _, _ in bench.scalars)]
+    ports += [f"m_{memory.name}_{end}" for memory in bench.memories for end in ("addr", "wdata", "we", "ack", "rdata")]
+    return "".join([
+        part("head", top=bench.top, command=command),
+        *(f"  wire {vector(bits)}v_{name} = {bits}'d{number};\n" for name, bits, number in bench.scalars),
+        *(memory_text(memory, waits, 0x9E3779B97F4A7C15 * seed % 2**64) for seed, memory in enumerate(bench.memories, 1)),
+        *(f"  integer carried_{it.name};\n" + filled(f"tokens_{it.name}", it.bits, it.tokens) for it in bench.streams),
+        part("begin", top=bench.top, ports=", ".join(f".{port}({port})" for port in ports), carried="".join(f"    carried_{it.name} = 0;\n" for it in bench.streams)),
+        clocked_text(bench),
+    ])

@@ -1,8 +1,12 @@
-"""What the page of tools/look.py shows, as one object of JSON: the network's picture, the profile with its cycles, the source, the plan and the reports."""
+"""The page of tools/look.py, one HTML file that needs nothing else: the files in the folder `look`, and what it shows as one object of JSON: the network's picture, the profile with
+its cycles, the source, the plan and the reports."""
 from __future__ import annotations
 
+import html
+import json
 import os
 from array import array
+from pathlib import Path
 from typing import Any, Dict, List, Optional, Sequence
 
 from ..host.device import RESOURCES, Device
@@ -23,6 +27,7 @@ from .folding import folded
 from .graph import lay_out
 from .report import Row, past_end, shortened
 
+FOLDER = os.path.join(os.path.dirname(os.path.abspath(__file__)), "look")
 # Histories are texts, a character a cycle: a number is its place in the alphabet, which leaves out what HTML or JSON would escape.
 ALPHABET = "".join(chr(code) for code in range(35, 127) if chr(code) not in "&<\\")
 # The most characters of all histories: a longer run has several cycles in one character.
@@ -144,3 +149,20 @@ def report_data(rows: List[Row], report: Report) -> Dict[str, Any]:
 
 def changes_data(changes: Optional[Sequence[Change]]) -> Optional[List[List[Any]]]:
     return None if changes is None else [[it.text, it.cycles] for it in changes]
+
+
+# ---- the page
+
+
+def page(data: Dict[str, Any]) -> str:
+    """The text of the page."""
+    made, style, code = (Path(FOLDER, f"page.{end}").read_text(encoding="utf-8") for end in ("html", "css", "js"))
+    parts = {"TITLE": html.escape(f"{data['top']}: {data['path']}"), "STYLE": style, "SCRIPT": code, "DATA": _script_safe(data)}
+    for name, text in parts.items():
+        made = made.replace(f"@{name}@", text, 1)
+    return made
+
+
+def _script_safe(data: Dict[str, Any]) -> str:
+    """The data as JSON in which no character can end the element that holds it."""
+    return json.dumps(data, separators=(",", ":"), ensure_ascii=True).replace("<", "\\u003c")

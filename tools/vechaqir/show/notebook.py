@@ -4,6 +4,7 @@ from __future__ import annotations
 import os
 import tempfile
 from html import escape
+from pathlib import Path
 from typing import Iterable, Iterator, List, Mapping, Optional, Sequence
 
 from ..host.dump import Dump
@@ -101,11 +102,9 @@ def simulated(result: Result) -> Optional[Profile]:
             circuit = call.program.call(["build", call.source, call.top]).out.decode()
         with tempfile.TemporaryDirectory(prefix="tapa-") as folder:
             text, dump = os.path.join(folder, "circuit.v"), os.path.join(folder, "dump.vcd")
-            with open(text, "w", encoding="utf-8") as file:
-                file.write(circuit)
+            Path(text).write_text(circuit, encoding="utf-8")
             said = call.program.call(["cosim", text, "/dev/stdin", "--vcd", "--cycles", str(CYCLES)], call.given)
-            with open(dump, "wb") as made:
-                made.write(said.out)
+            Path(dump).write_bytes(said.out)
             return profile(Run(read, source.network(read, call.top), Dump(dump))) if said.status in (0, 7) else None
     except (OSError, ValueError, LookupError):
         return None

@@ -57,13 +57,17 @@ def rows_of_nets(dump: Dump, names: Sequence[str], first: int, last: Optional[in
             continue
         at = cycle
         for name in names:
-            before = runs[name][-1] if runs[name] else None
-            if before and before.value == values[name]:
-                runs[name][-1] = before._replace(behind=cycle + 1)
-            else:
-                runs[name].append(Run(cycle, cycle + 1, values[name]))
+            _go_on(runs[name], cycle, values[name])
     texts = [it.replace("_", " ") for it in dump.texts]
     return [Row(_short(name, dump), dump.nets[name].width, runs[name], () if dump.nets[name].width else texts) for name in names], at
+
+
+def _go_on(runs: List[Run], cycle: int, value: Value) -> None:
+    """Adds a cycle to the last run, or begins another one."""
+    if runs and runs[-1].value == value:
+        runs[-1] = runs[-1]._replace(behind=cycle + 1)
+    else:
+        runs.append(Run(cycle, cycle + 1, value))
 
 
 def _short(name: str, dump: Dump) -> str:
@@ -91,11 +95,7 @@ def rows_of_fills(dump: Dump, first: int, last: Optional[int]) -> Tuple[List[Row
         for label in labels:
             if cycle >= first:
                 at = cycle
-                runs = rows[label].runs
-                if runs and runs[-1].value == fill[label]:
-                    runs[-1] = runs[-1]._replace(behind=cycle + 1)
-                else:
-                    runs.append(Run(cycle, cycle + 1, fill[label]))
+                _go_on(rows[label].runs, cycle, fill[label])
             wr, rdy, has, take = (values[net] or 0 for net in nets[label])
             fill[label] += ((wr & rdy) - (has & take)) if cycle > 0 else 0
     return list(rows.values()), at

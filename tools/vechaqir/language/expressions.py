@@ -1,10 +1,11 @@
-"""Expressions of a task's text: from lexemes to what they compute, by the names that are in scope (docs/LANGUAGE.md, "Grammar")."""
+"""Expressions of a source: from lexemes to what they compute, by the names that are in scope (docs/LANGUAGE.md, "Grammar"); and what a constant expression gives."""
 from __future__ import annotations
 
-from typing import Dict, List, NamedTuple, NoReturn, Sequence
+from typing import Dict, List, Mapping, NamedTuple, NoReturn, Optional, Sequence
 
-from ..language.kinds import BOOL, LEVELS, NoConstant, Kind, kind_at, literal
-from ..language.lexemes import Lexeme
+from . import kinds
+from .kinds import BOOL, LEVELS, Kind, Value, kind_at
+from .lexemes import Lexeme
 from .values import INDEX, Node, applied, chosen, converted, evaluator, number, prefixed
 
 
@@ -25,11 +26,11 @@ class Entity(NamedTuple):
 
 
 class Words:
-    """Lexemes from a place on, with the names in scope. `position` is the index of the next lexeme."""
+    """Lexemes from a place on, with the constants of the file and the names in scope. `position` is the index of the next lexeme."""
 
-    def __init__(self, words: Sequence[Lexeme], position: int, constants: Dict[str, Entity]) -> None:
-        self.words, self.position = words, position
-        self.scopes: List[Dict[str, Entity]] = [constants]
+    def __init__(self, words: Sequence[Lexeme], position: int, constants: Mapping[str, Value]) -> None:
+        self.words, self.position, self.constants = words, position, constants
+        self.scopes: List[Dict[str, Entity]] = []
 
     # ---- lexemes
 
@@ -69,7 +70,11 @@ class Words:
             if name in scope:
                 self.position += 1
                 return scope[name]
-        self.fail()
+        if name not in self.constants:
+            self.fail()
+        self.position += 1
+        value, kind = self.constants[name]
+        return Entity("constant", kind, value)
 
     def is_kind(self) -> bool:
         return kind_at(self.words, self.position) is not None
@@ -108,7 +113,7 @@ class Words:
         if self.text() in ("-", "+", "~", "!"):
             return prefixed(self.take(), self.unary())
         cast = kind_at(self.words, self.position + 1) if self.text() == "(" else None
-        if cast and self.words[cast[1]].text == ")":
+        if cast and self.text(cast[1] - self.position) == ")":
             self.position = cast[1] + 1
             return converted(self.unary(), cast[0])
         return self.primary()
@@ -137,12 +142,11 @@ class Words:
         return node
 
     def literal(self) -> Node:
-        try:
-            value = number(*literal(self.text()))
-        except NoConstant:
+        found = kinds.literal(self.text())
+        if found is None:
             self.fail()
         self.take()
-        return value
+        return number(*found)
 
     def named(self) -> Node:
         """A variable, a constant, a cell, a load, or a call of a stream's method."""
@@ -171,3 +175,14 @@ class Words:
         self.takes("nullptr")
         self.take(")")
         return Node(method, BOOL if method == "eot" else stream.kind, subject=stream.number, first=first, last=self.position - 1)
+
+
+def evaluated(words: Sequence[Lexeme], constants: Mapping[str, Value]) -> Optional[Value]:
+    """What a constant expression gives, or None where it is none."""
+    try:
+        reader = Words(words, 0, constants)
+        node = reader.expression() if words else reader.fail()
+        bits = node.number if node.operator == "number" else evaluator(node)([], [])
+        return (kinds.converted(bits, node.kind), node.kind) if reader.position == len(words) else None
+    except (ValueError, ArithmeticError, LookupError, RecursionError):
+        return None
