@@ -113,9 +113,9 @@ def differences(told: str, shown: str) -> Iterator[str]:
     """Where a dump of `tapa cosim --vcd` and one of the testbench differ: of each net of the top module the first cycle."""
     ours, theirs = Dump(told), Dump(shown)
     names = [name[len(ours.top) + 1:] for name in ours.nets if name.startswith(f"{ours.top}.") and "." not in name[len(ours.top) + 1:]]
-    other = next((name for name in names if not theirs.has(name)), None)
-    if other is not None:
-        raise Fault(f"{told} is no dump of this circuit: the circuit has no net {other}")
+    missed = next((name for name in names if not theirs.has(name)), None)
+    if missed is not None:
+        raise Fault(f"{told} is no dump of this circuit: the circuit has no net {missed}")
     found: Dict[str, str] = {}
     for (cycle, values), (_, others) in zip(ours.cycles(map(ours.name, names)), theirs.cycles(map(theirs.name, names))):
         for name in names:
